@@ -1,0 +1,31 @@
+-- The key order of entries.
+use Rattle.std.proofs.Common.{◌≡◌, refl}
+use Rattle.std.specs.Cmp.{IsTotalOrder}
+use Rattle.std.specs.Ordering.{nat_cmp, ordering_then, on}
+use Rattle.std.specs.Cmp.Lexicographic.{slice_cmp}
+use Rattle.std.specs.declared.cmp.Ordering.{Ordering}
+use Rattle.std.specs.declared.cmp.Ordering.TheVariants.{Less, Equal, Greater}
+use Rattle.std.proofs.lemmas.Cmp.{nat_cmp_total, on_total, then_total, nat_list_cmp_total}
+use Rattle.std.proofs.lemmas.Map.Lookups.{exact_unsigned, exact_bytes}
+use Rattle.crs_base.specs.Entry.{Key, key_cmp, Entry, key_of, entry_cmp}
+
+pub key_total : IsTotalOrder key_cmp
+key_total = then_total (on_total (λ k. k.date) nat_cmp_total) (then_total (on_total (λ k. k.text) nat_list_cmp_total) (on_total (λ k. k.arrival) nat_cmp_total))
+
+pub entry_total : {S : Type 0} → IsTotalOrder (entry_cmp {S = S})
+entry_total = on_total (λ e. record { date = e.date; text = e.text; arrival = e.arrival }) key_total
+
+-- both tie where the first and then the second does
+both_tie : (r s : Ordering) → ordering_then r s ≡ Equal → (r ≡ Equal) × (s ≡ Equal)
+both_tie Less s h = absurd (cc)
+both_tie Equal s h = (refl, h)
+both_tie Greater s h = absurd (cc)
+
+same_key : (j k : Key) → j.date ≡ k.date → j.text ≡ k.text → j.arrival ≡ k.arrival → j ≡ k
+same_key j k d t a = λ i. record { date = d i; text = t i; arrival = a i }
+
+pub key_exact : (j k : Key) → key_cmp j k ≡ Equal → j ≡ k
+key_exact j k h =
+    let first = both_tie (nat_cmp j.date k.date) (ordering_then (slice_cmp nat_cmp j.text k.text) (nat_cmp j.arrival k.arrival)) h in
+    let rest = both_tie (slice_cmp nat_cmp j.text k.text) (nat_cmp j.arrival k.arrival) first.1 in
+    same_key j k (exact_unsigned j.date k.date first.0) (exact_bytes j.text k.text rest.0) (exact_unsigned j.arrival k.arrival rest.1)

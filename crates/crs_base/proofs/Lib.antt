@@ -1,0 +1,7 @@
+pub mod Words
+pub mod Lists
+pub mod Inserted
+pub mod Distinct
+pub mod KeyOrder
+pub mod LineSteps
+pub mod TokenSteps

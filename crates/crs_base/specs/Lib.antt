@@ -1,0 +1,11 @@
+pub mod Words
+pub mod Symbols
+pub mod Entry
+pub mod Seen
+pub mod TextSet
+pub mod Refusals
+pub mod Lines
+pub mod SeenLines
+pub mod Tokens
+pub mod SeenTokens
+pub mod Numbers

@@ -1,0 +1,35 @@
+ghost use Rattle.std.specs.Prelude.{◌≡◌};
+ghost use Rattle.crs_base.specs.Entry.{entry_cmp};
+ghost use Rattle.crs_base.specs.Seen.{entry_of};
+
+use crate::sym_list::SymList;
+use crate::symbols::Sym;
+use crate::text::Text;
+use std::cmp::Ordering;
+
+/// An accepted event line of a log.
+#[derive(Drop)]
+pub struct Entry {
+    /// How many entries were accepted before it.
+    pub arrival: u32,
+    /// In ticks of the log's clock, from 0 to 2^40 - 1.
+    pub date: u64,
+    pub name: Sym,
+    pub args: SymList,
+    /// Of an attribute: its old and its new value.
+    pub change: Option<(Sym, Sym)>,
+    /// The canonical text of the name, the arguments and the change.
+    pub text: Text,
+}
+
+impl Entry {
+    /// The key order: by date, then by canonical text as bytes, then by arrival number.
+    pub fn key_cmp(&self, other: &Entry) -> Ordering
+        ensures { result ≡ entry_cmp (entry_of self.now) (entry_of other.now) }
+    {
+        self.date
+            .cmp(&other.date)
+            .then(self.text.bytes().cmp(other.text.bytes()))
+            .then(self.arrival.cmp(&other.arrival))
+    }
+}

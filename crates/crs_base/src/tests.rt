@@ -1,0 +1,78 @@
+use crate::{Entry, List, Sym, SymList, SymRefused, Symbols, Text, is_symbol};
+use std::alloc::{AllocError, Global};
+use std::cmp::Ordering;
+use std::test::Fail;
+
+fn entry(alloc: Global, arrival: u32, date: u64, text: &[u8]) -> Result<Entry, AllocError> {
+    Ok(Entry {
+        arrival,
+        date,
+        name: Sym(0),
+        args: SymList::from_slice(&[]),
+        change: None,
+        text: Text::new(alloc, text)?,
+    })
+}
+
+#[test]
+fn keys_compare_by_date_then_text_then_arrival(rt: HostRuntime) -> Result<(), Fail> {
+    let alloc = rt.alloc();
+    let first = entry(alloc, 7, 1, b"z")?;
+    let second = entry(alloc, 5, 2, b"a[10]")?;
+    let third = entry(alloc, 4, 2, b"a[9]")?;
+    let fourth = entry(alloc, 6, 2, b"a[9]")?;
+    assert!(rt; first.key_cmp(&second) == Ordering::Less);
+    assert!(rt; second.key_cmp(&third) == Ordering::Less);
+    assert!(rt; fourth.key_cmp(&third) == Ordering::Greater);
+    assert!(rt; third.key_cmp(&third) == Ordering::Equal);
+    Ok(())
+}
+
+#[test]
+fn symbols_are_numbered_once(rt: HostRuntime) -> Result<(), Fail> {
+    let mut symbols = Symbols::new(rt.alloc(), 2)?;
+    assert!(rt; symbols.intern(b"heater_on") == Ok(Sym(0)));
+    assert!(rt; symbols.intern(b"b1") == Ok(Sym(1)));
+    assert!(rt; symbols.intern(b"heater_on") == Ok(Sym(0)));
+    assert!(rt; symbols.intern(b"b2") == Err(SymRefused::Values { limit: 2 }));
+    assert!(rt; symbols.find(b"b1") == Some(Sym(1)));
+    assert!(rt; symbols.find(b"b2") == None);
+    assert!(rt; symbols.text(Sym(1)) == b"b1".as_slice());
+    assert!(rt; symbols.len() == 2);
+    assert!(rt; symbols.room() == 0);
+    Ok(())
+}
+
+#[test]
+fn a_symbol_has_up_to_64_symbol_bytes(rt: HostRuntime) -> Result<(), Fail> {
+    assert!(rt; is_symbol(b"A.b-9_"));
+    assert!(rt; is_symbol(&[b'x'; 64]));
+    assert!(rt; !is_symbol(&[b'x'; 65]));
+    assert!(rt; !is_symbol(b""));
+    assert!(rt; !is_symbol(b"a b"));
+    assert!(rt; !is_symbol(b"caf\xc3\xa9"));
+    Ok(())
+}
+
+#[test]
+fn lists_grow_and_shrink_at_the_end(rt: HostRuntime) -> Result<(), Fail> {
+    let mut list = List::new(rt.alloc());
+    assert!(rt; list.pop().is_none());
+    list.push(Sym(3))?;
+    list.push(Sym(4))?;
+    list.set(0, Sym(5));
+    assert!(rt; list.len() == 2);
+    assert!(rt; list.get(0) == Some(&Sym(5)));
+    assert!(rt; list.get(2) == None);
+    assert!(rt; SymList::from_slice(list.as_slice()).as_slice() == [Sym(5), Sym(4)].as_slice());
+    assert!(rt; list.pop() == Some(Sym(4)));
+    assert!(rt; list.into_vec().as_slice() == [Sym(5)].as_slice());
+    Ok(())
+}
+
+#[test]
+fn a_text_keeps_its_bytes(rt: HostRuntime) -> Result<(), Fail> {
+    let text = Text::new(rt.alloc(), b"a\x00\xff")?;
+    assert!(rt; text.bytes() == b"a\x00\xff".as_slice());
+    Ok(())
+}

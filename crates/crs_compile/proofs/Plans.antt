@@ -1,0 +1,45 @@
+-- Plans, chronicle by chronicle.
+use Rattle.std.proofs.Common.{◌≡◌, inl, inr, refl, sym, subst, ◌∙◌, List, [], ◌∷◌, ◌++◌, map, append_assoc, append-nil}
+use Rattle.std.specs.List.{AllByRecursion}
+use Rattle.std.proofs.lemmas.List.{map-append}
+use Rattle.crs_model.specs.declared.chronicle.Chronicle.{Chronicle}
+use Rattle.crs_model.specs.declared.plan.Plan.{Plan}
+use Rattle.crs_model.specs.declared.models.ModelRefused.{ModelRefused}
+use Rattle.crs_model.specs.declared.models.ModelRefused.TheVariants.{At, Memory}
+use Rattle.crs_model.specs.Seen.{chronicle_of}
+use Rattle.crs_compile.specs.Proper.{IsProperChronicle}
+use Rattle.crs_compile.specs.Compiled.{IsPlan, IsAdded, ClosesFirst, IsRefusal}
+
+-- the plans are those of the first chronicles, and `rest` are the others
+pub record IsPlanned (all : List Chronicle) (plans : List Plan) (rest : List Chronicle) : Type 0 where
+  pub parts : map (λ p. p.chronicle) plans ++ rest ≡ all
+  pub plans_are : AllByRecursion IsPlan plans
+  pub proper : AllByRecursion IsProperChronicle (map chronicle_of rest)
+
+pub planned_none : (all : List Chronicle) → AllByRecursion IsProperChronicle (map chronicle_of all) → IsPlanned all [] all
+planned_none all h = record { parts = refl; plans_are = tt; proper = h }
+
+all_push : (P : Plan → Type 0) (xs : List Plan) (x : Plan) → AllByRecursion P xs → P x → AllByRecursion P (xs ++ x ∷ [])
+all_push P [] x h p = (p, tt)
+all_push P (y ∷ ys) x h p = (h.0, all_push P ys x h.1 p)
+
+pub planned_more : (all : List Chronicle) (plans : List Plan) (c : Chronicle) (rest : List Chronicle) (new : List Plan)
+    → IsAdded c plans new → IsPlanned all plans (c ∷ rest) → IsPlanned all new rest
+planned_more all plans c rest new a h = record {
+  parts = rw (a.last, map-append, a.chronicle, append_assoc) h.parts;
+  plans_are = rw a.last (all_push IsPlan plans a.plan h.plans_are a.proper);
+  proper = h.proper.1;
+}
+
+closes_within : (plans : List Plan) (c : Chronicle) (rest : List Chronicle) (line : _) → AllByRecursion IsPlan plans → ClosesFirst (c ∷ []) line → ClosesFirst (map (λ p. p.chronicle) plans ++ c ∷ rest) line
+closes_within [] c rest line h (inl k) = inl k
+closes_within [] c rest line h (inr k) = absurd k.1
+closes_within (p ∷ ps) c rest line h k = inr (h.0.proper.consistent, closes_within ps c rest line h.1 k)
+
+pub refused_within : (all : List Chronicle) (plans : List Plan) (c : Chronicle) (rest : List Chronicle) (e : ModelRefused)
+    → IsPlanned all plans (c ∷ rest) → IsRefusal (c ∷ []) e → IsRefusal all e
+refused_within all plans c rest (At line word) h k = (k.0, subst (λ cs. ClosesFirst cs line) h.parts (closes_within plans c rest line h.plans_are k.1))
+refused_within all plans c rest Memory h k = tt
+
+pub planned_all : (all : List Chronicle) (plans : List Plan) → IsPlanned all plans [] → map (λ p. p.chronicle) plans ≡ all
+planned_all all plans h = sym (append-nil (map (λ p. p.chronicle) plans)) ∙ h.parts

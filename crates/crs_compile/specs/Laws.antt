@@ -1,0 +1,15 @@
+-- Laws of the definitions.
+use Rattle.std.specs.Prelude.{◌≡◌, ℕ, ℤ, List, Option}
+use Rattle.std.specs.List.{AllByRecursion}
+use Rattle.crs_model.specs.Models.{Anchor, Chronicle}
+use Rattle.crs_compile.specs.Proper.{IsProperChronicle}
+use Rattle.crs_compile.specs.Reach.{IsReach}
+use Rattle.crs_compile.specs.Minimal.{IsMinimalText}
+
+-- there is one reach for given least bounds
+abbrev pub ReachIsOne : Type 0
+ReachIsOne = (n : ℕ) (most : ℕ → ℕ → Option ℤ) (starts : List Anchor) (x y : Option ℤ) → IsReach n most starts x → IsReach n most starts y → x ≡ y
+
+-- proper chronicles have one text of their least bounds
+abbrev pub MinimalTextIsOne : Type 0
+MinimalTextIsOne = (cs : List (Chronicle (List ℕ))) (x y : List ℕ) → AllByRecursion IsProperChronicle cs → IsMinimalText (λ t. t) cs x → IsMinimalText (λ t. t) cs y → x ≡ y

@@ -1,0 +1,5 @@
+pub mod Proper
+pub mod Reach
+pub mod Compiled
+pub mod Minimal
+pub mod Laws

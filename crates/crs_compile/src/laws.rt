@@ -1,0 +1,11 @@
+ghost use Rattle.crs_compile.specs.Laws.{ReachIsOne, MinimalTextIsOne};
+
+/// There is one reach for given least bounds.
+pub fn reach_is_one()
+    ensures { ReachIsOne }
+{}
+
+/// Proper chronicles have one text of their least bounds.
+pub fn minimal_text_is_one()
+    ensures { MinimalTextIsOne }
+{}

@@ -1,0 +1,15 @@
+//! From models to plans: the least bounds of each chronicle, and its reach.
+#![tactic(auto)]
+
+mod compiling;
+mod laws;
+mod minimal;
+mod reach;
+mod writing;
+
+pub use compiling::compile;
+pub use laws::{minimal_text_is_one, reach_is_one};
+pub use minimal::minimal_text;
+
+#[cfg(test)]
+mod tests;

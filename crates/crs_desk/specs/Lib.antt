@@ -1,0 +1,6 @@
+pub mod Desk
+pub mod FailingRead
+pub mod File
+pub mod Memory
+pub mod ReadAll
+pub mod Schedule

@@ -1,0 +1,18 @@
+//! The outside: named inputs that are read, and one output that is written.
+#![tactic(auto)]
+
+mod desk;
+mod file;
+mod memory;
+mod real;
+mod schedule;
+#[cfg(test)]
+mod tests;
+mod turn;
+mod whole;
+
+pub use desk::{Desk, DeskError};
+pub use memory::MemoryDesk;
+pub use real::RealDesk;
+pub use turn::Turn;
+pub use whole::{ReadAllError, read_all, write_all};

@@ -1,0 +1,79 @@
+-- What an engine stands for when an entry was accepted.
+use Rattle.std.proofs.Common.{◌≡◌, ◌≢◌, ℕ, ◌<◌, ◌≤◌, ◌+◌, ◌^◌, List, ◌++◌, map, sym, ap, subst, ◌∙◌, inl, inr, arith}
+use Rattle.std.specs.List.{AllByRecursion}
+use Rattle.std.specs.declared.cmp.Ordering.TheVariants.{Less, Equal}
+use Rattle.std.proofs.lemmas.Bool.{cases_lt}
+use Rattle.crs_base.specs.declared.symbols.Sym.{Sym}
+use Rattle.crs_base.specs.Words.{IsIn, Ordered}
+use Rattle.crs_base.specs.Entry.{Entry, entry_cmp}
+use Rattle.crs_base.proofs.Words.{in_append, in_append_left, in_append_right, in_from_each, each_from_in, in_map, in_map_back, ordered_append}
+use Rattle.crs_model.specs.Matching.{AreDistinct}
+use Rattle.crs_model.specs.Order.{put_in_order}
+use Rattle.crs_buffer.specs.Entries.{Ascends, IsNewKey}
+use Rattle.crs_engine.specs.Engines.{EngineState, StandsFor, HaveNumbersBelow, IsWaiting}
+use Rattle.crs_engine.proofs.Order.{ordered_left, ordered_right, ordered_cross, less_by_date, keys_differ, put_each, put_distinct, in_put_new, in_put_old, each_to}
+
+-- no waiting entry has the key of the next one
+pub new_key : (n : ℕ) (ws : List (Entry Sym)) (x : Entry Sym) → x.arrival ≡ n → AllByRecursion (IsWaiting n) ws → IsNewKey x ws
+new_key n ws x e h = each_to (IsWaiting n) (λ y. entry_cmp x y ≡ Equal → ⊥) (λ y w. keys_differ x y (λ s. let a = w.arrived in absurd (omega (arith, e, s)))) ws h
+
+pub waiting_more : (n : ℕ) (ws : List (Entry Sym)) (x : Entry Sym) → x.arrival ≡ n → x.date < 2 ^ 40 → AllByRecursion (IsWaiting n) ws → AllByRecursion (IsWaiting (n + 1)) (put_in_order x ws)
+waiting_more n ws x e d h = put_each x (IsWaiting (n + 1)) ws (record { dated = d; arrived = omega (arith, e) }) (each_to (IsWaiting n) (IsWaiting (n + 1)) (λ y w. record { dated = w.dated; arrived = (let a = w.arrived in omega arith) }) ws h)
+
+abbrev pub arrivals : List (Entry Sym) → List ℕ
+arrivals es = map (λ e. e.arrival) es
+
+module _ (n : ℕ) (s w : List (Entry Sym)) (x : Entry Sym) (is : x.arrival ≡ n) (num : HaveNumbersBelow n (s ++ w)) where
+  below : (y : Entry Sym) → IsIn y (s ++ w) → y.arrival < n
+  below y i = (num.numbers y.arrival).1 (in_map (λ (e : Entry Sym). e.arrival) (s ++ w) y i)
+
+  apart : (y : Entry Sym) → IsIn y (s ++ w) → x.arrival ≢ y.arrival
+  apart y i e = let b = below y i in omega (arith, e, is)
+
+  distinct : AreDistinct (s ++ put_in_order x w)
+  distinct = ordered_append (λ d e. d.arrival ≢ e.arrival) s (put_in_order x w)
+      (ordered_left (λ d e. d.arrival ≢ e.arrival) s w num.distinct)
+      (put_distinct x w (each_from_in (λ y. x.arrival ≢ y.arrival) w (λ y i. apart y (in_append_right s w y i))) (ordered_right (λ d e. d.arrival ≢ e.arrival) s w num.distinct))
+      (λ y z i j. in_from_each (λ t. y.arrival ≢ t.arrival) (put_in_order x w)
+      (put_each x (λ t. y.arrival ≢ t.arrival) w (λ e. apart y (in_append_left s w y i) (sym e)) (each_from_in (λ t. y.arrival ≢ t.arrival) w (λ t k. ordered_cross (λ d e. d.arrival ≢ e.arrival) s w num.distinct y t i k))) z j)
+
+  old_in : (y : Entry Sym) → IsIn y (s ++ w) → IsIn y (s ++ put_in_order x w)
+  old_in y i = elim (in_append s w y i) [ inl a ↦ in_append_left s (put_in_order x w) y a | inr b ↦ in_append_right s (put_in_order x w) y (in_put_old x w y b) ]
+
+  there : (k : ℕ) → k < n + 1 → IsIn k (arrivals (s ++ put_in_order x w))
+  there k l = elim (cases_lt k n) [
+    | inl a ↦ (let r = in_map_back (λ (e : Entry Sym). e.arrival) (s ++ w) k ((num.numbers k).0 a) in subst (λ (m : ℕ). IsIn m (arrivals (s ++ put_in_order x w))) (sym r.2) (in_map (λ (e : Entry Sym). e.arrival) (s ++ put_in_order x w) r.0 (old_in r.0 r.1)))
+    | inr b ↦ (let e : x.arrival ≡ k = omega (arith, is) in subst (λ (m : ℕ). IsIn m (arrivals (s ++ put_in_order x w))) e (in_map (λ (e : Entry Sym). e.arrival) (s ++ put_in_order x w) x (in_append_right s (put_in_order x w) x (in_put_new x w))))
+  ]
+
+  each_below : AllByRecursion (λ y. y.arrival < n + 1) (put_in_order x w)
+  each_below = put_each x (λ y. y.arrival < n + 1) w (omega (arith, is)) (each_from_in (λ y. y.arrival < n + 1) w (λ y i. let b = below y (in_append_right s w y i) in omega arith))
+
+  back : (k : ℕ) → IsIn k (arrivals (s ++ put_in_order x w)) → k < n + 1
+  back k i =
+      let r = in_map_back (λ (e : Entry Sym). e.arrival) (s ++ put_in_order x w) k i in
+      elim (in_append s (put_in_order x w) r.0 r.1) [
+        | inl a ↦ (let b = below r.0 (in_append_left s w r.0 a) in omega (arith, r.2))
+        | inr c ↦ (let b = in_from_each (λ y. y.arrival < n + 1) (put_in_order x w) each_below r.0 c in omega (arith, r.2))
+      ]
+
+  pub numbered_more : HaveNumbersBelow (n + 1) (s ++ put_in_order x w)
+  numbered_more = record { distinct = distinct; numbers = λ k. (there k, back k) }
+
+pub accepted_from : (seen old : EngineState) (x : Entry Sym) (ws : List (Entry Sym)) → seen ≡ old → x.arrival ≡ seen.accepted → seen.horizon ≤ x.date → ws ≡ put_in_order x seen.waiting → Ascends ws →
+    (s w : List (Entry Sym)) → StandsFor old s w →
+    StandsFor (record { plans = seen.plans; stores = seen.stores; waiting = ws; delay = seen.delay; last = seen.last; horizon = seen.horizon; accepted = seen.accepted + 1; limit = seen.limit; stopped = seen.stopped }) s (put_in_order x w)
+accepted_from seen old x ws view is late put sorted s w stands =
+    let so : StandsFor seen s w = subst (λ (t : EngineState). StandsFor t s w) (sym view) stands in
+    let held : ws ≡ put_in_order x w = put ∙ ap (put_in_order x) so.held in
+    let up : Ordered (λ a b. entry_cmp a b ≡ Less) (put_in_order x w) = subst (λ (t : List (Entry Sym)). Ordered (λ a b. entry_cmp a b ≡ Less) t) held sorted in
+    record {
+      settled_before = so.settled_before;
+      waiting_after = put_each x (λ y. seen.horizon ≤ y.date) w late so.waiting_after;
+      in_order = ordered_append (λ a b. entry_cmp a b ≡ Less) s (put_in_order x w) (ordered_left (λ a b. entry_cmp a b ≡ Less) s w so.in_order) up (λ y z i j.
+          in_from_each (λ t. entry_cmp y t ≡ Less) (put_in_order x w)
+          (put_each x (λ t. entry_cmp y t ≡ Less) w (less_by_date y x (let a = in_from_each (λ t. t.date < seen.horizon) s so.settled_before y i in omega arith)) (each_from_in (λ t. entry_cmp y t ≡ Less) w (λ t k. ordered_cross (λ a b. entry_cmp a b ≡ Less) s w so.in_order y t i k))) z j);
+      numbered = numbered_more seen.accepted s w x is so.numbered;
+      held = held;
+      stores = so.stores;
+    }

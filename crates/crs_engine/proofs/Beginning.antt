@@ -1,0 +1,68 @@
+-- The stores of the plans at the start.
+use Rattle.std.proofs.Common.{◌≡◌, ℕ, zero, suc, ◌<◌, ◌≤◌, ◌+◌, List, [], ◌∷◌, ◌++◌, length, map, take, refl, sym, ap, subst, ◌∙◌, arith, get_or, Global}
+use Rattle.std.specs.List.{AllByRecursion}
+use Rattle.std.specs.declared.rc.Rc.{Rc}
+use Rattle.std.proofs.lemmas.List.{map-append, take_more}
+use Rattle.crs_model.specs.declared.plan.Plan.{Plan}
+use Rattle.crs_store.specs.Stores.{StoreState, Stands}
+use Rattle.std.specs.Prelude.{false}
+use Rattle.crs_base.specs.declared.symbols.Sym.{Sym}
+use Rattle.crs_base.specs.Entry.{Entry}
+use Rattle.crs_model.specs.declared.plan.Plans.{Plans}
+use Rattle.crs_engine.specs.Engines.{StandsFor, AreStoresOf, plans_of}
+use Rattle.crs_engine.proofs.Marking.{stores_at}
+
+abbrev pub planned : List (Rc Plan Global) → List Plan
+planned rs = map (λ r. r.value) rs
+
+-- the stores of the first k plans
+pub record AreStartedBelow (k : ℕ) (plans : List (Rc Plan Global)) (stores : List StoreState) : Type 0 where
+  pub of : AreStoresOf (planned (take k plans)) 0 stores
+  pub stand : AllByRecursion (λ s. Stands s [] [] [] 0 0) stores
+
+pub started_none : (plans : List (Rc Plan Global)) → AreStartedBelow 0 plans []
+started_none plans = record { of = tt; stand = tt }
+
+stores_more : (ps : List Plan) (n : ℕ) (ss : List StoreState) (p : Plan) (s : StoreState) → AreStoresOf ps n ss → s.plan ≡ p → s.number ≡ n + length ps → AreStoresOf (ps ++ p ∷ []) n (ss ++ s ∷ [])
+stores_more [] n [] p s h a b = (a, omega (arith, b), tt)
+stores_more [] n (t ∷ ss) p s h a b = absurd h
+stores_more (q ∷ ps) n [] p s h a b = absurd h
+stores_more (q ∷ ps) n (t ∷ ss) p s h a b = (h.0, h.1, stores_more ps (suc n) ss p s h.2 a (omega (arith, b)))
+
+each_more : {A : Type 0} (P : A → Type 0) (xs : List A) (x : A) → AllByRecursion P xs → P x → AllByRecursion P (xs ++ x ∷ [])
+each_more P [] x h p = (p, tt)
+each_more P (y ∷ xs) x h p = (h.0, each_more P xs x h.1 p)
+
+length_take : (k : ℕ) (plans : List (Rc Plan Global)) → k ≤ length plans → length (planned (take k plans)) ≡ k
+length_take zero plans l = refl
+length_take (suc k) [] l = absurd (omega arith)
+length_take (suc k) (r ∷ plans) l = ap suc (length_take k plans (omega arith))
+
+pub started_more : (k : ℕ) (plans : List (Rc Plan Global)) (out new : List StoreState) (r : Rc Plan Global) (s : StoreState) → k < length plans → r ≡ get_or plans k r → new ≡ out ++ s ∷ [] → AreStartedBelow k plans out → s.plan ≡ r.value → s.number ≡ k → Stands s [] [] [] 0 0 → AreStartedBelow (k + 1) plans new
+started_more k plans out new r s l at_k q h a b stands =
+    let cut : planned (take (k + 1) plans) ≡ planned (take k plans) ++ r.value ∷ [] =
+    ap planned (take_more plans k r l ∙ ap (λ (t : Rc Plan Global). take k plans ++ t ∷ []) (sym at_k)) ∙ map-append (λ (t : Rc Plan Global). t.value) (take k plans) (r ∷ []) in
+    let long = length_take k plans (omega arith) in
+    rw q (record {
+      of = subst (λ (t : List Plan). AreStoresOf t 0 (out ++ s ∷ [])) (sym cut) (stores_more (planned (take k plans)) 0 out r.value s h.of a (omega (arith, b)));
+      stand = each_more (λ t. Stands t [] [] [] 0 0) out s h.stand stands;
+    })
+
+take_all : {A : Type 0} (xs : List A) → take (length xs) xs ≡ xs
+take_all [] = refl
+take_all {A} (x ∷ xs) = ap (λ (t : List A). x ∷ t) (take_all xs)
+
+pub started_all : (plans : List (Rc Plan Global)) (n : ℕ) (stores : List StoreState) → n ≡ length plans → AreStartedBelow n plans stores → AreStoresOf (planned plans) 0 stores × AllByRecursion (λ s. Stands s [] [] [] 0 0) stores
+started_all plans n stores e h =
+    (subst (λ (t : List (Rc Plan Global)). AreStoresOf (planned t) 0 stores) (ap (λ (m : ℕ). take m plans) e ∙ take_all plans) h.of, h.stand)
+
+pub new_stands : (plans : Plans) (stores : List StoreState) (limit : ℕ) → AreStoresOf (plans_of plans) 0 stores → AllByRecursion (λ s. Stands s [] [] [] 0 0) stores → (ws : List (Entry Sym)) → ws ≡ [] →
+    StandsFor (record { plans = plans; stores = stores; waiting = ws; delay = 0; last = 0; horizon = 0; accepted = 0; limit = limit; stopped = false }) [] []
+new_stands plans stores limit of stand ws e = record {
+  settled_before = tt;
+  waiting_after = tt;
+  in_order = tt;
+  numbered = record { distinct = tt; numbers = λ k. (λ l. absurd (omega arith), λ i. absurd i) };
+  held = e;
+  stores = stores_at [] 0 (plans_of plans) 0 stores of stand;
+}

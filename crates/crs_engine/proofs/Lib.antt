@@ -1,0 +1,5 @@
+pub mod Settling
+pub mod Beginning
+pub mod Order
+pub mod Accepting
+pub mod Marking

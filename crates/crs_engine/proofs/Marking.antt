@@ -1,0 +1,236 @@
+-- What an engine stands for after a mark, and its answer.
+use Rattle.std.proofs.Common.{◌≡◌, ◌≢◌, ℕ, zero, suc, ◌<◌, ◌≤◌, ◌-◌, ◌^◌, List, [], ◌∷◌, ◌++◌, length, map, refl, sym, ap, subst, ◌∙◌, inl, arith, append_assoc, append-nil, take, drop, Bool}
+use Rattle.std.specs.List.{AllByRecursion, AllZip}
+use Rattle.std.specs.declared.cmp.Ordering.TheVariants.{Less}
+use Rattle.crs_base.specs.declared.symbols.Sym.{Sym}
+use Rattle.crs_base.specs.Words.{IsIn, Ordered}
+use Rattle.crs_base.specs.Entry.{Entry, entry_cmp}
+use Rattle.crs_base.proofs.Words.{in_from_each}
+use Rattle.crs_model.specs.declared.plan.Plan.{Plan}
+use Rattle.crs_model.specs.declared.recognition.Mark.{Mark}
+use Rattle.crs_model.specs.declared.recognition.Recognition.{Recognition}
+use Rattle.crs_model.specs.Matching.{Assignment, AreDistinct}
+use Rattle.crs_model.specs.Open.{IsRecognised, before}
+use Rattle.crs_model.specs.Order.{Lists, assignment_cmp}
+use Rattle.crs_model.specs.Plans.{chronicle}
+use Rattle.crs_model.specs.Seen.{assignment_of}
+use Rattle.crs_store.specs.Stores.{StoreState, Stands}
+use Rattle.crs_store.specs.Answers.{IsAnswer, IsMarked}
+use Rattle.std.specs.Prelude.{Result, Ok, Err, IfOk, OnOk}
+use Rattle.crs_model.specs.Models.{Chronicle}
+use Rattle.crs_engine.specs.declared.refused.Refused.{Refused}
+use Rattle.crs_engine.specs.Engines.{HasMoved, EngineState, StandsFor, HaveNumbersBelow, IsStoreAt, AreStoresOf, IsWaiting, IsEngine, plans_of, since}
+use Rattle.crs_engine.specs.Marks.{ListsNew, ListsAllNew, AfterMark}
+use Rattle.crs_engine.specs.Moves.{AreSameStores, AreOffered, AreOfferedAll, AreAdvanced, AreMarked, IsRestOf}
+use Rattle.crs_engine.proofs.Order.{ordered_left, ordered_right, ordered_cross, each_parts, each_join, each_to, in_dates, before_parts, since_parts}
+
+abbrev pub AllStand : List StoreState → List (Entry Sym) → List (Entry Sym) → ℕ → ℕ → Type 0
+AllStand ss was pool d g = AllByRecursion (λ s. Stands s was pool pool d g) ss
+
+-- ---- offered
+
+offered_one : (olds news : List StoreState) (x : Entry Sym) (was pool : List (Entry Sym)) (d g : ℕ) → AllStand olds was pool d g → AreOffered olds x news → ((e : Entry Sym) → IsIn e pool → e.arrival ≢ x.arrival) → d ≤ x.date → AllStand news was (pool ++ x ∷ []) x.date g
+offered_one [] [] x was pool d g h k fresh later = tt
+offered_one [] (n ∷ news) x was pool d g h k fresh later = absurd k
+offered_one (o ∷ olds) [] x was pool d g h k fresh later = absurd k
+offered_one (o ∷ olds) (n ∷ news) x was pool d g h k fresh later = (k.0 was pool pool d g h.0 fresh later, offered_one olds news x was pool d g h.1 k.1 fresh later)
+
+offered_all : (xs : List (Entry Sym)) (olds news : List StoreState) (was pool : List (Entry Sym)) (d g h : ℕ) → AllStand olds was pool d g → AreOfferedAll olds xs news → AreDistinct (pool ++ xs) → AllByRecursion (λ x. d ≤ x.date) xs → Ordered (λ x y. x.date ≤ y.date) xs → d ≤ h → AllByRecursion (λ x. x.date < h) xs →
+    (e : ℕ) × AllStand news was (pool ++ xs) e g × (e ≤ h)
+offered_all [] olds news was pool d g h stand k apart later dates low before_h =
+    (d, subst (λ (t : List (Entry Sym)). AllStand news was t d g) (sym (append-nil pool)) (subst (λ (t : List StoreState). AllStand t was pool d g) (sym k) stand), low)
+offered_all (x ∷ xs) olds news was pool d g h stand k apart later dates low before_h =
+    let next = k.0 in
+    let joined : (pool ++ x ∷ []) ++ xs ≡ pool ++ x ∷ xs = append_assoc pool (x ∷ []) xs in
+    let one : AllStand next was (pool ++ x ∷ []) x.date g = offered_one olds next x was pool d g stand k.1 (λ e i. ordered_cross (λ a b. a.arrival ≢ b.arrival) pool (x ∷ xs) apart e x i (inl refl)) later.0 in
+    let r = offered_all xs next news was (pool ++ x ∷ []) x.date g h one k.2 (subst AreDistinct (sym joined) apart) dates.0 dates.1 (let b = before_h.0 in omega arith) before_h.1 in
+    (r.0, subst (λ (t : List (Entry Sym)). AllStand news was t r.0 g) joined r.1, r.2)
+
+-- ---- advanced
+
+answer_as : (p : Plan) (n : ℕ) (o : StoreState) (mark : Mark) (was pool : List (Entry Sym)) (g h : ℕ) (first : List Recognition) → o.plan ≡ p → o.number ≡ n → before g pool ≡ was → IsAnswer (chronicle o.plan) o.number mark was pool pool g h first → ListsNew (chronicle p) n mark was g pool h first
+answer_as p n o mark was pool g h first sp sn sw a =
+    let b : IsAnswer (chronicle p) n mark was pool pool g h first = subst (λ (q : Plan). IsAnswer (chronicle q) n mark was pool pool g h first) sp (subst (λ (m : ℕ). IsAnswer (chronicle o.plan) m mark was pool pool g h first) sn a) in
+    record {
+      listed = subst (λ (t : List (Entry Sym)). Lists assignment_cmp (λ (b : Assignment Sym). IsRecognised (chronicle p) pool pool h b × (IsRecognised (chronicle p) was t g b → ⊥)) (map assignment_of first)) sw b.listed;
+      each = b.each;
+    }
+
+module _ (mark : Mark) (was pool : List (Entry Sym)) (d g h : ℕ) (sw : before g pool ≡ was) (apart : AreDistinct pool) (later : d ≤ h) (dated : (e : Entry Sym) → IsIn e pool → e.date < h) (dates : Ordered (λ x y. x.date ≤ y.date) pool) where
+  advanced_all : (ps : List Plan) (n : ℕ) (olds news : List StoreState) (answer : List Recognition) → AreStoresOf ps n olds → AllStand olds was pool d g → AreAdvanced h mark olds news answer → AllStand news pool pool h h × ListsAllNew ps n mark was g pool h answer
+  advanced_all [] n [] news answer of stand k = (subst (λ (t : List StoreState). AllStand t pool pool h h) (sym k.0) tt, k.1)
+  advanced_all [] n (o ∷ olds) news answer of stand k = absurd of
+  advanced_all (p ∷ ps) n [] news answer of stand k = absurd of
+  advanced_all (p ∷ ps) n (o ∷ olds) news answer of stand k =
+      let new_one = k.0 in
+      let rest = k.1 in
+      let first = k.2 in
+      let more = k.3 in
+      let marked : IsMarked o new_one mark was pool pool g h first = k.6 was pool pool d g stand.0 apart later dated dates in
+      let r = advanced_all ps (suc n) olds rest more of.2 stand.1 k.7 in (
+        subst (λ (t : List StoreState). AllStand t pool pool h h) (sym k.4) (marked.stands, r.0),
+        (first, more, k.5, answer_as p n o mark was pool g h first of.0 of.1 sw marked.answers, r.1),
+      )
+
+-- ---- the stores of the plans
+
+pub stores_same : (ps : List Plan) (n : ℕ) (olds news : List StoreState) → AreStoresOf ps n olds → AreSameStores olds news → AreStoresOf ps n news
+stores_same [] n [] [] h k = tt
+stores_same [] n [] (x ∷ news) h k = absurd k
+stores_same [] n (o ∷ olds) news h k = absurd h
+stores_same (p ∷ ps) n [] news h k = absurd h
+stores_same (p ∷ ps) n (o ∷ olds) [] h k = absurd k
+stores_same (p ∷ ps) n (o ∷ olds) (x ∷ news) h k = ((k.0).plan ∙ h.0, (k.0).number ∙ h.1, stores_same ps (suc n) olds news h.2 k.1)
+
+pub all_stand : (settled : List (Entry Sym)) (h : ℕ) (ps : List Plan) (ss : List StoreState) → AllZip (IsStoreAt settled h) ps ss → AllStand ss settled settled h h
+all_stand settled h [] [] z = tt
+all_stand settled h [] (s ∷ ss) z = absurd z
+all_stand settled h (p ∷ ps) [] z = absurd z
+all_stand settled h (p ∷ ps) (s ∷ ss) z = ((z.0).1, all_stand settled h ps ss z.1)
+
+pub stores_at : (settled : List (Entry Sym)) (h : ℕ) (ps : List Plan) (n : ℕ) (ss : List StoreState) → AreStoresOf ps n ss → AllStand ss settled settled h h → AllZip (IsStoreAt settled h) ps ss
+stores_at settled h [] n [] of stand = tt
+stores_at settled h [] n (s ∷ ss) of stand = absurd of
+stores_at settled h (p ∷ ps) n [] of stand = absurd of
+stores_at settled h (p ∷ ps) n (s ∷ ss) of stand = ((of.0, stand.0), stores_at settled h ps (suc n) ss of.2 stand.1)
+
+-- ---- a mark
+
+module _ (seen new : EngineState) (mark : Mark) (answer : List Recognition) (same_plans : new.plans ≡ seen.plans) (same_count : new.accepted ≡ seen.accepted) (of : AreStoresOf (plans_of seen.plans) 0 seen.stores) (later : seen.horizon ≤ new.horizon)
+    (marked : AreMarked new.horizon mark seen.stores seen.waiting new.stores new.waiting answer) (same : AreSameStores seen.stores new.stores) (s w : List (Entry Sym)) (stands : StandsFor seen s w) where
+  parted : w ≡ (marked.settled).done ++ new.waiting
+  parted = sym stands.held ∙ (marked.settled).parted
+
+  now_before : before new.horizon w ≡ (marked.settled).done
+  now_before = ap (before new.horizon) parted ∙ before_parts new.horizon (marked.settled).done new.waiting (marked.settled).done_before (marked.settled).rest_after
+
+  now_since : since new.horizon w ≡ new.waiting
+  now_since = ap (since new.horizon) parted ∙ since_parts new.horizon (marked.settled).done new.waiting (marked.settled).done_before (marked.settled).rest_after
+
+  whole : (s ++ (marked.settled).done) ++ new.waiting ≡ s ++ w
+  whole = append_assoc s (marked.settled).done new.waiting ∙ ap (λ (t : List (Entry Sym)). s ++ t) (sym parted)
+
+  up : Ordered (λ x y. entry_cmp x y ≡ Less) ((s ++ (marked.settled).done) ++ new.waiting)
+  up = subst (λ (t : List (Entry Sym)). Ordered (λ x y. entry_cmp x y ≡ Less) t) (sym whole) stands.in_order
+
+  up_now : Ordered (λ x y. entry_cmp x y ≡ Less) (s ++ (marked.settled).done)
+  up_now = ordered_left (λ x y. entry_cmp x y ≡ Less) (s ++ (marked.settled).done) new.waiting up
+
+  numbered : HaveNumbersBelow seen.accepted ((s ++ (marked.settled).done) ++ new.waiting)
+  numbered = subst (λ (t : List (Entry Sym)). HaveNumbersBelow seen.accepted t) (sym whole) stands.numbered
+
+  apart : AreDistinct (s ++ (marked.settled).done)
+  apart = ordered_left (λ a b. a.arrival ≢ b.arrival) (s ++ (marked.settled).done) new.waiting numbered.distinct
+
+  done_after : AllByRecursion (λ x. seen.horizon ≤ x.date) (marked.settled).done
+  done_after = (each_parts (λ x. seen.horizon ≤ x.date) (marked.settled).done new.waiting (subst (λ (t : List (Entry Sym)). AllByRecursion (λ x. seen.horizon ≤ x.date) t) parted stands.waiting_after)).0
+
+  all_before : AllByRecursion (λ x. x.date < new.horizon) (s ++ (marked.settled).done)
+  all_before = each_join (λ x. x.date < new.horizon) s (marked.settled).done (each_to (λ x. x.date < seen.horizon) (λ x. x.date < new.horizon) (λ x l. omega arith) s stands.settled_before) (marked.settled).done_before
+
+  offers : (e : ℕ) × AllStand marked.between s (s ++ (marked.settled).done) e seen.horizon × (e ≤ new.horizon)
+  offers = offered_all (marked.settled).done seen.stores marked.between s s seen.horizon seen.horizon new.horizon (all_stand s seen.horizon (plans_of seen.plans) seen.stores stands.stores) (marked.settled).offered apart done_after
+      (ordered_right (λ x y. x.date ≤ y.date) s (marked.settled).done (in_dates (s ++ (marked.settled).done) up_now)) later (marked.settled).done_before
+
+  after : AllStand new.stores (s ++ (marked.settled).done) (s ++ (marked.settled).done) new.horizon new.horizon × ListsAllNew (plans_of seen.plans) 0 mark s seen.horizon (s ++ (marked.settled).done) new.horizon answer
+  after = advanced_all mark s (s ++ (marked.settled).done) offers.0 seen.horizon new.horizon (before_parts seen.horizon s (marked.settled).done stands.settled_before done_after) apart offers.2
+      (λ e i. in_from_each (λ x. x.date < new.horizon) (s ++ (marked.settled).done) all_before e i) (in_dates (s ++ (marked.settled).done) up_now)
+      (plans_of seen.plans) 0 marked.between new.stores answer (stores_same (plans_of seen.plans) 0 seen.stores marked.between of (marked.settled).same) offers.1 marked.advanced
+
+  stands_parted : StandsFor new (s ++ (marked.settled).done) new.waiting
+  stands_parted = record {
+    settled_before = all_before;
+    waiting_after = (marked.settled).rest_after;
+    in_order = up;
+    numbered = subst (λ (n : ℕ). HaveNumbersBelow n ((s ++ (marked.settled).done) ++ new.waiting)) (sym same_count) numbered;
+    held = refl;
+    stores = subst (λ (ps : List Plan). AllZip (IsStoreAt (s ++ (marked.settled).done) new.horizon) ps new.stores) (sym (ap plans_of same_plans))
+        (stores_at (s ++ (marked.settled).done) new.horizon (plans_of seen.plans) 0 new.stores (stores_same (plans_of seen.plans) 0 seen.stores new.stores of same) after.0);
+  }
+
+  pub after_mark : AfterMark seen new mark s w answer
+  after_mark = record {
+    stands = subst (λ (t : List (Entry Sym)). StandsFor new (s ++ t) (since new.horizon w)) (sym now_before) (subst (λ (t : List (Entry Sym)). StandsFor new (s ++ (marked.settled).done) t) (sym now_since) stands_parted);
+    answers = subst (λ (t : List (Entry Sym)). ListsAllNew (plans_of seen.plans) 0 mark s seen.horizon (s ++ t) new.horizon answer) (sym now_before) after.1;
+  }
+
+-- ---- the engine's fields
+
+same_length : (olds news : List StoreState) → AreSameStores olds news → length news ≡ length olds
+same_length [] [] h = refl
+same_length [] (n ∷ news) h = absurd h
+same_length (o ∷ olds) [] h = absurd h
+same_length (o ∷ olds) (n ∷ news) h = ap suc (same_length olds news h.1)
+
+drop_all : (xs : List StoreState) (n : ℕ) → n ≡ length xs → drop n xs ≡ []
+drop_all [] zero e = refl
+drop_all [] (suc n) e = refl
+drop_all (x ∷ xs) zero e = absurd (omega arith)
+drop_all (x ∷ xs) (suc n) e = drop_all xs n (omega arith)
+
+take_all : (xs : List StoreState) (n : ℕ) → n ≡ length xs → take n xs ≡ xs
+take_all [] zero e = refl
+take_all [] (suc n) e = refl
+take_all (x ∷ xs) zero e = absurd (omega arith)
+take_all (x ∷ xs) (suc n) e = ap (λ (t : List StoreState). x ∷ t) (take_all xs n (omega arith))
+
+-- a slice of all stores is written back whole
+pub written_back : (olds news : List StoreState) (n : ℕ) → n ≡ length olds → AreSameStores olds news → take n (news ++ drop (length news) olds) ≡ news
+written_back olds news n e same =
+    let l = same_length olds news same in
+    ap (λ (t : List StoreState). take n (news ++ t)) (drop_all olds (length news) l) ∙ ap (take n) (append-nil news) ∙ take_all news n (e ∙ sym l)
+
+pub rest_waiting : (n : ℕ) (held rest : List (Entry Sym)) → AllByRecursion (IsWaiting n) held → IsRestOf held rest → AllByRecursion (IsWaiting n) rest
+rest_waiting n held rest h r = (each_parts (IsWaiting n) r.0 rest (subst (AllByRecursion (IsWaiting n)) r.1 h)).1
+
+pub engine_on : (seen : EngineState) (news : List StoreState) (rest : List (Entry Sym)) (t h : ℕ) (stopped : Bool) → IsEngine seen → AreSameStores seen.stores news → IsRestOf seen.waiting rest → h ≤ 2 ^ 42 → (t < 2 ^ 40 → h ≤ t - seen.delay) →
+    IsEngine (record { plans = seen.plans; stores = news; waiting = rest; delay = seen.delay; last = t; horizon = h; accepted = seen.accepted; limit = seen.limit; stopped = stopped })
+engine_on seen news rest t h stopped is same r low behind = record {
+  stores = stores_same (plans_of seen.plans) 0 seen.stores news is.stores same;
+  waiting = rest_waiting seen.accepted seen.waiting rest is.waiting r;
+  few = is.few;
+  not_late = low;
+  behind = behind;
+}
+
+pub marked_from : (seen old : EngineState) (news : List StoreState) (rest : List (Entry Sym)) (t h : ℕ) (stopped : Bool) (mark : Mark) (answer : List Recognition) → seen ≡ old → IsEngine seen → seen.horizon ≤ h → AreMarked h mark seen.stores seen.waiting news rest answer → AreSameStores seen.stores news →
+    (s w : List (Entry Sym)) → StandsFor old s w → AfterMark old (record { plans = seen.plans; stores = news; waiting = rest; delay = seen.delay; last = t; horizon = h; accepted = seen.accepted; limit = seen.limit; stopped = stopped }) mark s w answer
+marked_from seen old news rest t h stopped mark answer view is later marked same s w stands =
+    let new : EngineState = record { plans = seen.plans; stores = news; waiting = rest; delay = seen.delay; last = t; horizon = h; accepted = seen.accepted; limit = seen.limit; stopped = stopped } in
+    subst (λ (o : EngineState). AfterMark o new mark s w answer) view
+    (after_mark seen new mark answer refl refl is.stores later marked same s w (subst (λ (o : EngineState). StandsFor o s w) (sym view) stands))
+
+-- ---- the end again
+
+none_newly : (c : Chronicle Sym) (n : ℕ) (mark : Mark) (s : List (Entry Sym)) (h : ℕ) (answer : List Recognition) → ListsNew c n mark s h s h answer → answer ≡ []
+none_newly c n mark s h [] l = refl
+none_newly c n mark s h (r ∷ answer) l = let k = (l.listed).each in absurd ((k.0).1 (k.0).0)
+
+none_new : (ps : List Plan) (n : ℕ) (mark : Mark) (s : List (Entry Sym)) (h : ℕ) (answer : List Recognition) → ListsAllNew ps n mark s h s h answer → answer ≡ []
+none_new [] n mark s h answer k = k
+none_new (p ∷ ps) n mark s h answer k =
+    k.2 ∙ ap (λ (t : List Recognition). t ++ k.1) (none_newly (chronicle p) n mark s h k.0 k.3) ∙ none_new ps (suc n) mark s h k.1 k.4
+
+none_waiting : (n : ℕ) (ws : List (Entry Sym)) → AllByRecursion (IsWaiting n) ws → AllByRecursion (λ x. 2 ^ 42 ≤ x.date) ws → ws ≡ []
+none_waiting n [] h k = refl
+none_waiting n (x ∷ ws) h k = let d = (h.0).dated in let e = k.0 in absurd (omega arith)
+
+end_again : (old new : EngineState) → AllByRecursion (IsWaiting old.accepted) old.waiting → old.horizon ≡ 2 ^ 42 → new.horizon ≡ 2 ^ 42 → (mark : Mark) (s w : List (Entry Sym)) (answer : List Recognition) → StandsFor old s w → AfterMark old new mark s w answer → answer ≡ []
+end_again old new small at now mark s w answer stands m =
+    let none : w ≡ [] = none_waiting old.accepted w (subst (AllByRecursion (IsWaiting old.accepted)) stands.held small) (subst (λ (h : ℕ). AllByRecursion (λ x. h ≤ x.date) w) at stands.waiting_after) in
+    let whole : s ++ before new.horizon w ≡ s = ap (λ (t : List (Entry Sym)). s ++ before new.horizon t) none ∙ append-nil s in
+    none_new (plans_of old.plans) 0 mark s old.horizon answer
+    (subst (λ (h : ℕ). ListsAllNew (plans_of old.plans) 0 mark s old.horizon s h answer) (now ∙ sym at)
+    (subst (λ (t : List (Entry Sym)). ListsAllNew (plans_of old.plans) 0 mark s old.horizon t new.horizon answer) whole m.answers))
+
+pub again_by : (r : Result (List Recognition) Refused) (seen old new : EngineState) (mark : Mark) → seen ≡ old → IsEngine seen → OnOk r (HasMoved old new (2 ^ 42) (2 ^ 42)) → IfOk r (λ a. (s w : List (Entry Sym)) → StandsFor old s w → AfterMark old new mark s w a) → old.horizon ≡ 2 ^ 42 → IfOk r (λ a. (s w : List (Entry Sym)) → StandsFor old s w → a ≡ [])
+again_by (Ok a) seen old new mark view is moved marked at = λ s w stands.
+    end_again old new (subst (λ (o : EngineState). AllByRecursion (IsWaiting o.accepted) o.waiting) view is.waiting) at moved.moved mark s w a stands (marked s w stands)
+again_by (Err e) seen old new mark view is moved marked at = tt
+
+-- a delay changes nothing of what an engine stands for
+pub delayed : (seen old : EngineState) (d : ℕ) → seen ≡ old → (s w : List (Entry Sym)) → StandsFor old s w →
+    StandsFor (record { plans = seen.plans; stores = seen.stores; waiting = seen.waiting; delay = d; last = seen.last; horizon = seen.horizon; accepted = seen.accepted; limit = seen.limit; stopped = seen.stopped }) s w
+delayed seen old d view s w stands =
+    let so : StandsFor seen s w = subst (λ (o : EngineState). StandsFor o s w) (sym view) stands in
+    record { settled_before = so.settled_before; waiting_after = so.waiting_after; in_order = so.in_order; numbered = so.numbered; held = so.held; stores = so.stores }

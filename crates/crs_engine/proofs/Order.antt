@@ -1,0 +1,99 @@
+-- Entries in key order, and parted at a date.
+use Rattle.std.proofs.Common.{◌≡◌, ◌≢◌, ℕ, ◌<◌, ◌≤◌, List, [], ◌∷◌, ◌++◌, refl, sym, ap, subst, ◌∙◌, inl, inr, cond, not, Bool, true, false, ◌==◌}
+use Rattle.std.specs.List.{AllByRecursion}
+use Rattle.std.specs.Ordering.{is_lt, ordering_then, nat_cmp}
+use Rattle.std.specs.Cmp.Lexicographic.{slice_cmp}
+use Rattle.std.specs.declared.cmp.Ordering.TheVariants.{Less, Equal, Greater}
+use Rattle.std.proofs.lemmas.Bool.{lt-ltb, le-ltb}
+use Rattle.crs_base.specs.declared.symbols.Sym.{Sym}
+use Rattle.crs_base.specs.Words.{IsIn, Ordered}
+use Rattle.crs_base.specs.Entry.{Entry, Key, key_of, entry_cmp}
+use Rattle.crs_base.proofs.Words.{in_from_each, each_from_in, in_append_left, in_append_right}
+use Rattle.crs_base.proofs.KeyOrder.{key_exact}
+use Rattle.crs_model.specs.Matching.{AreDistinct}
+use Rattle.crs_model.specs.Order.{put_in_order}
+use Rattle.crs_model.specs.Open.{before}
+use Rattle.crs_buffer.proofs.Sorted.{date_of_less}
+use Rattle.crs_engine.specs.Engines.{since}
+
+-- ---- parts of an ordered list
+
+module _ {A : Type 0} (R : A → A → Type 0) where
+  pub ordered_left : (xs ys : List A) → Ordered R (xs ++ ys) → Ordered R xs
+  ordered_left [] ys h = tt
+  ordered_left (x ∷ xs) ys h = (each_from_in (R x) xs (λ z i. in_from_each (R x) (xs ++ ys) h.0 z (in_append_left xs ys z i)), ordered_left xs ys h.1)
+
+  pub ordered_right : (xs ys : List A) → Ordered R (xs ++ ys) → Ordered R ys
+  ordered_right [] ys h = h
+  ordered_right (x ∷ xs) ys h = ordered_right xs ys h.1
+
+  pub ordered_cross : (xs ys : List A) → Ordered R (xs ++ ys) → (x y : A) → IsIn x xs → IsIn y ys → R x y
+  ordered_cross [] ys h x y i j = absurd i
+  ordered_cross (z ∷ xs) ys h x y (inl e) j = subst (λ (t : A). R t y) (sym e) (in_from_each (R z) (xs ++ ys) h.0 y (in_append_right xs ys y j))
+  ordered_cross (z ∷ xs) ys h x y (inr i) j = ordered_cross xs ys h.1 x y i j
+
+  pub ordered_to : (Q : A → A → Type 0) → ((x y : A) → R x y → Q x y) → (xs : List A) → Ordered R xs → Ordered Q xs
+  ordered_to Q f [] h = tt
+  ordered_to Q f (x ∷ xs) h = (each_from_in (Q x) xs (λ y i. f x y (in_from_each (R x) xs h.0 y i)), ordered_to Q f xs h.1)
+
+pub each_parts : {A : Type 0} (P : A → Type 0) (xs ys : List A) → AllByRecursion P (xs ++ ys) → AllByRecursion P xs × AllByRecursion P ys
+each_parts P [] ys h = (tt, h)
+each_parts P (x ∷ xs) ys h = let r = each_parts P xs ys h.1 in ((h.0, r.0), r.1)
+
+pub each_join : {A : Type 0} (P : A → Type 0) (xs ys : List A) → AllByRecursion P xs → AllByRecursion P ys → AllByRecursion P (xs ++ ys)
+each_join P [] ys h k = k
+each_join P (x ∷ xs) ys h k = (h.0, each_join P xs ys h.1 k)
+
+pub each_to : {A : Type 0} (P Q : A → Type 0) → ((x : A) → P x → Q x) → (xs : List A) → AllByRecursion P xs → AllByRecursion Q xs
+each_to P Q f [] h = tt
+each_to P Q f (x ∷ xs) h = (f x h.0, each_to P Q f xs h.1)
+
+-- ---- keys
+
+pub less_by_date : (a b : Entry Sym) → a.date < b.date → entry_cmp a b ≡ Less
+less_by_date a b l = ap (λ (t : Bool). ordering_then (cond t Less (cond (a.date == b.date) Equal Greater)) (ordering_then (slice_cmp nat_cmp a.text b.text) (nat_cmp a.arrival b.arrival))) (lt-ltb a.date b.date l)
+
+pub keys_differ : (a b : Entry Sym) → (a.arrival ≡ b.arrival → ⊥) → entry_cmp a b ≡ Equal → ⊥
+keys_differ a b never e = never (ap (λ (k : Key). k.arrival) (key_exact (key_of a) (key_of b) e))
+
+pub in_dates : (es : List (Entry Sym)) → Ordered (λ x y. entry_cmp x y ≡ Less) es → Ordered (λ x y. x.date ≤ y.date) es
+in_dates es h = ordered_to (λ x y. entry_cmp x y ≡ Less) (λ x y. x.date ≤ y.date) date_of_less es h
+
+-- ---- one more in order
+
+put_cases : (P : List (Entry Sym) → Type 0) (e x : Entry Sym) (xs : List (Entry Sym)) → P (e ∷ x ∷ xs) → P (x ∷ put_in_order e xs) → P (put_in_order e (x ∷ xs))
+put_cases P e x xs first later = by (is_lt (entry_cmp e x))
+  where
+    by : (b : Bool) → P (cond b (e ∷ x ∷ xs) (x ∷ put_in_order e xs))
+    by true = first
+    by false = later
+
+module _ (e : Entry Sym) where
+  pub put_each : (P : Entry Sym → Type 0) (xs : List (Entry Sym)) → P e → AllByRecursion P xs → AllByRecursion P (put_in_order e xs)
+  put_each P [] p h = (p, tt)
+  put_each P (x ∷ xs) p h = put_cases (λ t. AllByRecursion P t) e x xs (p, (h.0, h.1)) (h.0, put_each P xs p h.1)
+
+  pub put_distinct : (xs : List (Entry Sym)) → AllByRecursion (λ x. e.arrival ≢ x.arrival) xs → AreDistinct xs → AreDistinct (put_in_order e xs)
+  put_distinct [] a d = (tt, tt)
+  put_distinct (x ∷ xs) a d = put_cases (λ t. AreDistinct t) e x xs (a, d) (put_each (λ y. x.arrival ≢ y.arrival) xs (λ s. a.0 (sym s)) d.0, put_distinct xs a.1 d.1)
+
+  pub in_put_new : (xs : List (Entry Sym)) → IsIn e (put_in_order e xs)
+  in_put_new [] = inl refl
+  in_put_new (x ∷ xs) = put_cases (λ t. IsIn e t) e x xs (inl refl) (inr (in_put_new xs))
+
+  pub in_put_old : (xs : List (Entry Sym)) (y : Entry Sym) → IsIn y xs → IsIn y (put_in_order e xs)
+  in_put_old [] y i = absurd i
+  in_put_old (x ∷ xs) y (inl s) = put_cases (λ t. IsIn y t) e x xs (inr (inl s)) (inl s)
+  in_put_old (x ∷ xs) y (inr j) = put_cases (λ t. IsIn y t) e x xs (inr (inr j)) (inr (in_put_old xs y j))
+
+-- ---- parted at a date
+
+pub before_parts : (h : ℕ) (done rest : List (Entry Sym)) → AllByRecursion (λ x. x.date < h) done → AllByRecursion (λ x. h ≤ x.date) rest → before h (done ++ rest) ≡ done
+before_parts h [] [] a b = refl
+before_parts h [] (x ∷ rest) a b = ap (λ (t : Bool). cond t (x ∷ before h rest) (before h rest)) (le-ltb x.date h b.0) ∙ before_parts h [] rest tt b.1
+before_parts h (x ∷ done) rest a b = ap (λ (t : Bool). cond t (x ∷ before h (done ++ rest)) (before h (done ++ rest))) (lt-ltb x.date h a.0) ∙ ap (λ (t : List (Entry Sym)). x ∷ t) (before_parts h done rest a.1 b)
+
+pub since_parts : (h : ℕ) (done rest : List (Entry Sym)) → AllByRecursion (λ x. x.date < h) done → AllByRecursion (λ x. h ≤ x.date) rest → since h (done ++ rest) ≡ rest
+since_parts h [] [] a b = refl
+since_parts h [] (x ∷ rest) a b = ap (λ (t : Bool). cond (not t) (x ∷ since h rest) (since h rest)) (le-ltb x.date h b.0) ∙ ap (λ (t : List (Entry Sym)). x ∷ t) (since_parts h [] rest tt b.1)
+since_parts h (x ∷ done) rest a b = ap (λ (t : Bool). cond (not t) (x ∷ since h (done ++ rest)) (since h (done ++ rest))) (lt-ltb x.date h a.0) ∙ since_parts h done rest a.1 b

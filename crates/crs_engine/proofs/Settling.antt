@@ -1,0 +1,112 @@
+-- The entries that are settled one after another, and all stores' part in it.
+use Rattle.std.proofs.Common.{◌≡◌, ℕ, ◌<◌, ◌≤◌, ◌^◌, List, [], ◌∷◌, ◌++◌, length, refl, sym, ap, subst, ◌∙◌, arith, append_assoc, cond, nat_lt, Bool, true, false}
+use Rattle.std.specs.Prelude.{Some, None}
+use Rattle.std.specs.List.{AllByRecursion}
+use Rattle.std.proofs.lemmas.Bool.{ltb-true}
+use Rattle.crs_base.specs.declared.symbols.Sym.{Sym}
+use Rattle.crs_base.specs.Entry.{Entry}
+use Rattle.crs_model.specs.declared.recognition.Mark.{Mark}
+use Rattle.crs_model.specs.declared.recognition.Recognition.{Recognition}
+use Rattle.crs_buffer.specs.Entries.{released, left}
+use Rattle.crs_store.specs.Stores.{StoreState, IsSameStore}
+use Rattle.crs_store.specs.Answers.{IsAdvanced}
+use Rattle.crs_engine.specs.Moves.{AreSameStores, AreOffered, AreOfferedAll, AreSettled, IsRestOf, AreAdvanced}
+
+pub same_all : (ss : List StoreState) → AreSameStores ss ss
+same_all [] = tt
+same_all (s ∷ ss) = (record { plan = refl; number = refl }, same_all ss)
+
+pub same_on : (xs ys zs : List StoreState) → AreSameStores xs ys → AreSameStores ys zs → AreSameStores xs zs
+same_on [] [] zs h k = k
+same_on [] (y ∷ ys) zs h k = absurd h
+same_on (x ∷ xs) [] zs h k = absurd h
+same_on (x ∷ xs) (y ∷ ys) [] h k = absurd k
+same_on (x ∷ xs) (y ∷ ys) (z ∷ zs) h k = (record { plan = (k.0).plan ∙ (h.0).plan; number = (k.0).number ∙ (h.0).number }, same_on xs ys zs h.1 k.1)
+
+-- one more entry
+offered_more : (olds : List StoreState) (xs : List (Entry Sym)) (x : Entry Sym) (news next : List StoreState) → AreOfferedAll olds xs news → AreOffered news x next → AreOfferedAll olds (xs ++ x ∷ []) next
+offered_more olds [] x news next h k = (next, subst (λ (t : List StoreState). AreOffered t x next) h k, refl)
+offered_more olds (y ∷ xs) x news next h k = (h.0, h.1, offered_more h.0 xs x news next h.2 k)
+
+each_more : {A : Type 0} (P : A → Type 0) (xs : List A) (x : A) → AllByRecursion P xs → P x → AllByRecursion P (xs ++ x ∷ [])
+each_more P [] x h p = (p, tt)
+each_more P (y ∷ xs) x h p = (h.0, each_more P xs x h.1 p)
+
+abbrev pub IsSmall : Entry Sym → Type 0
+IsSmall x = x.date < 2 ^ 40
+
+-- what is known while entries are settled
+pub record AreSettledSoFar (olds : List StoreState) (held : List (Entry Sym)) (h : ℕ) (news : List StoreState) (rest : List (Entry Sym)) : Type 0 where
+  pub same : AreSameStores olds news
+  pub small : AllByRecursion IsSmall rest
+  pub done : List (Entry Sym)
+  pub parted : held ≡ done ++ rest
+  pub done_before : AllByRecursion (λ x. x.date < h) done
+  pub offered : AreOfferedAll olds done news
+
+pub settled_none : (olds : List StoreState) (held : List (Entry Sym)) (h : ℕ) → AllByRecursion IsSmall held → AreSettledSoFar olds held h olds held
+settled_none olds held h small = record { same = same_all olds; small = small; done = []; parted = refl; done_before = tt; offered = refl }
+
+-- an entry comes out where it is the first, and dated before h
+came_out : (es : List (Entry Sym)) (h : ℕ) (x : Entry Sym) → released es h ≡ Some x → (es ≡ x ∷ left es h) × (x.date < h)
+came_out [] h x e = absurd cc
+came_out (y ∷ es) h x e = by (nat_lt y.date h) refl e
+  where
+    by : (b : Bool) → nat_lt y.date h ≡ b → cond b (Some y) None ≡ Some x → (y ∷ es ≡ x ∷ cond b es (y ∷ es)) × (x.date < h)
+    by true t e = let s : y ≡ x = cc in (ap (λ (z : Entry Sym). z ∷ es) s, subst (λ (z : Entry Sym). z.date < h) s (ltb-true y.date h t))
+    by false t e = absurd cc
+
+none_out : (es : List (Entry Sym)) (h : ℕ) → released es h ≡ None → left es h ≡ es
+none_out [] h e = refl
+none_out (y ∷ es) h e = by (nat_lt y.date h) e
+  where
+    by : (b : Bool) → cond b (Some y) None ≡ None → cond b es (y ∷ es) ≡ y ∷ es
+    by true e = absurd cc
+    by false e = refl
+
+pub out_small : (es : List (Entry Sym)) (h : ℕ) (x : Entry Sym) → released es h ≡ Some x → AllByRecursion IsSmall es → IsSmall x
+out_small es h x e small = (subst (AllByRecursion IsSmall) (came_out es h x e).0 small).0
+
+pub out_shorter : (es rest : List (Entry Sym)) (h : ℕ) (x : Entry Sym) → released es h ≡ Some x → rest ≡ left es h → length rest < length es
+out_shorter es rest h x e r = let a = ap length (came_out es h x e).0 in let b = ap length r in omega arith
+
+module _ (olds : List StoreState) (held : List (Entry Sym)) (h : ℕ) (news : List StoreState) (rest : List (Entry Sym)) (so : AreSettledSoFar olds held h news rest) (x : Entry Sym) (after : List (Entry Sym)) (e : released rest h ≡ Some x) (r : after ≡ left rest h) where
+  cut : rest ≡ x ∷ after
+  cut = (came_out rest h x e).0 ∙ ap (λ (t : List (Entry Sym)). x ∷ t) (sym r)
+
+  parted_more : held ≡ (so.done ++ x ∷ []) ++ after
+  parted_more = so.parted ∙ ap (λ (t : List (Entry Sym)). so.done ++ t) cut ∙ sym (append_assoc so.done (x ∷ []) after)
+
+  pub settled_on : (next : List StoreState) → AreSameStores news next → AreOffered news x next → AreSettledSoFar olds held h next after
+  settled_on next same offered = record {
+    same = same_on olds news next so.same same;
+    small = (subst (AllByRecursion IsSmall) cut so.small).1;
+    done = so.done ++ x ∷ [];
+    parted = parted_more;
+    done_before = each_more (λ y. y.date < h) so.done x so.done_before (came_out rest h x e).1;
+    offered = offered_more olds so.done x news next so.offered offered;
+  }
+
+  pub rest_of : IsRestOf held after
+  rest_of = (so.done ++ x ∷ [], parted_more)
+
+pub settled_all : (olds : List StoreState) (held : List (Entry Sym)) (h : ℕ) (news : List StoreState) (rest after : List (Entry Sym)) → AreSettledSoFar olds held h news rest → released rest h ≡ None → after ≡ left rest h → AllByRecursion (λ x. h ≤ x.date) rest → AreSettled olds held h news after
+settled_all olds held h news rest after so e r late =
+    let same : after ≡ rest = r ∙ none_out rest h e in
+    subst (λ (t : List (Entry Sym)). AreSettled olds held h news t) (sym same) (record { same = so.same; done = so.done; parted = so.parted; done_before = so.done_before; rest_after = late; offered = so.offered })
+
+pub rest_after_none : (olds : List StoreState) (held : List (Entry Sym)) (h : ℕ) (news : List StoreState) (rest after : List (Entry Sym)) → AreSettledSoFar olds held h news rest → released rest h ≡ None → after ≡ left rest h → IsRestOf held after
+rest_after_none olds held h news rest after so e r = (so.done, so.parted ∙ ap (λ (t : List (Entry Sym)). so.done ++ t) (sym (r ∙ none_out rest h e)))
+
+-- ---- lists of stores
+
+pub same_first : (ss : List StoreState) (o n : StoreState) (rest : List StoreState) → ss ≡ o ∷ rest → IsSameStore o n → AreSameStores ss (n ∷ rest)
+same_first ss o n rest e h = subst (λ (t : List StoreState). AreSameStores t (n ∷ rest)) (sym e) (h, same_all rest)
+
+pub advanced_more : (h : ℕ) (mark : Mark) (ss : List StoreState) (o n : StoreState) (rest news : List StoreState) (first was mid new : List Recognition) → ss ≡ o ∷ rest → mid ≡ was ++ first → IsAdvanced o h mark n first → ((more : List Recognition) × (new ≡ mid ++ more) × AreAdvanced h mark rest news more) →
+    (x : List Recognition) × (new ≡ was ++ x) × AreAdvanced h mark ss (n ∷ news) x
+advanced_more h mark ss o n rest news first was mid new e m adv k = (
+  first ++ k.0,
+  k.1 ∙ ap (λ (t : List Recognition). t ++ k.0) m ∙ append_assoc was first k.0,
+  subst (λ (t : List StoreState). AreAdvanced h mark t (n ∷ news) (first ++ k.0)) (sym e) (n, news, first, k.0, refl, refl, adv, k.2),
+)

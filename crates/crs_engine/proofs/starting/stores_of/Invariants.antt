@@ -1,0 +1,5 @@
+use Rattle.crs_engine.proofs.Beginning.{AreStartedBelow}
+use Rattle.crs_engine.proofs.starting.stores_of.Given as goal
+
+abbrev pub invariant-loop-number : goal.invariant-loop-number
+invariant-loop-number l = AreStartedBelow l.number l.plans l.stores.items

@@ -1,0 +1,101 @@
+-- Engines, and what they stand for.
+use Rattle.std.specs.Prelude.{◌≡◌, ◌<◌, ◌≤◌, ◌+◌, ◌-◌, ◌^◌, ◌↔◌, ℕ, suc, List, [], ◌∷◌, ◌++◌, map, filter, not, nat_lt, min, sum, length, Bool, false}
+use Rattle.std.specs.List.{AllByRecursion, AllZip}
+use Rattle.std.specs.declared.cmp.Ordering.TheVariants.{Less}
+use Rattle.crs_base.specs.declared.symbols.Sym.{Sym}
+use Rattle.crs_base.specs.Words.{IsIn, Ordered}
+use Rattle.crs_base.specs.Entry.{Entry, entry_cmp}
+use Rattle.crs_model.specs.declared.plan.Plan.{Plan}
+use Rattle.crs_model.specs.declared.plan.Plans.{Plans}
+use Rattle.crs_model.specs.Matching.{AreDistinct}
+use Rattle.crs_store.specs.Stores.{StoreState, Stands}
+
+-- an engine, as contracts see it
+pub record EngineState : Type 0 where
+  pub plans : Plans
+  pub stores : List StoreState
+  pub waiting : List (Entry Sym)
+  pub delay : ℕ
+  pub last : ℕ
+  pub horizon : ℕ
+  pub accepted : ℕ
+  pub limit : ℕ
+  pub stopped : Bool
+
+abbrev pub plans_of : Plans → List Plan
+plans_of ps = map (λ r. r.value) ps.plans
+
+module _ {S : Type 0} where
+  -- the entries dated at or after h
+  abbrev pub since : ℕ → List (Entry S) → List (Entry S)
+  since h entries = filter (λ e. not (nat_lt e.date h)) entries
+
+  -- the arrival numbers are the numbers below n, each once
+  pub record HaveNumbersBelow (n : ℕ) (entries : List (Entry S)) : Type 0 where
+    pub distinct : AreDistinct entries
+    pub numbers : (k : ℕ) → (k < n) ↔ IsIn k (map (λ e. e.arrival) entries)
+
+-- a store of the plan that stands for the entries settled at h
+abbrev pub IsStoreAt : List (Entry Sym) → ℕ → Plan → StoreState → Type 0
+IsStoreAt settled h p s = (s.plan ≡ p) × Stands s settled settled settled h h
+
+-- The settled entries are dated before the horizon and the waiting ones at or after it. All are in key order, and have the arrival numbers below the count of accepted ones. The buffer holds the waiting ones, and each plan's store stands for the settled ones.
+pub record StandsFor (e : EngineState) (settled waiting : List (Entry Sym)) : Type 0 where
+  pub settled_before : AllByRecursion (λ x. x.date < e.horizon) settled
+  pub waiting_after : AllByRecursion (λ x. e.horizon ≤ x.date) waiting
+  pub in_order : Ordered (λ x y. entry_cmp x y ≡ Less) (settled ++ waiting)
+  pub numbered : HaveNumbersBelow e.accepted (settled ++ waiting)
+  pub held : e.waiting ≡ waiting
+  pub stores : AllZip (IsStoreAt settled e.horizon) (plans_of e.plans) e.stores
+
+-- how many partial assignments are held, or 2^64 - 1 where there are more
+abbrev pub kept_of : EngineState → ℕ
+kept_of e = min (sum (map (λ s. length s.held) e.stores)) (2 ^ 64 - 1)
+
+-- an engine of the plans at the start
+pub record IsNewEngine (plans : Plans) (limit : ℕ) (e : EngineState) : Type 0 where
+  pub same_plans : e.plans ≡ plans
+  pub same_limit : e.limit ≡ limit
+  pub no_delay : e.delay ≡ 0
+  pub no_clock : e.last ≡ 0
+  pub at_start : e.horizon ≡ 0
+  pub none_accepted : e.accepted ≡ 0
+  pub running : e.stopped ≡ false
+
+-- the stores are those of the plans, numbered from n
+abbrev pub AreStoresOf : List Plan → ℕ → List StoreState → Type 0
+AreStoresOf [] n [] = Unit {0}
+AreStoresOf [] n (s ∷ ss) = ⊥
+AreStoresOf (p ∷ ps) n [] = ⊥
+AreStoresOf (p ∷ ps) n (s ∷ ss) = (s.plan ≡ p) × (s.number ≡ n) × AreStoresOf ps (suc n) ss
+
+-- it is dated below 2^40, and arrived before the n-th
+pub record IsWaiting (n : ℕ) (x : Entry Sym) : Type 0 where
+  pub dated : x.date < 2 ^ 40
+  pub arrived : x.arrival < n
+
+-- what holds of each engine
+pub record IsEngine (e : EngineState) : Type 0 where
+  pub stores : AreStoresOf (plans_of e.plans) 0 e.stores
+  pub waiting : AllByRecursion (IsWaiting e.accepted) e.waiting
+  pub few : e.accepted ≤ e.limit
+  pub not_late : e.horizon ≤ 2 ^ 42
+  pub behind : e.last < 2 ^ 40 → e.horizon ≤ e.last - e.delay
+
+-- an entry was accepted
+pub record HasAccepted (old new : EngineState) : Type 0 where
+  pub same_plans : new.plans ≡ old.plans
+  pub same_limit : new.limit ≡ old.limit
+  pub same_delay : new.delay ≡ old.delay
+  pub same_clock : new.last ≡ old.last
+  pub same_horizon : new.horizon ≡ old.horizon
+  pub one_more : new.accepted ≡ old.accepted + 1
+
+-- the clock moved on to t, and the horizon to h
+pub record HasMoved (old new : EngineState) (t h : ℕ) : Type 0 where
+  pub same_plans : new.plans ≡ old.plans
+  pub same_limit : new.limit ≡ old.limit
+  pub same_delay : new.delay ≡ old.delay
+  pub same_count : new.accepted ≡ old.accepted
+  pub clock : new.last ≡ t
+  pub moved : new.horizon ≡ h

@@ -1,0 +1,4 @@
+pub mod Engines
+pub mod Refusals
+pub mod Marks
+pub mod Moves

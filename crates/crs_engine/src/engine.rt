@@ -1,0 +1,233 @@
+ghost use Rattle.std.specs.Prelude.{◌≡◌, ◌<◌, ◌≤◌, ◌-◌, ◌^◌, ◌↔◌, ◌⊎◌, [], length, IsTrue, IsSome, OnOk, IfOk, Err, false, List as Items};
+ghost use Rattle.std.specs.List.{AllByRecursion};
+ghost use Rattle.crs_base.specs.declared.symbols.Sym.{Sym};
+ghost use Rattle.crs_base.specs.Entry.{Entry as LogEntry};
+ghost use Rattle.crs_base.specs.Seen.{entry_of};
+ghost use Rattle.crs_model.specs.Order.{put_in_order};
+ghost use Rattle.crs_model.specs.Plans.{chronicle, IsProper};
+ghost use Rattle.crs_model.specs.declared.recognition.Mark.TheVariants.{Clock, Finish};
+ghost use Rattle.crs_engine.specs.Engines.{EngineState, StandsFor, IsNewEngine, HasAccepted, HasMoved, kept_of, plans_of};
+ghost use Rattle.crs_engine.specs.Refusals.{test_refusal, accept_refusal, clock_refusal, finish_refusal, answer_by, IsRefusedAs};
+ghost use Rattle.crs_engine.specs.Marks.{AfterMark};
+ghost use Rattle.crs_engine.specs.declared.refused.Refused.{Refused};
+ghost use Rattle.crs_engine.specs.declared.refused.Refused.TheVariants.{Memory};
+
+use crate::moving::{hold, mark_all};
+use crate::refused::Refused;
+use crate::starting::stores_of;
+use crate::sums::kept_by;
+use crs_base::{Entry, List};
+use crs_buffer::Buffer;
+use crs_model::{Mark, Plans, Recognition};
+use crs_store::Store;
+use std::alloc::{AllocError, Global};
+use std::marker::Model;
+
+/// The horizon and the clock after the end, in ticks: 2^42, above every date.
+const END: u64 = 4_398_046_511_104;
+
+/// The recogniser of some plans over one stream of entries. Dates, the clock and the horizon are
+/// ticks of the log's clock.
+#[derive(Drop)]
+pub struct Engine {
+    plans: Plans,
+    stores: Vec<Store>,
+    buffer: Buffer,
+    delay: u64,
+    last: u64,
+    horizon: u64,
+    accepted: u32,
+    limit: u32,
+    stopped: bool,
+    alloc: Global,
+}
+
+impl Model for Engine {
+    ghost use Rattle.crs_engine.specs.Engines.{EngineState, IsEngine};
+
+    ghost Value = { EngineState };
+
+    ghost view = { λ e. record { plans = e.plans; stores = e.stores.items; waiting = e.buffer; delay = e.delay; last = e.last; horizon = e.horizon; accepted = e.accepted; limit = e.limit; stopped = e.stopped } };
+
+    ghost invariant = { λ e. IsEngine (record { plans = e.plans; stores = e.stores.items; waiting = e.buffer; delay = e.delay; last = e.last; horizon = e.horizon; accepted = e.accepted; limit = e.limit; stopped = e.stopped }) };
+}
+
+impl Engine {
+    /// An engine that accepted nothing, and will accept at most `limit` entries.
+    pub fn new(alloc: Global, plans: Plans, limit: u32) -> Result<Engine, AllocError>
+        requires proper { AllByRecursion (λ r. IsProper r.value) plans.plans }
+        requires windowless { AllByRecursion (λ r. (chronicle r.value).windows ≡ []) plans.plans }
+        requires few { length plans.plans ≤ 64 }
+        ensures new { IfOk result (IsNewEngine plans limit) }
+        ensures stands { IfOk result (λ e. StandsFor e [] []) }
+    {
+        let stores = stores_of(alloc, plans.plans.as_slice())?;
+        Ok(Engine {
+            plans,
+            stores,
+            buffer: Buffer::new(alloc),
+            delay: 0,
+            last: 0,
+            horizon: 0,
+            accepted: 0,
+            limit,
+            stopped: false,
+            alloc,
+        })
+    }
+
+    pub fn plans(&self) -> &Plans
+        ensures { result.now ≡ self.now.plans }
+    {
+        &self.plans
+    }
+
+    /// Entries dated before it are settled.
+    pub fn horizon(&self) -> u64
+        ensures { result ≡ self.now.horizon }
+    {
+        self.horizon
+    }
+
+    /// How many entries were accepted.
+    pub fn accepted(&self) -> u32
+        ensures { result ≡ self.now.accepted }
+    {
+        self.accepted
+    }
+
+    /// Whether as many entries were accepted as may be.
+    pub fn is_full(&self) -> bool
+        ensures { IsTrue result ↔ (self.now.accepted ≡ self.now.limit) }
+    {
+        self.accepted == self.limit
+    }
+
+    /// How many partial instances are held, or 2^64 - 1 where there are more.
+    pub fn kept(&self) -> u64
+        ensures { result ≡ kept_of self.now }
+    {
+        kept_by(self.stores.as_slice())
+    }
+
+    /// How many ticks the horizon lags behind the clock.
+    pub fn set_delay(&mut self, d: u64)
+        requires small { d < 2 ^ 40 }
+        requires none { self.old.accepted ≡ 0 }
+        requires no_clock { self.old.last ≡ 0 }
+        requires at_start { self.old.horizon ≡ 0 }
+        ensures value { self.new ≡ record self.old { delay = d } }
+        ensures stands { (settled : Items (LogEntry Sym)) (waiting : Items (LogEntry Sym)) → StandsFor self.old settled waiting → StandsFor self.new settled waiting }
+    {
+        self.delay = d;
+    }
+
+    /// Whether an entry of this date comes too late.
+    pub fn test_date(&self, date: u64) -> Result<(), Refused>
+        ensures { result ≡ answer_by (test_refusal self.now date) }
+    {
+        if self.stopped {
+            return Err(Refused::Stopped);
+        }
+        if date < self.horizon {
+            return Err(Refused::Late {
+                date,
+                horizon: self.horizon,
+            });
+        }
+        Ok(())
+    }
+
+    /// Takes in the next entry.
+    pub fn accept(&mut self, entry: Entry) -> Result<(), Refused>
+        requires next { entry.arrival ≡ self.old.accepted }
+        requires date { entry.date < 2 ^ 40 }
+        ensures refused { IsRefusedAs (accept_refusal self.old entry.date) result }
+        ensures unchanged { IsSome (accept_refusal self.old entry.date) → self.new ≡ self.old }
+        ensures raised { IsTrue self.new.stopped ↔ (IsTrue self.old.stopped ⊎ (result ≡ Err Memory)) }
+        ensures accepted { OnOk result (HasAccepted self.old self.new) }
+        ensures stands { OnOk result ((settled : Items (LogEntry Sym)) (waiting : Items (LogEntry Sym)) → StandsFor self.old settled waiting → StandsFor self.new settled (put_in_order (entry_of entry) waiting)) }
+    {
+        if self.stopped {
+            return Err(Refused::Stopped);
+        }
+        if entry.date < self.horizon {
+            return Err(Refused::Late {
+                date: entry.date,
+                horizon: self.horizon,
+            });
+        }
+        if self.accepted == self.limit {
+            return Err(Refused::Full { limit: self.limit });
+        }
+        match hold(self.alloc, &mut self.buffer, entry) {
+            Ok(()) => {
+                self.accepted += 1;
+                Ok(())
+            }
+            Err(_) => {
+                self.stopped = true;
+                Err(Refused::Memory)
+            }
+        }
+    }
+
+    /// Moves the clock on, and answers what is newly recognised, with this clock as the mark.
+    pub fn clock(&mut self, t: u64) -> Result<List<Recognition>, Refused>
+        requires { t < 2 ^ 40 }
+        ensures refused { IsRefusedAs (clock_refusal self.old t) result }
+        ensures unchanged { IsSome (clock_refusal self.old t) → self.new ≡ self.old }
+        ensures raised { IsTrue self.new.stopped ↔ (IsTrue self.old.stopped ⊎ (result ≡ Err Memory)) }
+        ensures moved { OnOk result (HasMoved self.old self.new t (t - self.old.delay)) }
+        ensures marked { IfOk result (λ answer. (settled : Items (LogEntry Sym)) (waiting : Items (LogEntry Sym)) → StandsFor self.old settled waiting → AfterMark self.old self.new (Clock t) settled waiting answer) }
+    {
+        if self.stopped {
+            return Err(Refused::Stopped);
+        }
+        if t < self.last {
+            return Err(Refused::Back { t, last: self.last });
+        }
+        let h = t.saturating_sub(self.delay);
+        self.move_on(t, h, Mark::Clock(t))
+    }
+
+    /// Settles all entries, and answers what is newly recognised. From then on each date is late,
+    /// each clock is back, and a further call answers nothing.
+    pub fn finish(&mut self) -> Result<List<Recognition>, Refused>
+        ensures refused { IsRefusedAs (finish_refusal self.old) result }
+        ensures unchanged { IsSome (finish_refusal self.old) → self.new ≡ self.old }
+        ensures raised { IsTrue self.new.stopped ↔ (IsTrue self.old.stopped ⊎ (result ≡ Err Memory)) }
+        ensures moved { OnOk result (HasMoved self.old self.new (2 ^ 42) (2 ^ 42)) }
+        ensures marked { IfOk result (λ answer. (settled : Items (LogEntry Sym)) (waiting : Items (LogEntry Sym)) → StandsFor self.old settled waiting → AfterMark self.old self.new Finish settled waiting answer) }
+        ensures again { self.old.horizon ≡ 2 ^ 42 → IfOk result (λ answer. (settled : Items (LogEntry Sym)) (waiting : Items (LogEntry Sym)) → StandsFor self.old settled waiting → answer ≡ []) }
+    {
+        if self.stopped {
+            return Err(Refused::Stopped);
+        }
+        self.move_on(END, END, Mark::Finish)
+    }
+
+    /// Moves the clock on to `t`, and the horizon to `h`.
+    fn move_on(&mut self, t: u64, h: u64, mark: Mark) -> Result<List<Recognition>, Refused>
+        requires running { self.old.stopped ≡ false }
+        requires forward { self.old.horizon ≤ h }
+        requires small { h ≤ 2 ^ 42 }
+        requires behind { t < 2 ^ 40 → h ≤ t - self.old.delay }
+        ensures refused { (r : Refused) → result ≡ Err r → r ≡ Memory }
+        ensures raised { IsTrue self.new.stopped ↔ (result ≡ Err Memory) }
+        ensures moved { OnOk result (HasMoved self.old self.new t h) }
+        ensures marked { IfOk result (λ answer. (settled : Items (LogEntry Sym)) (waiting : Items (LogEntry Sym)) → StandsFor self.old settled waiting → AfterMark self.old self.new mark settled waiting answer) }
+    {
+        match mark_all(self.alloc, &mut self.stores, &mut self.buffer, h, mark) {
+            Ok(answer) => {
+                self.last = t;
+                self.horizon = h;
+                Ok(answer)
+            }
+            Err(_) => {
+                self.stopped = true;
+                Err(Refused::Memory)
+            }
+        }
+    }
+}

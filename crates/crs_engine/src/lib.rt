@@ -1,0 +1,14 @@
+//! The recogniser: all chronicles over one stream of entries.
+#![tactic(auto)]
+
+mod engine;
+mod moving;
+mod refused;
+mod starting;
+mod sums;
+
+pub use engine::Engine;
+pub use refused::Refused;
+
+#[cfg(test)]
+mod tests;

@@ -1,0 +1,117 @@
+ghost use Rattle.std.specs.Prelude.{◌≡◌, ◌<◌, ◌≤◌, ◌^◌, ◌++◌, OnOk, OnErr, IfOk, List as Items};
+ghost use Rattle.std.specs.List.{AllByRecursion};
+ghost use Rattle.crs_base.specs.Seen.{entry_of};
+ghost use Rattle.crs_model.specs.declared.recognition.Recognition.{Recognition};
+ghost use Rattle.crs_engine.specs.Moves.{AreSameStores, AreOffered, AreSettled, IsRestOf, AreAdvanced, AreMarked};
+ghost use Rattle.crs_buffer.specs.Entries.{Ascends, IsNewKey};
+ghost use Rattle.crs_model.specs.Order.{put_in_order};
+
+use crate::refused::NoMemory;
+use crs_base::{Entry, List};
+use crs_buffer::Buffer;
+use crs_model::{Mark, Recognition};
+use crs_store::Store;
+use std::alloc::{AllocError, Global};
+use std::rc::Rc;
+
+/// Offers the entry to each store.
+fn offer_all(stores: &mut [Store], entry: &Rc<Entry>) -> Result<(), NoMemory>
+    requires { entry.now.value.date < 2 ^ 40 }
+    ensures same { AreSameStores stores.old stores.new }
+    ensures offered { OnOk result (AreOffered stores.old (entry_of entry.now.value) stores.new) }
+{
+    match stores.split_first_mut() {
+        None => Ok(()),
+        Some((first, rest)) => {
+            first.offer(entry)?;
+            offer_all(rest, entry)
+        }
+    }
+}
+
+/// Takes the entries dated before `h` out of the buffer in key order, and offers each to all stores.
+pub(crate) fn settle(stores: &mut [Store], buffer: &mut Buffer, h: u64) -> Result<(), NoMemory>
+    requires { AllByRecursion (λ x. x.date < 2 ^ 40) buffer.old }
+    ensures same { AreSameStores stores.old stores.new }
+    ensures rest { IsRestOf buffer.old buffer.new }
+    ensures settled { OnOk result (AreSettled stores.old buffer.old h stores.new buffer.new) }
+{
+    while let Some(entry) = buffer.release_before(h) {
+        offer_all(stores, &entry)?;
+    }
+    Ok(())
+}
+
+/// Adds the items at the end of the list.
+fn push_all(list: &mut List<Recognition>, items: List<Recognition>) -> Result<(), AllocError>
+    ensures { OnOk result (list.new ≡ list.old ++ items) }
+{
+    for item in items.into_vec() {
+        list.push(item)?;
+    }
+    Ok(())
+}
+
+/// Moves each store on to the horizon `h`, and adds their answers in turn.
+fn advance_all(
+    answer: &mut List<Recognition>,
+    stores: &mut [Store],
+    h: u64,
+    mark: Mark,
+) -> Result<(), NoMemory>
+    requires { h ≤ 2 ^ 42 }
+    ensures same { AreSameStores stores.old stores.new }
+    ensures advanced { OnOk result ((more : Items Recognition) × (answer.new ≡ answer.old ++ more) × AreAdvanced h mark stores.old stores.new more) }
+{
+    match stores.split_first_mut() {
+        None => Ok(()),
+        Some((first, rest)) => {
+            push_all(answer, first.advance(h, mark)?)?;
+            advance_all(answer, rest, h, mark)
+        }
+    }
+}
+
+/// Moves all stores on to the horizon `h`, and answers what is newly recognised.
+pub(crate) fn advance(
+    alloc: Global,
+    stores: &mut [Store],
+    h: u64,
+    mark: Mark,
+) -> Result<List<Recognition>, NoMemory>
+    requires { h ≤ 2 ^ 42 }
+    ensures same { AreSameStores stores.old stores.new }
+    ensures advanced { IfOk result (AreAdvanced h mark stores.old stores.new) }
+{
+    let mut answer = List::new(alloc);
+    advance_all(&mut answer, stores, h, mark)?;
+    Ok(answer)
+}
+
+/// Settles the entries dated before `h`, and moves all stores on to it.
+pub(crate) fn mark_all(
+    alloc: Global,
+    stores: &mut [Store],
+    buffer: &mut Buffer,
+    h: u64,
+    mark: Mark,
+) -> Result<List<Recognition>, NoMemory>
+    requires small { AllByRecursion (λ x. x.date < 2 ^ 40) buffer.old }
+    requires horizon { h ≤ 2 ^ 42 }
+    ensures same { AreSameStores stores.old stores.new }
+    ensures rest { IsRestOf buffer.old buffer.new }
+    ensures marked { IfOk result (AreMarked h mark stores.old buffer.old stores.new buffer.new) }
+{
+    settle(stores, buffer, h)?;
+    let answer = advance(alloc, stores, h, mark)?;
+    Ok(answer)
+}
+
+/// Puts the entry into the buffer.
+pub(crate) fn hold(alloc: Global, buffer: &mut Buffer, entry: Entry) -> Result<(), AllocError>
+    ensures ok { IsNewKey (entry_of entry) buffer.old → OnOk result (buffer.new ≡ put_in_order (entry_of entry) buffer.old) }
+    ensures sorted { OnOk result (Ascends buffer.new) }
+    ensures err { OnErr result (buffer.new ≡ buffer.old) }
+{
+    buffer.put(Rc::new(alloc, entry)?)
+}

@@ -1,0 +1,25 @@
+ghost use Rattle.std.specs.Prelude.{◌≡◌, ◌≤◌, [], map, length, IfOk};
+ghost use Rattle.std.specs.List.{AllByRecursion};
+ghost use Rattle.crs_model.specs.Plans.{chronicle, IsProper};
+ghost use Rattle.crs_store.specs.Stores.{Stands};
+ghost use Rattle.crs_engine.specs.Engines.{AreStoresOf};
+
+use crs_model::Plan;
+use crs_store::Store;
+use std::alloc::{AllocError, Global};
+use std::rc::Rc;
+
+/// A store for each plan, in order.
+pub(crate) fn stores_of(alloc: Global, plans: &[Rc<Plan>]) -> Result<Vec<Store>, AllocError>
+    requires proper { AllByRecursion (λ r. IsProper r.value) plans.now }
+    requires windowless { AllByRecursion (λ r. (chronicle r.value).windows ≡ []) plans.now }
+    requires few { length plans.now ≤ 64 }
+    ensures of { IfOk result (λ v. AreStoresOf (map (λ r. r.value) plans.now) 0 v.items) }
+    ensures stand { IfOk result (λ v. AllByRecursion (λ s. Stands s [] [] [] 0 0) v.items) }
+{
+    let mut stores = Vec::new(alloc);
+    for (number, plan) in plans.iter().enumerate() {
+        stores.push(Store::new(alloc, plan.clone()?, number as u32)?)?;
+    }
+    Ok(stores)
+}

@@ -1,0 +1,209 @@
+ghost use Rattle.std.specs.Prelude.{◌≡◌, ◌<◌, ◌≤◌, ◌^◌, [], ◌∷◌, length, None, IfOk};
+ghost use Rattle.std.specs.List.{AllByRecursion};
+ghost use Rattle.crs_stn.specs.Bound.{IsWithin};
+ghost use Rattle.crs_model.specs.Plans.{chronicle, IsProper};
+ghost use Rattle.crs_instance.specs.Fixtures.{IsPlain, IsFixture};
+
+use crate::{Engine, Refused};
+use crs_base::{Entry, List, Sym, SymList, Text};
+use crs_model::{Chronicle, EventDef, Pattern, Plan, Plans, Recognition};
+use crs_stn::{Bound, Network};
+use std::alloc::{AllocError, Global};
+use std::rc::Rc;
+use std::test::Fail;
+
+/// An event of this name, without arguments.
+fn event(alloc: Global, name: u32) -> EventDef
+    ensures { IsPlain result }
+{
+    EventDef {
+        pattern: Pattern {
+            name: Sym(name),
+            terms: List::new(alloc),
+            change: None,
+        },
+        point: Sym(name),
+        level: 0,
+    }
+}
+
+/// That b comes 1 to 5 ticks after a.
+fn bounds(alloc: Global) -> Result<List<Bound>, AllocError>
+    ensures { IfOk result (IsWithin 2) }
+{
+    let mut bounds = List::new(alloc);
+    bounds.push(Bound {
+        from: 0,
+        to: 1,
+        most: Some(5),
+    })?;
+    bounds.push(Bound {
+        from: 1,
+        to: 0,
+        most: Some(-1),
+    })?;
+    Ok(bounds)
+}
+
+/// `a then b within [1,5]`.
+fn a_then_b(alloc: Global) -> Result<Chronicle, AllocError>
+    ensures { IfOk result IsFixture }
+{
+    let mut events = List::new(alloc);
+    events.push(event(alloc, 0))?;
+    events.push(event(alloc, 1))?;
+    let bounds = bounds(alloc)?;
+    Ok(Chronicle {
+        name: Sym(2),
+        line: 1,
+        events,
+        free: List::new(alloc),
+        bounds,
+        variables: List::new(alloc),
+        sets: List::new(alloc),
+        differs: List::new(alloc),
+        windows: List::new(alloc),
+    })
+}
+
+fn plan(alloc: Global) -> Result<Rc<Plan>, AllocError>
+    ensures proper { IfOk result (λ r. IsProper r.value) }
+    ensures windowless { IfOk result (λ r. (chronicle r.value).windows ≡ []) }
+{
+    let chronicle = a_then_b(alloc)?;
+    match Network::close(alloc, 2, chronicle.bounds.as_slice()) {
+        Ok(network) => Ok(Rc::new(
+            alloc,
+            Plan {
+                chronicle,
+                network,
+                reach: Some(5),
+            },
+        )?),
+        Err(_) => Err(AllocError),
+    }
+}
+
+fn plans(alloc: Global) -> Result<Plans, AllocError>
+    ensures proper { IfOk result (λ p. AllByRecursion (λ r. IsProper r.value) p.plans) }
+    ensures windowless { IfOk result (λ p. AllByRecursion (λ r. (chronicle r.value).windows ≡ []) p.plans) }
+    ensures few { IfOk result (λ p. length p.plans ≤ 64) }
+{
+    let mut plans = List::new(alloc);
+    plans.push(plan(alloc)?)?;
+    plans.push(plan(alloc)?)?;
+    Ok(Plans {
+        names: List::new(alloc),
+        plans,
+        reach: Some(5),
+    })
+}
+
+fn entry(alloc: Global, arrival: u32, date: u64, name: u32) -> Result<Entry, AllocError>
+    ensures arrival { IfOk result (λ e. e.arrival ≡ arrival) }
+    ensures date { IfOk result (λ e. e.date ≡ date) }
+{
+    Ok(Entry {
+        arrival,
+        date,
+        name: Sym(name),
+        args: SymList::from_slice(&[]),
+        change: None,
+        text: Text::new(alloc, b"")?,
+    })
+}
+
+/// Takes in the next entry.
+fn feed(
+    engine: &mut Engine,
+    alloc: Global,
+    date: u64,
+    name: u32,
+) -> Result<Result<(), Refused>, AllocError>
+    requires { date < 2 ^ 40 }
+{
+    let next = entry(alloc, engine.accepted(), date, name)?;
+    Ok(engine.accept(next))
+}
+
+/// Whether the answer has at this place a recognition of the chronicle, from one date to another.
+fn tells(answer: &List<Recognition>, place: usize, chronicle: u32, from: u64, to: u64) -> bool {
+    match answer.get(place) {
+        None => false,
+        Some(told) => {
+            told.chronicle == chronicle
+                && told.entries.get(0).is_some_and(|e| e.date == from)
+                && told.entries.get(1).is_some_and(|e| e.date == to)
+        }
+    }
+}
+
+/// An engine that accepted b at 4, and a at 2 and 1.
+fn fed(alloc: Global, limit: u32) -> Result<Engine, AllocError> {
+    let mut engine = Engine::new(alloc, plans(alloc)?, limit)?;
+    let _ = feed(&mut engine, alloc, 4, 1)?;
+    let _ = feed(&mut engine, alloc, 2, 0)?;
+    let _ = feed(&mut engine, alloc, 1, 0)?;
+    Ok(engine)
+}
+
+#[test]
+fn recognises_in_order(rt: HostRuntime) -> Result<(), Fail> {
+    let mut engine = fed(rt.alloc(), 9)?;
+    assert_eq!(rt; engine.kept(), 2);
+    let answer = engine.clock(5)?;
+    assert_eq!(rt; answer.len(), 4);
+    assert!(rt; tells(&answer, 0, 0, 1, 4));
+    assert!(rt; tells(&answer, 1, 0, 2, 4));
+    assert!(rt; tells(&answer, 2, 1, 1, 4));
+    assert!(rt; tells(&answer, 3, 1, 2, 4));
+    assert_eq!(rt; engine.kept(), 6);
+    Ok(())
+}
+
+#[test]
+fn the_end_comes_once(rt: HostRuntime) -> Result<(), Fail> {
+    let mut engine = fed(rt.alloc(), 9)?;
+    assert_eq!(rt; engine.finish()?.len(), 4);
+    assert_eq!(rt; engine.finish()?.len(), 0);
+    assert_eq!(rt; engine.kept(), 2);
+    Ok(())
+}
+
+#[test]
+fn refuses_what_is_late_back_or_too_much(rt: HostRuntime) -> Result<(), Fail> {
+    let alloc = rt.alloc();
+    let mut engine = fed(alloc, 4)?;
+    let _ = engine.clock(5)?;
+    let late = Refused::Late {
+        date: 4,
+        horizon: 5,
+    };
+    assert_eq!(rt; engine.test_date(4), Err(late));
+    assert_eq!(rt; feed(&mut engine, alloc, 4, 0)?, Err(late));
+    assert_eq!(rt; feed(&mut engine, alloc, 5, 0)?, Ok(()));
+    assert!(rt; engine.is_full());
+    assert_eq!(rt;
+        feed(&mut engine, alloc, 6, 0)?,
+        Err(Refused::Full { limit: 4 })
+    );
+    assert!(rt;
+        engine
+            .clock(4)
+            .is_err_and(|e| e == Refused::Back { t: 4, last: 5 })
+    );
+    Ok(())
+}
+
+#[test]
+fn the_horizon_lags_by_the_delay(rt: HostRuntime) -> Result<(), Fail> {
+    let alloc = rt.alloc();
+    let mut engine = Engine::new(alloc, plans(alloc)?, 4)?;
+    engine.set_delay(3);
+    assert_eq!(rt; engine.clock(2)?.len(), 0);
+    assert_eq!(rt; engine.horizon(), 0);
+    assert_eq!(rt; engine.clock(7)?.len(), 0);
+    assert_eq!(rt; engine.horizon(), 4);
+    assert_eq!(rt; engine.plans().plans.len(), 2);
+    Ok(())
+}

@@ -1,0 +1,5 @@
+pub mod Instances
+pub mod Deadlines
+pub mod Narrowed
+pub mod Extended
+pub mod Fixtures

@@ -1,0 +1,12 @@
+-- Date windows when one more date is given.
+use Rattle.std.specs.Prelude.{◌≡◌, ◌<◌, ℕ, ℤ, List, length, Option, Some}
+use Rattle.crs_model.specs.declared.date_window.DateWindow.{DateWindow}
+use Rattle.crs_stn.proofs.Partial.{lesser, after}
+use Rattle.crs_stn.proofs.Soonest.{greater_of, before}
+use Rattle.crs_instance.specs.Instances.{window_at}
+
+-- what the date d of e makes of the windows
+pub record IsNarrowed (n : ℕ) (most : ℕ → ℕ → Option ℤ) (e : ℕ) (d : ℤ) (old new : List DateWindow) : Type 0 where
+  pub len : length new ≡ n
+  pub most_at : (r : ℕ) → r < n → (window_at new r).most ≡ lesser (window_at old r).most (after (Some d) (most e r))
+  pub least_at : (r : ℕ) → r < n → (window_at new r).least ≡ greater_of (window_at old r).least (before (Some d) (most r e))

@@ -1,0 +1,145 @@
+ghost use Rattle.std.specs.Prelude.{◌≡◌, ◌≢◌, ◌<◌, ◌≤◌, ◌^◌, ℕ, ℤ, length, map, replicate, IfOk, OnOk, IfSome, ◌++◌, IsTrue, IsSomeAnd, None, false, is_some};
+ghost use Rattle.std.specs.List.{list_all};
+ghost use Rattle.std.specs.Option.{option_to_list};
+ghost use Rattle.crs_stn.proofs.Partial.{least_of};
+ghost use Rattle.crs_model.specs.Partial.{at};
+ghost use Rattle.crs_instance.specs.Instances.{partial_of, seen_entry, window_at, AreAllEntries};
+ghost use Rattle.crs_instance.specs.Deadlines.{end_of, bit_of, HasBits};
+
+use crate::narrowing::earlier;
+use crs_base::{Entry, List};
+use crs_model::DateWindow;
+use std::alloc::{AllocError, Global};
+use std::rc::Rc;
+
+/// As many Nones.
+pub(crate) fn no_entries(alloc: Global, count: usize) -> Result<Vec<Option<Rc<Entry>>>, AllocError>
+    ensures { IfOk result (λ v. v.items ≡ replicate count None) }
+{
+    let mut entries = Vec::new(alloc);
+    for _i in 0..count {
+        entries.push(None)?;
+    }
+    Ok(entries)
+}
+
+/// Whether some event is bound to the entry of this arrival number.
+pub(crate) fn gives(entries: &[Option<Rc<Entry>>], arrival: u32) -> bool
+    ensures present { IsTrue result → (f : ℕ) × IsSomeAnd (at (partial_of entries.now) f) (λ y. y.arrival ≡ arrival) }
+    ensures absent { result ≡ false → (f : ℕ) → IfSome (at (partial_of entries.now) f) (λ y. y.arrival ≢ arrival) }
+{
+    match entries.split_first() {
+        None => false,
+        Some((first, rest)) => arrived_as(first, arrival) || gives(rest, arrival),
+    }
+}
+
+fn arrived_as(entry: &Option<Rc<Entry>>, arrival: u32) -> bool
+    ensures present { IsTrue result → IsSomeAnd (seen_entry entry.now) (λ y. y.arrival ≡ arrival) }
+    ensures absent { result ≡ false → IfSome (seen_entry entry.now) (λ y. y.arrival ≢ arrival) }
+{
+    match entry {
+        None => false,
+        Some(entry) => entry.arrival == arrival,
+    }
+}
+
+/// The same entries.
+pub(crate) fn copies(
+    alloc: Global,
+    entries: &[Option<Rc<Entry>>],
+) -> Result<Vec<Option<Rc<Entry>>>, AllocError>
+    ensures { IfOk result (λ v. partial_of v.items ≡ partial_of entries.now) }
+{
+    let mut out = Vec::new(alloc);
+    for entry in entries {
+        out.push(copy_of(entry)?)?;
+    }
+    Ok(out)
+}
+
+fn copy_of(entry: &Option<Rc<Entry>>) -> Result<Option<Rc<Entry>>, AllocError>
+    ensures { IfOk result (λ o. seen_entry o ≡ seen_entry entry.now) }
+{
+    match entry {
+        None => Ok(None),
+        Some(entry) => Ok(Some(entry.clone()?)),
+    }
+}
+
+/// The greatest date of an event, where it is unbound.
+fn latest_date(entry: &Option<Rc<Entry>>, window: DateWindow) -> Option<i64>
+    ensures { result ≡ end_of (seen_entry entry.now) window }
+{
+    match entry {
+        None => window.most,
+        Some(_) => None,
+    }
+}
+
+/// The least of the greatest dates of the unbound events.
+pub(crate) fn earliest_deadline(
+    entries: &[Option<Rc<Entry>>],
+    windows: &[DateWindow],
+) -> Option<i64>
+    requires { length entries.now ≤ length windows.now }
+    ensures { result ≡ least_of (λ e. end_of (at (partial_of entries.now) e) (window_at windows.now e)) (length entries.now) }
+{
+    let mut earliest = None;
+    for e in 0..entries.len() {
+        earliest = earlier(latest_date(&entries[e], windows[e]), earliest);
+    }
+    earliest
+}
+
+/// The entries of all events, in event order. None where some event is unbound.
+pub(crate) fn all_entries(
+    alloc: Global,
+    entries: &[Option<Rc<Entry>>],
+) -> Result<Option<List<Rc<Entry>>>, AllocError>
+    ensures { IfOk result (AreAllEntries (partial_of entries.now)) }
+{
+    if !are_all_bound(entries) {
+        return Ok(None);
+    }
+    let mut all = List::new(alloc);
+    for entry in entries {
+        push_some(&mut all, copy_of(entry)?)?;
+    }
+    Ok(Some(all))
+}
+
+fn push_some(entries: &mut List<Rc<Entry>>, entry: Option<Rc<Entry>>) -> Result<(), AllocError>
+    ensures { OnOk result (entries.new ≡ entries.old ++ option_to_list entry) }
+{
+    match entry {
+        None => Ok(()),
+        Some(entry) => {
+            entries.push(entry)?;
+            Ok(())
+        }
+    }
+}
+
+/// Whether each event is bound.
+pub(crate) fn are_all_bound(entries: &[Option<Rc<Entry>>]) -> bool
+    ensures { result ≡ list_all (λ o. is_some o) (partial_of entries.now) }
+{
+    match entries.split_first() {
+        None => true,
+        Some((first, rest)) => first.is_some() && are_all_bound(rest),
+    }
+}
+
+/// The number whose bit e, from the least, is set where event e is bound.
+#[tactic(auto, using(crate::proofs::Bits::bits_none))]
+pub(crate) fn bits(entries: &[Option<Rc<Entry>>]) -> u16
+    requires { length entries.now ≤ 16 }
+    ensures few { result < 2 ^ length entries.now }
+    ensures bits { HasBits (partial_of entries.now) result }
+{
+    match entries.split_first() {
+        None => 0,
+        Some((first, rest)) => 2 * bits(rest) + first.is_some() as u16,
+    }
+}

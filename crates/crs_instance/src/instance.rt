@@ -1,0 +1,241 @@
+ghost use Rattle.std.specs.Prelude.{◌≡◌, ◌<◌, ◌≤◌, ◌^◌, ◌↔◌, ℕ, ℤ, pos, ◌≤ℤ◌, length, replicate, IfOk, OnErr, IfSome, IsTrue, None, is_some};
+ghost use Rattle.std.specs.List.{list_all};
+ghost use Rattle.std.specs.Option.{option_copied};
+ghost use Rattle.crs_model.specs.Partial.{at, CanGoOn};
+ghost use Rattle.crs_model.specs.Plans.{chronicle, IsProper};
+ghost use Rattle.crs_base.specs.Seen.{entry_of};
+ghost use Rattle.crs_model.specs.Seen.{pattern_of, chronicle_of};
+ghost use Rattle.crs_model.specs.Bindings.{PatternIsBelow};
+ghost use Rattle.crs_model.specs.Steps.{flat};
+ghost use Rattle.crs_model.specs.declared.plan.Plan.{Plan};
+ghost use Rattle.crs_instance.specs.Instances.{no_window, seen_entry, IsBoundBy, IsOf, IsAnswered, IsDeadline, AreAllEntries, window_at};
+ghost use Rattle.crs_instance.specs.Deadlines.{deadline_of, HasBits};
+
+use crate::entries::{
+    all_entries, are_all_bound, bits, copies, earliest_deadline, gives, no_entries,
+};
+use crate::fit::Fit;
+use crate::narrowing::{is_inside, is_not_before, narrowed};
+use crs_base::{Entry, List};
+use crs_model::{Binding, Chronicle, DateWindow, Pattern, Plan, allowed, bind_vars, fits};
+use std::alloc::{AllocError, Global};
+use std::marker::Model;
+use std::rc::Rc;
+
+/// A partial instance of a chronicle: some of its events bound to entries, with the symbols that
+/// this gives to variables, and the dates that it leaves to each point.
+#[derive(Drop)]
+pub struct Instance {
+    entries: Vec<Option<Rc<Entry>>>,
+    binding: Binding,
+    windows: Vec<DateWindow>,
+    alloc: Global,
+}
+
+impl Model for Instance {
+    ghost use Rattle.crs_instance.specs.Instances.{InstanceState, partial_of};
+
+    ghost Value = { InstanceState };
+
+    ghost view = { λ i. record { partial = partial_of i.entries.items; binding = i.binding; windows = i.windows.items } };
+
+    ghost use Rattle.std.specs.Prelude.{◌≤◌, length};
+
+    ghost invariant = { λ i. (length i.entries.items ≤ length i.windows.items) × (length i.entries.items ≤ 16) };
+}
+
+/// As many windows without ends.
+fn no_windows(alloc: Global, count: usize) -> Result<Vec<DateWindow>, AllocError>
+    ensures { IfOk result (λ v. v.items ≡ replicate count no_window) }
+{
+    let mut windows = Vec::new(alloc);
+    for _i in 0..count {
+        windows.push(DateWindow {
+            least: None,
+            most: None,
+        })?;
+    }
+    Ok(windows)
+}
+
+/// The binding with the variables of the pattern, where the entry fits it and the chronicle allows the binding.
+fn matched(
+    chronicle: &Chronicle,
+    pattern: &Pattern,
+    binding: &Binding,
+    entry: &Entry,
+) -> Option<Binding>
+    requires { PatternIsBelow (length binding.now) (pattern_of pattern.now) }
+    ensures { IsBoundBy (chronicle_of chronicle.now) (pattern_of pattern.now) binding.now (entry_of entry.now) result }
+{
+    if !fits(pattern, binding, entry) {
+        return None;
+    }
+    let mut next = binding.copy();
+    bind_vars(&mut next, pattern, entry);
+    if allowed(chronicle, &next) {
+        Some(next)
+    } else {
+        None
+    }
+}
+
+/// What else changes where an event is bound.
+#[derive(Drop)]
+struct Extension {
+    binding: Binding,
+    windows: Vec<DateWindow>,
+}
+
+impl Instance {
+    ghost use Rattle.crs_instance.specs.Extended.{IsExtended};
+
+    /// Nothing is bound.
+    pub fn root(alloc: Global, plan: &Plan) -> Result<Instance, AllocError>
+        requires { IsProper plan.now }
+        ensures of { IfOk result (λ i. IsOf plan.now i) }
+        ensures none { IfOk result (λ i. i.partial ≡ replicate (length plan.now.chronicle.events) None) }
+    {
+        let events = plan.chronicle.events.len();
+        let entries = no_entries(alloc, events)?;
+        let windows = no_windows(alloc, events + plan.chronicle.free.len())?;
+        Ok(Instance {
+            entries,
+            binding: Binding::new(plan.chronicle.variables.len() as u8),
+            windows,
+            alloc,
+        })
+    }
+
+    /// The binding and the windows, where the event is bound to the entry too.
+    fn extended(
+        &self,
+        plan: &Plan,
+        event: u8,
+        entry: &Entry,
+    ) -> Result<Option<Extension>, AllocError>
+        requires proper { IsProper plan.now }
+        requires of { IsOf plan.now self.now }
+        requires event { event < length plan.now.chronicle.events }
+        requires unbound { at self.now.partial event ≡ None }
+        requires date { entry.now.date < 2 ^ 40 }
+        ensures { IfOk result (IsExtended plan.now self.now event (entry_of entry.now)) }
+    {
+        if gives(self.entries.as_slice(), entry.arrival) {
+            return Ok(None);
+        }
+        let pattern = &plan.chronicle.events.as_slice()[event as usize].pattern;
+        let Some(binding) = matched(&plan.chronicle, pattern, &self.binding, entry) else {
+            return Ok(None);
+        };
+        if !is_inside(self.windows[event as usize], entry.date) {
+            return Ok(None);
+        }
+        let windows = narrowed(
+            self.alloc,
+            self.windows.as_slice(),
+            &plan.network,
+            event,
+            entry.date,
+        )?;
+        Ok(Some(Extension { binding, windows }))
+    }
+
+    /// Binds the event to the entry, where the bound events can still be part of an assignment that meets the bounds.
+    pub fn bind(&mut self, plan: &Plan, event: u8, entry: Rc<Entry>) -> Result<Fit, AllocError>
+        requires proper { IsProper plan.now }
+        requires of { IsOf plan.now self.old }
+        requires event { event < length plan.now.chronicle.events }
+        requires unbound { at self.old.partial event ≡ None }
+        requires date { entry.value.date < 2 ^ 40 }
+        ensures ok { IfOk result (IsAnswered plan.now self.old event (entry_of entry.value) self.new) }
+        ensures err { OnErr result (self.new ≡ self.old) }
+    {
+        match self.extended(plan, event, &entry)? {
+            None => Ok(Fit::No),
+            Some(more) => {
+                self.entries[event as usize] = Some(entry);
+                self.binding = more.binding;
+                self.windows = more.windows;
+                Ok(Fit::Yes)
+            }
+        }
+    }
+
+    /// The least and the greatest date that the bounds and the bound events' dates leave to the
+    /// point.
+    pub fn date_window(&self, p: u8) -> DateWindow
+        requires { p < length self.now.windows }
+        ensures { result ≡ window_at self.now.windows p }
+    {
+        self.windows[p as usize]
+    }
+
+    /// The last date at which each unbound event can still come, in ticks, where there is one.
+    pub fn deadline(&self) -> Option<i64>
+        ensures { IsDeadline self.now result }
+    {
+        earliest_deadline(self.entries.as_slice(), self.windows.as_slice())
+    }
+
+    /// Whether dates that meet the bounds exist with each unbound event at or after the date `h`.
+    pub fn can_go_on(&self, h: u64) -> bool
+        requires { h ≤ 2 ^ 42 }
+        ensures { (plan : Plan) → IsProper plan → IsOf plan self.now → IsTrue result ↔ CanGoOn (chronicle plan) flat self.now.partial h }
+    {
+        is_not_before(self.deadline(), h)
+    }
+
+    /// The entry that the event is bound to, or None where it is unbound or there is none of that
+    /// number.
+    pub fn entry(&self, event: u8) -> Option<&Rc<Entry>>
+        ensures { seen_entry (option_copied result) ≡ at self.now.partial event }
+    {
+        match self.entries.as_slice().get(event as usize) {
+            None => None,
+            Some(entry) => entry.as_ref(),
+        }
+    }
+
+    /// The symbols of the variables of the bound events.
+    pub fn binding(&self) -> &Binding
+        ensures { result.now ≡ self.now.binding }
+    {
+        &self.binding
+    }
+
+    /// The number whose bit e, from the least, is set exactly where event e is bound.
+    pub fn bound(&self) -> u16
+        ensures { HasBits self.now.partial result }
+    {
+        bits(self.entries.as_slice())
+    }
+
+    /// The entries of all events, in event order. None where some event is unbound.
+    pub fn all_entries(&self) -> Result<Option<List<Rc<Entry>>>, AllocError>
+        ensures { IfOk result (AreAllEntries self.now.partial) }
+    {
+        all_entries(self.alloc, self.entries.as_slice())
+    }
+
+    /// Whether each event is bound.
+    pub fn is_whole(&self) -> bool
+        ensures { result ≡ list_all (λ o. is_some o) self.now.partial }
+    {
+        are_all_bound(self.entries.as_slice())
+    }
+
+    /// An equal instance. A later change of the one leaves the other as it was.
+    pub fn copy(&self) -> Result<Instance, AllocError>
+        ensures { IfOk result (λ i. i ≡ self.now) }
+    {
+        let entries = copies(self.alloc, self.entries.as_slice())?;
+        let windows = Vec::from_slice(self.alloc, self.windows.as_slice())?;
+        Ok(Instance {
+            entries,
+            binding: self.binding.copy(),
+            windows,
+            alloc: self.alloc,
+        })
+    }
+}

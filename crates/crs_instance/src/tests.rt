@@ -1,0 +1,128 @@
+ghost use Rattle.std.specs.Prelude.{◌≡◌, ◌<◌, ◌^◌, [], ◌∷◌, None, IfOk};
+ghost use Rattle.crs_stn.specs.Bound.{IsWithin};
+ghost use Rattle.crs_model.specs.Plans.{IsProper};
+ghost use Rattle.crs_instance.specs.Fixtures.{IsPlain, IsFixture};
+
+use crate::{Fit, Instance};
+use crs_base::{Entry, List, Sym, SymList, Text};
+use crs_model::{Chronicle, EventDef, Pattern, Plan};
+use crs_stn::{Bound, Network};
+use std::alloc::{AllocError, Global};
+use std::rc::Rc;
+use std::test::Fail;
+
+/// An event of this name, without arguments.
+fn event(alloc: Global, name: u32) -> EventDef
+    ensures { IsPlain result }
+{
+    EventDef {
+        pattern: Pattern {
+            name: Sym(name),
+            terms: List::new(alloc),
+            change: None,
+        },
+        point: Sym(name),
+        level: 0,
+    }
+}
+
+/// That b comes 1 to 5 ticks after a.
+fn bounds(alloc: Global) -> Result<List<Bound>, AllocError>
+    ensures { IfOk result (IsWithin 2) }
+{
+    let mut bounds = List::new(alloc);
+    bounds.push(Bound {
+        from: 0,
+        to: 1,
+        most: Some(5),
+    })?;
+    bounds.push(Bound {
+        from: 1,
+        to: 0,
+        most: Some(-1),
+    })?;
+    Ok(bounds)
+}
+
+/// `a then b within [1,5]`.
+fn a_then_b(alloc: Global) -> Result<Chronicle, AllocError>
+    ensures { IfOk result IsFixture }
+{
+    let mut events = List::new(alloc);
+    events.push(event(alloc, 0))?;
+    events.push(event(alloc, 1))?;
+    let bounds = bounds(alloc)?;
+    Ok(Chronicle {
+        name: Sym(2),
+        line: 1,
+        events,
+        free: List::new(alloc),
+        bounds,
+        variables: List::new(alloc),
+        sets: List::new(alloc),
+        differs: List::new(alloc),
+        windows: List::new(alloc),
+    })
+}
+
+fn plan(alloc: Global) -> Result<Rc<Plan>, AllocError>
+    ensures { IfOk result (λ r. IsProper r.value) }
+{
+    let chronicle = a_then_b(alloc)?;
+    match Network::close(alloc, 2, chronicle.bounds.as_slice()) {
+        Ok(network) => Ok(Rc::new(
+            alloc,
+            Plan {
+                chronicle,
+                network,
+                reach: Some(5),
+            },
+        )?),
+        Err(_) => Err(AllocError),
+    }
+}
+
+fn entry(alloc: Global, arrival: u32, date: u64, name: u32) -> Result<Rc<Entry>, AllocError>
+    ensures { IfOk result (λ r. r.value.date ≡ date) }
+{
+    Ok(Rc::new(
+        alloc,
+        Entry {
+            arrival,
+            date,
+            name: Sym(name),
+            args: SymList::from_slice(&[]),
+            change: None,
+            text: Text::new(alloc, b"")?,
+        },
+    )?)
+}
+
+#[test]
+fn binds_what_can_still_be_recognised(rt: HostRuntime) -> Result<(), Fail> {
+    let alloc = rt.alloc();
+    let plan = plan(alloc)?;
+    let root = Instance::root(alloc, &plan)?;
+    assert_eq!(rt; root.deadline(), None);
+    let mut next = root.copy()?;
+    assert_eq!(rt; next.bind(&plan, 0, entry(alloc, 0, 10, 0)?)?, Fit::Yes);
+    assert_eq!(rt; next.deadline(), Some(15));
+    assert_eq!(rt; next.bound(), 1);
+    assert!(rt; next.entry(0).is_some_and(|e| e.date == 10));
+    assert!(rt; !next.is_whole());
+    assert!(rt; next.can_go_on(15));
+    assert!(rt; !next.can_go_on(16));
+    assert_eq!(rt; root.bound(), 0);
+    Ok(())
+}
+
+#[test]
+fn refuses_another_name(rt: HostRuntime) -> Result<(), Fail> {
+    let alloc = rt.alloc();
+    let plan = plan(alloc)?;
+    let mut root = Instance::root(alloc, &plan)?;
+    assert_eq!(rt; root.bind(&plan, 0, entry(alloc, 0, 10, 1)?)?, Fit::No);
+    assert!(rt; root.entry(0).is_none());
+    assert!(rt; root.all_entries()?.is_none());
+    Ok(())
+}

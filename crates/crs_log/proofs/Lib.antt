@@ -1,0 +1,13 @@
+pub mod Skipped
+pub mod Moved
+pub mod Six
+pub mod Added
+pub mod Parts
+pub mod Ended
+pub mod ItemLaw
+pub mod Rows
+pub mod ReadLaw
+pub mod Prompt
+pub mod Held
+pub mod Numbered
+pub mod GivenLaw

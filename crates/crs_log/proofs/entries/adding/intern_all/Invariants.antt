@@ -1,0 +1,17 @@
+use Rattle.std.proofs.Common.{◌≡◌, ◌≤◌, ◌+◌, map, take, drop, length}
+use Rattle.crs_log.specs.SeenItems.{text_of}
+use Rattle.crs_model.specs.Renaming.{text_in}
+use Rattle.crs_model.specs.Renaming.{AreKnown}
+use Rattle.crs_log.specs.Items.{AreSymbols}
+use Rattle.crs_log.specs.Known.{new_texts, with_texts}
+use Rattle.crs_log.proofs.entries.adding.intern_all.Given as goal
+
+abbrev pub invariant-loop-span : goal.invariant-loop-span
+invariant-loop-span l = record {
+  texts : l.symbols.texts ≡ with_texts l.fn.symbols.texts (map (text_of l.line) (take l.span-index l.spans));
+  numbers : map (text_in l.symbols.texts) l.out.items ≡ map (text_of l.line) (take l.span-index l.spans);
+  within : AreKnown l.symbols.texts l.out.items;
+  limit : l.symbols.limit ≡ l.fn.symbols.limit;
+  symbols : AreSymbols (map (text_of l.line) (drop l.span-index l.spans));
+  room : length l.symbols.texts + length (new_texts l.symbols.texts (map (text_of l.line) (drop l.span-index l.spans))) ≤ l.fn.symbols.limit;
+}

@@ -1,0 +1,10 @@
+pub mod Reading
+pub mod Given
+pub mod Items
+pub mod ItemOf
+pub mod SeenItems
+pub mod Known
+pub mod SeenNames
+pub mod Told
+pub mod Run
+pub mod New

@@ -1,0 +1,130 @@
+-- A run is a fold over the lines of a log.
+use Rattle.std.specs.Prelude.{ℕ, ◌+◌, ◌-◌, Bool, true, false, ◌&&◌, ◌||◌, nat_lt, nat_le, cond, List, [], ◌∷◌, ◌++◌, length}
+use Rattle.crs_base.specs.Entry.{Entry}
+use Rattle.crs_base.specs.Lines.{Line, bytes_of, is_long}
+use Rattle.crs_model.specs.Models.{Name}
+use Rattle.crs_model.specs.Order.{dated_before}
+use Rattle.crs_log.specs.Items.{Item, Delay, Clock, Finish, Happens, Event}
+use Rattle.crs_log.specs.ItemOf.{What, Empty, Is, Faulty, what_of}
+use Rattle.crs_log.specs.Reading.{Given, Plain, Long}
+use Rattle.crs_log.specs.Known.{Verdict, Other, Named, BadArity, BadValue, known_of, entry_of_event, texts_of, new_texts, with_texts}
+
+-- the declared names, and how many symbols and entries there may be
+pub record Setting : Type 0 where
+  pub names : List (Name (List ℕ))
+  pub symbols : ℕ
+  pub entries : ℕ
+
+pub record State : Type 0 where
+  pub texts : List (List ℕ)
+  pub delay : ℕ
+  pub last : ℕ
+  pub horizon : ℕ
+  pub accepted : List (Entry (List ℕ))
+  pub met : Bool
+  pub ended : Bool
+
+-- the known texts are those of the models
+abbrev pub at_start : List (List ℕ) → State
+at_start texts = record { texts = texts; delay = 0; last = 0; horizon = 0; accepted = []; met = false; ended = false }
+
+pub data Fault : Type 0 where
+  TooLong : Fault
+  Form : Fault
+  Order : Fault
+  Back : ℕ → ℕ → Fault
+  Late : ℕ → ℕ → Fault
+  Arity : Fault
+  Value : Fault
+  Full : ℕ → Fault
+  Values : ℕ → Fault
+
+-- the date of an accepted `clock`, or an accepted `end`
+pub data Mark : Type 0 where
+  AtClock : ℕ → Mark
+  AtEnd : Mark
+
+-- what becomes of a line
+pub data Outcome : Type 0 where
+  Passed : Outcome
+  Refused : Fault → Outcome
+  Accepted : (Entry (List ℕ)) → Outcome
+  Marked : Mark → Outcome
+
+-- above every window's end
+abbrev pub end_date : ℕ
+end_date = 4398046511104
+
+abbrev pub is_delay : Item → Bool
+is_delay (Delay d) = true
+is_delay (Clock t) = false
+is_delay Finish = false
+is_delay (Happens e) = false
+
+-- the item is a delay that isn't the first item, or stands behind the end
+abbrev pub is_out_of_order : State → Item → Bool
+is_out_of_order s item = s.ended || (is_delay item && s.met)
+
+-- the horizon after `clock t`
+abbrev pub horizon_at : State → ℕ → ℕ
+horizon_at s t = t - s.delay
+
+abbrev pub with_entry : State → (Entry (List ℕ)) → Event → State
+with_entry s entry e = record s { texts = with_texts s.texts (texts_of e); accepted = s.accepted ++ entry ∷ [] }
+
+-- an event whose name is declared, with the right arguments and value
+abbrev pub after_named : Setting → State → Event → State × Outcome
+after_named c s e =
+    cond (nat_lt (length s.accepted) c.entries)
+    (cond (nat_le (length s.texts + length (new_texts s.texts (texts_of e))) c.symbols)
+    (with_entry s (entry_of_event (length s.accepted) e) e, Accepted (entry_of_event (length s.accepted) e))
+    (s, Refused (Values c.symbols)))
+    (s, Refused (Full c.entries))
+
+-- an event that isn't late
+abbrev pub after_verdict : Setting → State → Event → Verdict → State × Outcome
+after_verdict c s e Other = (s, Passed)
+after_verdict c s e BadArity = (s, Refused Arity)
+after_verdict c s e BadValue = (s, Refused Value)
+after_verdict c s e (Named place) = after_named c s e
+
+-- an item that stands in order
+abbrev pub after_ordered : Setting → State → Item → State × Outcome
+after_ordered c s (Delay d) = (record s { delay = d }, Passed)
+after_ordered c s (Clock t) = cond (nat_lt t s.last) (s, Refused (Back t s.last)) (record s { last = t; horizon = horizon_at s t }, Marked (AtClock t))
+after_ordered c s Finish = (record s { last = end_date; horizon = end_date; ended = true }, Marked AtEnd)
+after_ordered c s (Happens e) = cond (nat_lt e.date s.horizon) (s, Refused (Late e.date s.horizon)) (after_verdict c s e (known_of c.names e))
+
+abbrev pub is_met : State → State
+is_met s = record s { met = true }
+
+abbrev pub after_item : Setting → State → Item → State × Outcome
+after_item c s item = cond (is_out_of_order s item) (is_met s, Refused Order) (after_ordered c (is_met s) item)
+
+-- what a line is, that isn't long
+abbrev pub after_what : Setting → State → What → State × Outcome
+after_what c s Empty = (s, Passed)
+after_what c s (Is item) = after_item c s item
+after_what c s Faulty = (s, Refused Form)
+
+-- the first fault that applies is the line's
+abbrev pub after_line : Setting → State → Line → State × Outcome
+after_line c s l = cond (is_long l) (s, Refused TooLong) (after_what c s (what_of (bytes_of l)))
+
+-- the same, from what is given for the line
+abbrev pub after_given : Setting → State → Given → State × Outcome
+after_given c s (Long number) = (s, Refused TooLong)
+after_given c s (Plain number bytes) = after_what c s (what_of bytes)
+
+-- the state after these lines, and what became of each
+abbrev pub after_lines : Setting → State → List Line → State
+after_lines c s [] = s
+after_lines c s (l ∷ ls) = after_lines c (after_line c s l).0 ls
+
+abbrev pub outcomes : Setting → State → List Line → List Outcome
+outcomes c s [] = []
+outcomes c s (l ∷ ls) = (after_line c s l).1 ∷ outcomes c (after_line c s l).0 ls
+
+-- the accepted entries dated before the horizon, in key order
+abbrev pub settled : State → List (Entry (List ℕ))
+settled s = dated_before s.horizon s.accepted

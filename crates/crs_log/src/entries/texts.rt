@@ -1,0 +1,77 @@
+ghost use Rattle.std.specs.Prelude.{◌≡◌, ◌<◌, ◌≤◌, ◌∷◌, ◌++◌, [], length, map, IfOk, OnOk, List, ℕ};
+ghost use Rattle.crs_log.specs.SeenItems.{text_of, event_seen, change_in};
+ghost use Rattle.crs_base.specs.Entry.{canonical, args_text, more_text, change_text};
+ghost use Rattle.crs_log.specs.Known.{texts_of};
+
+use crate::items::parts::span_text;
+use crate::items::{Raw, Span};
+use crs_base::Text;
+use std::alloc::{AllocError, Global};
+
+/// Writes a byte and the text of a span.
+fn push_part(line: &[u8], mark: u8, span: Span, out: &mut Vec<u8>) -> Result<(), AllocError>
+    ensures { OnOk result (out.new.items ≡ out.old.items ++ mark ∷ text_of line.now span) }
+{
+    out.push(mark)?;
+    out.extend_from_slice(span_text(line, span))
+}
+
+/// Writes the arguments behind the first one.
+fn push_more(line: &[u8], args: &[Span], out: &mut Vec<u8>) -> Result<(), AllocError>
+    ensures { OnOk result (out.new.items ≡ out.old.items ++ more_text (map (text_of line.now) args.now)) }
+{
+    for arg in args {
+        push_part(line, b',', *arg, out)?;
+    }
+    out.push(b']')?;
+    Ok(())
+}
+
+fn push_args(line: &[u8], args: &[Span], out: &mut Vec<u8>) -> Result<(), AllocError>
+    ensures { OnOk result (out.new.items ≡ out.old.items ++ args_text (map (text_of line.now) args.now)) }
+{
+    let Some((first, more)) = args.split_first() else {
+        return Ok(());
+    };
+    push_part(line, b'[', *first, out)?;
+    push_more(line, more, out)
+}
+
+fn push_change(
+    line: &[u8],
+    change: Option<(Span, Span)>,
+    out: &mut Vec<u8>,
+) -> Result<(), AllocError>
+    ensures { OnOk result (out.new.items ≡ out.old.items ++ change_text (change_in line.now change)) }
+{
+    let Some((old, new)) = change else {
+        return Ok(());
+    };
+    out.push(b':')?;
+    push_part(line, b'(', old, out)?;
+    push_part(line, b',', new, out)?;
+    out.push(b')')?;
+    Ok(())
+}
+
+/// The canonical text of an event.
+pub fn canonical_text(alloc: Global, line: &[u8], raw: &Raw) -> Result<Text, AllocError>
+    ensures { IfOk result (λ t. t ≡ canonical (text_of line.now raw.now.name) (map (text_of line.now) raw.now.args) (change_in line.now raw.now.change)) }
+{
+    let mut out = Vec::from_slice(alloc, span_text(line, raw.name))?;
+    push_args(line, raw.args.as_slice(), &mut out)?;
+    push_change(line, raw.change, &mut out)?;
+    Text::new(alloc, out.as_slice())
+}
+
+/// The spans of the arguments and of the two values.
+pub fn value_spans(alloc: Global, raw: &Raw) -> Result<Vec<Span>, AllocError>
+    ensures texts { (line : List ℕ) → IfOk result (λ v. map (text_of line) v.items ≡ texts_of (event_seen line raw.now)) }
+{
+    let mut spans = Vec::from_slice(alloc, raw.args.as_slice())?;
+    if let Some((old, new)) = raw.change {
+        spans.push(old)?;
+        spans.push(new)?;
+    }
+    Ok(spans)
+}

@@ -1,0 +1,57 @@
+mod events;
+mod numbers;
+pub mod parts;
+mod read;
+
+use crs_base::List;
+pub use read::read_item;
+use thiserror::Error;
+
+/// A symbol's place in its line, in bytes from 0.
+#[derive(Clone, Copy, Debug, PartialEq, Eq)]
+pub struct Span {
+    pub start: u16,
+    pub len: u8,
+}
+
+/// An event line, by the places of its symbols.
+#[derive(Drop)]
+pub struct Raw {
+    /// In ticks of the log's clock, from 0 to 2^40 - 1.
+    pub date: u64,
+    pub name: Span,
+    pub args: List<Span>,
+    /// The old and the new value, where there is a change.
+    pub change: Option<(Span, Span)>,
+}
+
+/// What a line of a log says. Numbers are ticks of the log's clock, from 0 to 2^40 - 1.
+#[derive(Drop)]
+pub enum Item {
+    /// The line is blank or a comment, and says nothing.
+    Blank,
+    Delay(u64),
+    Clock(u64),
+    /// The statement `end`.
+    Finish,
+    Event(Raw),
+}
+
+/// Why a line is refused.
+#[derive(Clone, Copy, Debug, PartialEq, Eq, Drop, Error)]
+pub enum LineRefused {
+    /// It has no form of a log statement.
+    #[error("Form")]
+    Form,
+    /// Its arguments or its change do not agree with the declaration of its name.
+    #[error("Arity")]
+    Arity,
+    /// Its new value is none of the attribute's.
+    #[error("Value")]
+    Value,
+    /// Its new symbols do not fit into the table, which holds at most `limit`.
+    #[error("Values")]
+    Values { limit: u32 },
+    #[error("Memory")]
+    Memory,
+}

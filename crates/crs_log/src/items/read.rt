@@ -1,0 +1,77 @@
+ghost use Rattle.std.specs.Prelude.{◌≡◌, ◌<◌, ◌≤◌, length, IfOk, IfErr, IfSome};
+ghost use Rattle.crs_base.specs.SeenTokens.{token_of, tokens_seen};
+ghost use Rattle.crs_log.specs.SeenItems.{what_seen, what_from, IsFormOrMemory, IsInRange, IsRead, Refuses};
+ghost use Rattle.crs_log.specs.ItemOf.{statement_of, what_is, what_of};
+
+use super::events::event;
+use super::numbers::lone_number;
+use super::{Item, LineRefused};
+use crs_base::{Marks, Token, passed_over, read_tokens, word_bytes};
+use std::alloc::{AllocError, Global};
+
+/// The item that tokens are.
+fn statement(alloc: Global, line: &[u8], tokens: &[Token]) -> Result<Option<Item>, AllocError>
+    ensures value { IfOk result (λ o. what_from line.now o ≡ what_is (statement_of (tokens_seen line.now tokens.now))) }
+    ensures range { IfOk result (λ o. IfSome o IsInRange) }
+{
+    let Some((first, behind)) = tokens.split_first() else {
+        return Ok(None);
+    };
+    let Token::Word { start, len } = *first else {
+        return Ok(None);
+    };
+    let word = word_bytes(line, start, len);
+    let Some((second, rest)) = behind.split_first() else {
+        if word == b"end".as_slice() {
+            return Ok(Some(Item::Finish));
+        }
+        return Ok(None);
+    };
+    if word == b"delay".as_slice() {
+        return Ok(lone_number(line, *second, rest).map(|n| Item::Delay(n)));
+    }
+    if word == b"clock".as_slice() {
+        return Ok(lone_number(line, *second, rest).map(|n| Item::Clock(n)));
+    }
+    match event(alloc, line, word, *second, rest)? {
+        Some(raw) => Ok(Some(Item::Event(raw))),
+        None => Ok(None),
+    }
+}
+
+/// What a line of at most 4096 bytes is.
+fn read_what(alloc: Global, line: &[u8]) -> Result<Item, LineRefused>
+    requires { length line.now ≤ 4096 }
+    ensures exact { IfOk result (λ item. what_seen line.now item ≡ what_of line.now) }
+    ensures range { IfOk result IsInRange }
+    ensures err { IfErr result (Refuses line.now) }
+{
+    if passed_over(line) {
+        return Ok(Item::Blank);
+    }
+    let Ok(read) = read_tokens(alloc, line, Marks::Log) else {
+        return Err(LineRefused::Memory);
+    };
+    let Some(read) = read else {
+        return Err(LineRefused::Form);
+    };
+    match statement(alloc, line, read.as_slice()) {
+        Ok(Some(item)) => Ok(item),
+        Ok(None) => Err(LineRefused::Form),
+        Err(_) => Err(LineRefused::Memory),
+    }
+}
+
+/// The item that a line of at most 4096 bytes is.
+pub fn read_item(alloc: Global, line: &[u8]) -> Result<Item, LineRefused>
+    requires { length line.now ≤ 4096 }
+    ensures item { IfOk result (IsRead line.now) }
+    ensures exact { IfOk result (λ item. what_seen line.now item ≡ what_of line.now) }
+    ensures range { IfOk result IsInRange }
+    ensures err { IfErr result (IsFormOrMemory line.now) }
+{
+    match read_what(alloc, line) {
+        Ok(item) => Ok(item),
+        Err(e) => Err(e),
+    }
+}

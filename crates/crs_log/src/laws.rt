@@ -1,0 +1,33 @@
+//! Laws of the definitions that the contracts of this crate speak of.
+ghost use Rattle.std.specs.Prelude.{◌≡◌, ◌≤◌, ◌↔◌, ℕ, List, Some, length, map, true};
+ghost use Rattle.std.specs.List.{AllByRecursion};
+ghost use Rattle.crs_base.specs.Lines.{Line, line_limit};
+ghost use Rattle.crs_base.specs.Symbols.{is_known};
+ghost use Rattle.crs_log.specs.Items.{Item, Event, IsItem};
+ghost use Rattle.crs_log.specs.ItemOf.{item_of};
+ghost use Rattle.crs_log.specs.Known.{Named, known_of};
+ghost use Rattle.crs_log.specs.SeenNames.{name_seen, AreNamesIn};
+ghost use Rattle.crs_log.specs.Reading.{Given, Reader, HasGiven, HasNoLine, given_line, given_lines, whole_lines};
+ghost use Rattle.crs_log.specs.Run.{Setting, State, after_given, after_line};
+ghost use Rattle.crs_model.specs.declared.models.Name.{Name as CodeName};
+
+/// A line is the item that the run reads from it, and no other.
+pub fn one_item()
+    ensures { (line : List ℕ) (item : Item) → item_of line ≡ Some item ↔ IsItem line item }
+{}
+
+/// Where no whole line is held, exactly the whole lines of what was fed were given.
+pub fn prompt()
+    ensures { (limit : ℕ) (fed : List ℕ) (told : List Given) (r : Reader) → HasGiven limit fed told r → HasNoLine r → told ≡ given_lines limit 0 (whole_lines fed) }
+{}
+
+/// What becomes of a line of a log is decided by what is given for it.
+pub fn given_lines_suffice()
+    ensures { (setting : Setting) (state : State) (n : ℕ) (line : Line) → after_given setting state (given_line line_limit n line) ≡ after_line setting state line }
+{}
+
+/// Of an event whose name is declared, with the right arguments and value, an entry can be made: its
+/// name is in the table, and it has at most 8 arguments.
+pub fn named_events_fit()
+    ensures { (texts : List (List ℕ)) (names : List CodeName) (e : Event) (place : ℕ) → AreNamesIn texts names → AllByRecursion (λ n. n.arity ≤ 8) names → known_of (map (name_seen texts) names) e ≡ Named place → (is_known texts e.name ≡ true) × (length e.args ≤ 8) }
+{}

@@ -1,0 +1,15 @@
+//! Logs: their lines, the items that these are, and the entries of events.
+#![tactic(auto)]
+
+mod entries;
+mod items;
+pub mod laws;
+mod lines;
+pub mod naming;
+
+pub use entries::{Known, make_entry};
+pub use items::{Item, LineRefused, Raw, Span, read_item};
+pub use lines::{Line, Lines, Told, lines_of_pieces};
+
+#[cfg(test)]
+mod tests;

@@ -1,0 +1,13 @@
+pub mod Models
+pub mod Matching
+pub mod Order
+pub mod Partial
+pub mod Verdicts
+pub mod Open
+pub mod Images
+pub mod Steps
+pub mod Proper
+pub mod Seen
+pub mod Bindings
+pub mod Plans
+pub mod Renaming

@@ -1,0 +1,27 @@
+-- Plans that come of accepted models.
+use Rattle.std.specs.Prelude.{◌≡◌, ◌<◌, ◌≤◌, ◌+◌, ℕ, List, length, map, Option, Some, slice_get}
+use Rattle.std.specs.List.{AllByRecursion}
+use Rattle.crs_base.specs.declared.symbols.Sym.{Sym}
+use Rattle.crs_stn.specs.Bound.{IsWithin, IsConsistent}
+use Rattle.crs_stn.specs.Network.{IsMinimal}
+use Rattle.crs_stn.specs.Table.{most_of}
+use Rattle.crs_model.specs.declared.plan.Plan.{Plan}
+use Rattle.crs_model.specs.Models.{Chronicle}
+use Rattle.crs_model.specs.Proper.{IsNamed}
+use Rattle.crs_model.specs.Bindings.{PatternIsBelow}
+use Rattle.crs_model.specs.Seen.{chronicle_of}
+
+abbrev pub chronicle : Plan → Chronicle Sym
+chronicle p = chronicle_of p.chronicle
+
+pub record IsProper (p : Plan) : Type 0 where
+  pub points : p.network.points ≡ length p.chronicle.events + length p.chronicle.free
+  pub few : p.network.points ≤ 24
+  pub events_some : 0 < length p.chronicle.events
+  pub events_few : length p.chronicle.events ≤ 16
+  pub variables_few : length p.chronicle.variables ≤ 16
+  pub within : IsWithin p.network.points p.chronicle.bounds
+  pub consistent : IsConsistent p.chronicle.bounds
+  pub minimal : IsMinimal p.chronicle.bounds p.network.points (most_of p.network)
+  pub named : IsNamed (chronicle p)
+  pub below : AllByRecursion (λ v. PatternIsBelow (length p.chronicle.variables) v.pattern) (chronicle p).events

@@ -1,0 +1,22 @@
+//! Models, and what it means to recognise them.
+#![tactic(auto)]
+
+mod allowing;
+mod binding;
+mod chronicle;
+mod date_window;
+mod matching;
+mod models;
+mod pattern;
+mod plan;
+mod recognition;
+
+pub use allowing::allowed;
+pub use binding::Binding;
+pub use chronicle::{Anchor, Body, Chronicle, EventDef, VarSet, Window};
+pub use date_window::DateWindow;
+pub use matching::{bind_vars, fits};
+pub use models::{Kind, ModelRefused, ModelWord, Models, Name};
+pub use pattern::{Pattern, Term};
+pub use plan::{Plan, Plans};
+pub use recognition::{Mark, Recognition};

@@ -1,0 +1,82 @@
+-- What is said of statements whose symbols a table holds, and whose numbers fit.
+use Rattle.std.specs.Prelude.{◌≡◌, ◌≤◌, ◌≤ℤ◌, ◌+ℤ◌, ◌^◌, ◌+◌, ℕ, ℤ, pos, true, List, length, IfSome}
+use Rattle.std.specs.List.{AllByRecursion}
+use Rattle.crs_base.specs.Symbols.{is_known, is_symbol}
+use Rattle.crs_parse.specs.Statements.{Term, Value, Pattern, Event, Body, NoEvent, Occurs, Hold, Window, Distance}
+use Rattle.crs_parse.specs.Faults.{Kind, OfMessage, OfAttribute, Name, Written, Reading, shift_size}
+use Rattle.crs_parse.specs.Meant.{level_of}
+
+-- a symbol that the table holds
+pub record IsHeld (texts : List (List ℕ)) (t : List ℕ) : Type 0 where
+  pub known : is_known texts t ≡ true
+  pub symbol : is_symbol t ≡ true
+
+-- a size of at most 2 ^ 40
+pub record IsNear (z : ℤ) : Type 0 where
+  pub not_large : z ≤ℤ pos (2 ^ 40)
+  pub not_small : pos 0 ≤ℤ (z +ℤ pos (2 ^ 40))
+
+pub record AreNear (d : Distance) : Type 0 where
+  pub low : IfSome d.low IsNear
+  pub high : IfSome d.high IsNear
+
+module _ (texts : List (List ℕ)) where
+  abbrev pub AreHeld : List (List ℕ) → Type 0
+  AreHeld ts = AllByRecursion (IsHeld texts) ts
+
+  abbrev pub IsHeldTerm : Term → Type 0
+  IsHeldTerm (Value s) = IsHeld texts s
+  IsHeldTerm _ = Unit {0}
+
+  abbrev pub AreHeldTerms : List Term → Type 0
+  AreHeldTerms ts = AllByRecursion IsHeldTerm ts
+
+  pub record IsHeldPattern (p : Pattern) : Type 0 where
+    pub name : IsHeld texts p.name
+    pub terms : AreHeldTerms p.terms
+    pub change : IfSome p.change (λ c. IsHeldTerm c.0 × IsHeldTerm c.1)
+
+  pub record IsHeldEvent (e : Event) : Type 0 where
+    pub pattern : IsHeldPattern e.pattern
+    pub point : IsHeld texts e.point
+    pub level : level_of e.level ≤ 7
+
+  -- the symbols are held, and the counts are below 2 ^ 32
+  abbrev pub IsHeldBody : Body → Type 0
+  IsHeldBody (NoEvent p) = IsHeldPattern p
+  IsHeldBody (Occurs least most p) = IsHeldPattern p × (least ≤ 4294967295) × IfSome most (λ m. m ≤ 4294967295)
+  IsHeldBody (Hold name terms value) = IsHeld texts name × AreHeldTerms terms × IsHeldTerm value
+
+  pub record IsHeldWindow (w : Window) : Type 0 where
+    pub body : IsHeldBody w.body
+    pub from : shift_size w.from.shift ≤ 2 ^ 40
+    pub to : shift_size w.to.shift ≤ 2 ^ 40
+
+  pub record IsHeldSet (s : List ℕ × List (List ℕ)) : Type 0 where
+    pub variable : IsHeld texts s.0
+    pub values : AreHeld s.1
+
+  -- a chronicle whose symbols a table holds, and which keeps to the limits
+  pub record IsHeldChronicle (c : Written) : Type 0 where
+    pub name : IsHeld texts c.name
+    pub events : AllByRecursion IsHeldEvent c.events
+    pub free : AreHeld c.free
+    pub bounds : AllByRecursion AreNear c.bounds
+    pub variables : AreHeld c.variables
+    pub sets : AllByRecursion IsHeldSet c.sets
+    pub windows : AllByRecursion IsHeldWindow c.windows
+    pub few_variables : length c.variables ≤ 16
+    pub few_points : length c.events + length c.free ≤ 24
+
+  abbrev pub IsHeldKind : Kind → Type 0
+  IsHeldKind OfMessage = Unit {0}
+  IsHeldKind (OfAttribute values) = IfSome values AreHeld
+
+  pub record IsHeldName (n : Name) : Type 0 where
+    pub name : IsHeld texts n.name
+    pub arity : n.arity ≤ 8
+    pub kind : IsHeldKind n.kind
+
+  pub record IsHeldReading (r : Reading) : Type 0 where
+    pub names : AllByRecursion IsHeldName r.names
+    pub done : AllByRecursion (λ d. IsHeldChronicle d.1) r.done

@@ -1,0 +1,72 @@
+-- What every accepted model meets.
+use Rattle.std.specs.Prelude.{◌≡◌, ◌<◌, ◌≤◌, ◌≤ℤ◌, ◌+ℤ◌, ◌+◌, ◌^◌, ℕ, pos, List, length, Option, Some, None}
+use Rattle.std.specs.List.{AllByRecursion}
+use Rattle.crs_base.specs.Words.{IsIn}
+use Rattle.crs_stn.specs.Bound.{IsWithin}
+use Rattle.crs_model.specs.Models.{Term, Pattern, EventDef, Anchor, Body, NoEvent, Occurs, Hold, Window, Chronicle, Kind, Message, Attribute, Name, Models}
+use Rattle.crs_model.specs.Bindings.{TermIsBelow, PatternIsBelow}
+use Rattle.crs_model.specs.Proper.{IsNamed}
+
+-- the anchor names one of the events, and its offset has a size of at most 2 ^ 40
+pub record IsProperAnchor (events : ℕ) (a : Anchor) : Type 0 where
+  pub event : a.event < events
+  pub not_large : a.offset ≤ℤ pos (2 ^ 40)
+  pub not_small : pos 0 ≤ℤ (a.offset +ℤ pos (2 ^ 40))
+
+module _ {S : Type 0} where
+  abbrev pub IsAttribute : Kind S → Type 0
+  IsAttribute Message = ⊥
+  IsAttribute (Attribute values) = Unit {0}
+
+  -- a change stands exactly where the name is an attribute's
+  abbrev pub Suits : Kind S → Option (Term S × Term S) → Type 0
+  Suits Message None = Unit {0}
+  Suits (Attribute values) (Some c) = Unit {0}
+  Suits _ _ = ⊥
+
+  -- a declaration of this name, with this count of terms
+  pub record Declares (names : List (Name S)) (name : S) (terms : ℕ) (n : Name S) : Type 0 where
+    pub among : IsIn n names
+    pub same : n.name ≡ name
+    pub arity : n.arity ≡ terms
+
+  -- the pattern's name is declared, and the pattern is as declared
+  abbrev pub IsDeclared : List (Name S) → Pattern S → Type 0
+  IsDeclared names p = (n : Name S) × Declares names p.name (length p.terms) n × Suits n.kind p.change
+
+  -- what a window wants is of a declared name, and its variables are below n
+  abbrev pub IsProperBody : List (Name S) → ℕ → Body S → Type 0
+  IsProperBody names n (NoEvent p) = IsDeclared names p × PatternIsBelow n p
+  IsProperBody names n (Occurs least most p) = IsDeclared names p × PatternIsBelow n p
+  IsProperBody names n (Hold name terms value) = ((d : Name S) × Declares names name (length terms) d × IsAttribute d.kind) × AllByRecursion (TermIsBelow n) terms × TermIsBelow n value
+
+  pub record IsProperWindow (names : List (Name S)) (c : Chronicle S) (w : Window S) : Type 0 where
+    pub body : IsProperBody names (length c.variables) w.body
+    pub from : IsProperAnchor (length c.events) w.from
+    pub to : IsProperAnchor (length c.events) w.to
+
+  pub record IsProperEvent (names : List (Name S)) (c : Chronicle S) (e : EventDef S) : Type 0 where
+    pub declared : IsDeclared names e.pattern
+    pub below : PatternIsBelow (length c.variables) e.pattern
+    pub level : e.level ≤ 7
+
+  -- the counts, the numbers of points and variables, and the names of an accepted chronicle
+  pub record IsProperChronicle (names : List (Name S)) (c : Chronicle S) : Type 0 where
+    pub events_some : 0 < length c.events
+    pub events_few : length c.events ≤ 16
+    pub points_few : length c.events + length c.free ≤ 24
+    pub bounds_few : length c.bounds ≤ 512
+    pub variables_few : length c.variables ≤ 16
+    pub windows_few : length c.windows ≤ 16
+    pub within : IsWithin (length c.events + length c.free) c.bounds
+    pub events : AllByRecursion (IsProperEvent names c) c.events
+    pub named : IsNamed c
+    pub sets : AllByRecursion (λ s. s.variable < length c.variables) c.sets
+    pub differs : AllByRecursion (λ d. (d.0 < length c.variables) × (d.1 < length c.variables)) c.differs
+    pub windows : AllByRecursion (IsProperWindow names c) c.windows
+
+  pub record AreProper (m : Models S) : Type 0 where
+    pub names_few : length m.names ≤ 256
+    pub arities : AllByRecursion (λ n. n.arity ≤ 8) m.names
+    pub chronicles_few : length m.chronicles ≤ 64
+    pub chronicles : AllByRecursion (IsProperChronicle m.names) m.chronicles

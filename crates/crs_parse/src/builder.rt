@@ -1,0 +1,677 @@
+//! The state of a reading: what the lines so far declare.
+ghost use Rattle.std.specs.Prelude.{◌≡◌, ◌∷◌, [], ◌++◌, ◌&&◌, map, length, option_map, is_some, OnOk, not, ◌||◌, nat_le, nat_lt};
+ghost use Rattle.std.specs.List.{list_any};
+ghost use Rattle.crs_parse.specs.Faults as faults;
+ghost use Rattle.crs_parse.specs.SeenReading as see;
+ghost use Rattle.crs_parse.specs.Statements.{Point, Between, Among, Differ, Over, Happens, Close, Message, Attribute, Begin};
+ghost use Rattle.crs_base.specs.Symbols.{with_text};
+ghost use Rattle.crs_parse.specs.Adds.{Adds};
+ghost use Rattle.crs_parse.specs.declared.builder.Refused.TheVariants.{Memory};
+ghost use Rattle.crs_parse.specs.SeenStatements as seen;
+
+use crate::statements::{Anchor, Body, Distance, Event, Pattern, Shift, Statement, Term, Window};
+use crs_model::ModelWord;
+use std::alloc::{AllocError, AllocFailed, Global};
+
+/// What is declared of a message or an attribute.
+#[derive(Drop)]
+pub enum Kind<'a> {
+    Message,
+    Attribute(Option<Vec<&'a [u8]>>),
+}
+
+#[derive(Drop)]
+pub struct Name<'a> {
+    pub name: &'a [u8],
+    pub arity: u64,
+    pub kind: Kind<'a>,
+}
+
+#[derive(Drop)]
+pub struct VariableSet<'a> {
+    pub variable: &'a [u8],
+    pub values: Vec<&'a [u8]>,
+}
+
+/// A chronicle as it is written, so far or whole. The variables are those of its events' patterns, by first occurrence.
+#[derive(Drop)]
+pub struct Written<'a> {
+    pub name: &'a [u8],
+    pub events: Vec<Event<'a>>,
+    pub variables: Vec<&'a [u8]>,
+    pub free: Vec<&'a [u8]>,
+    pub bounds: Vec<Distance<'a>>,
+    pub sets: Vec<VariableSet<'a>>,
+    pub differs: Vec<(&'a [u8], &'a [u8])>,
+    pub windows: Vec<Window<'a>>,
+}
+
+/// A closed chronicle, and the line that closed it.
+#[derive(Drop)]
+pub struct Closed<'a> {
+    pub line: u32,
+    pub chronicle: Written<'a>,
+}
+
+#[derive(Drop)]
+pub struct Reading<'a> {
+    pub names: Vec<Name<'a>>,
+    pub done: Vec<Closed<'a>>,
+    pub current: Option<Written<'a>>,
+}
+
+const SIZE_LIMIT: u64 = 1 << 40;
+
+const COUNT_LIMIT: u64 = (1 << 32) - 1;
+
+fn is_of(texts: &[&[u8]], text: &[u8]) -> bool
+    ensures { result ≡ faults.is_of (map (λ t. t.now) texts.now) text.now }
+{
+    for t in texts {
+        if text == *t {
+            return true;
+        }
+    }
+    false
+}
+
+/// The declaration of a name.
+fn name_of<'r, 'a>(names: &'r [Name<'a>], text: &[u8]) -> Option<&'r Name<'a>>
+    ensures { option_map (λ n. see.name_of n.now) result ≡ faults.name_of (map see.name_of names.now) text.now }
+{
+    for n in names {
+        if text == n.name {
+            return Some(n);
+        }
+    }
+    None
+}
+
+fn is_event_point(events: &[Event<'_>], text: &[u8]) -> bool
+    ensures { result ≡ faults.is_of (map (λ e. e.point) (map seen.event_of events.now)) text.now }
+{
+    for e in events {
+        if text == e.point {
+            return true;
+        }
+    }
+    false
+}
+
+fn is_set(sets: &[VariableSet<'_>], text: &[u8]) -> bool
+    ensures { result ≡ faults.is_of (map (λ s. s.0) (map see.set_of sets.now)) text.now }
+{
+    for s in sets {
+        if text == s.variable {
+            return true;
+        }
+    }
+    false
+}
+
+fn is_chronicle(done: &[Closed<'_>], text: &[u8]) -> bool
+    ensures { result ≡ faults.is_of (map (λ d. d.1.name) (map see.closed_of done.now)) text.now }
+{
+    for d in done {
+        if text == d.chronicle.name {
+            return true;
+        }
+    }
+    false
+}
+
+impl<'a> Written<'a> {
+    fn has_point(&self, text: &[u8]) -> bool
+        ensures { result ≡ faults.is_point (see.written_of self.now) text.now }
+    {
+        is_event_point(&self.events, text) || is_of(&self.free, text)
+    }
+
+    pub fn begin(alloc: Global, name: &'a [u8]) -> Written<'a>
+        ensures { see.written_of result ≡ faults.begun name.now }
+    {
+        Written {
+            name,
+            events: Vec::new(alloc),
+            variables: Vec::new(alloc),
+            free: Vec::new(alloc),
+            bounds: Vec::new(alloc),
+            sets: Vec::new(alloc),
+            differs: Vec::new(alloc),
+            windows: Vec::new(alloc),
+        }
+    }
+}
+
+/// Whether the term is a symbol outside the declared list.
+fn is_outside(kind: &Kind<'_>, term: &Term<'_>) -> bool
+    ensures { result ≡ faults.is_outside (see.kind_of kind.now) (seen.term_of term.now) }
+{
+    match (kind, term) {
+        (Kind::Attribute(Some(values)), Term::Value(s)) => !is_of(values, s),
+        _ => false,
+    }
+}
+
+/// Whether a change, or none, suits a message or an attribute.
+fn suits(kind: &Kind<'_>, change: &Option<(Term<'_>, Term<'_>)>) -> bool
+    ensures { result ≡ faults.suits (see.kind_of kind.now) (seen.change_of change.now) }
+{
+    match (kind, change) {
+        (Kind::Message, None) => true,
+        (Kind::Attribute(_), Some(_)) => true,
+        _ => false,
+    }
+}
+
+/// The first of the words `name`, `arity` and `value` that applies to a pattern.
+fn pattern_fault(names: &[Name<'_>], pattern: &Pattern<'_>) -> Option<ModelWord>
+    ensures { result ≡ faults.pattern_fault (map see.name_of names.now) (seen.pattern_of pattern.now) }
+{
+    let Some(name) = name_of(names, pattern.name) else {
+        return Some(ModelWord::Name);
+    };
+    if pattern.terms.len() as u64 != name.arity || !suits(&name.kind, &pattern.change) {
+        return Some(ModelWord::Arity);
+    }
+    match &pattern.change {
+        Some((_, new)) if is_outside(&name.kind, new) => Some(ModelWord::Value),
+        _ => None,
+    }
+}
+
+/// The first of the same words that applies to a `hold`.
+fn hold_fault(
+    names: &[Name<'_>],
+    name: &[u8],
+    terms: &[Term<'_>],
+    value: &Term<'_>,
+) -> Option<ModelWord>
+    ensures { result ≡ faults.hold_fault (map see.name_of names.now) name.now (map seen.term_of terms.now) (seen.term_of value.now) }
+{
+    let Some(declared) = name_of(names, name) else {
+        return Some(ModelWord::Name);
+    };
+    let Kind::Attribute(_) = &declared.kind else {
+        return Some(ModelWord::Name);
+    };
+    if terms.len() as u64 != declared.arity {
+        return Some(ModelWord::Arity);
+    }
+    if is_outside(&declared.kind, value) {
+        return Some(ModelWord::Value);
+    }
+    None
+}
+
+fn body_fault(names: &[Name<'_>], body: &Body<'_>) -> Option<ModelWord>
+    ensures { result ≡ faults.body_fault (map see.name_of names.now) (seen.body_of body.now) }
+{
+    match body {
+        Body::NoEvent(pattern) => pattern_fault(names, pattern),
+        Body::Occurs(_, _, pattern) => pattern_fault(names, pattern),
+        Body::Hold(name, terms, value) => hold_fault(names, name, terms, value),
+    }
+}
+
+fn is_any(term: &Term<'_>) -> bool
+    ensures { result ≡ faults.is_any (seen.term_of term.now) }
+{
+    matches!(term, Term::Any)
+}
+
+fn has_any_term(terms: &[Term<'_>]) -> bool
+    ensures { result ≡ list_any faults.is_any (map seen.term_of terms.now) }
+{
+    for t in terms {
+        if is_any(t) {
+            return true;
+        }
+    }
+    false
+}
+
+/// Whether a `hold` has a `*`.
+fn has_any(body: &Body<'_>) -> bool
+    ensures { result ≡ faults.body_has_any (seen.body_of body.now) }
+{
+    match body {
+        Body::Hold(_, terms, value) => has_any_term(terms) || is_any(value),
+        _ => false,
+    }
+}
+
+fn shift_size(shift: Shift) -> u64
+    ensures { result ≡ faults.shift_size (seen.shift_of shift) }
+{
+    match shift {
+        Shift::Here => 0,
+        Shift::Later(n) => n,
+        Shift::Earlier(n) => n,
+    }
+}
+
+fn is_far(end: Option<i128>) -> bool
+    ensures { result ≡ faults.is_far end }
+{
+    match end {
+        Some(z) => 1 << 40 < z || z < -(1 << 40),
+        None => false,
+    }
+}
+
+fn are_crossed(low: Option<i128>, high: Option<i128>) -> bool
+    ensures { result ≡ faults.are_crossed low high }
+{
+    match (low, high) {
+        (Some(l), Some(h)) => h < l,
+        _ => false,
+    }
+}
+
+/// Whether an `occurs` has a number above 2^32 - 1, or the first above the second.
+fn has_wrong_counts(body: &Body<'_>) -> bool
+    ensures { result ≡ faults.has_wrong_counts (seen.body_of body.now) }
+{
+    match body {
+        Body::Occurs(least, Some(most), _) => {
+            COUNT_LIMIT < *least || COUNT_LIMIT < *most || *most < *least
+        }
+        Body::Occurs(least, None, _) => COUNT_LIMIT < *least,
+        _ => false,
+    }
+}
+
+/// Why a statement isn't added.
+#[derive(Debug, Drop)]
+pub enum Refused {
+    Word(ModelWord),
+    Memory,
+}
+
+impl From<AllocError> for Refused {
+    ghost from_gives = { λ _ e. e ≡ Memory };
+
+    fn from(_e: AllocError) -> Refused {
+        Refused::Memory
+    }
+}
+
+impl<T: Drop> From<AllocFailed<T>> for Refused {
+    ghost from_gives = { λ _ e. e ≡ Memory };
+
+    fn from(_e: AllocFailed<T>) -> Refused {
+        Refused::Memory
+    }
+}
+
+impl<'a> Written<'a> {
+    #[tactic(auto, using(crate::proofs::Sizes::length_seen))]
+    fn add_point(&mut self, name: &'a [u8]) -> Result<(), Refused>
+        ensures { Adds result (faults.own_fault [] [] (see.written_of self.old) (Point name.now)) (see.written_of self.new) (faults.with_statement (see.written_of self.old) (Point name.now)) }
+    {
+        if self.has_point(name) {
+            return Err(Refused::Word(ModelWord::Twice));
+        }
+        if 24 <= self.events.len() + self.free.len() {
+            return Err(Refused::Word(ModelWord::Limit));
+        }
+        self.free.push(name)?;
+        Ok(())
+    }
+
+    #[tactic(auto, using(crate::proofs::Sizes::length_seen))]
+    fn add_bound(&mut self, distance: Distance<'a>) -> Result<(), Refused>
+        ensures { Adds result (faults.own_fault [] [] (see.written_of self.old) (Between (seen.distance_of distance.entry))) (see.written_of self.new) (faults.with_statement (see.written_of self.old) (Between (seen.distance_of distance.entry))) }
+    {
+        if !(self.has_point(distance.to) && self.has_point(distance.from)) {
+            return Err(Refused::Word(ModelWord::Point));
+        }
+        if is_far(distance.low)
+            || is_far(distance.high)
+            || are_crossed(distance.low, distance.high)
+        {
+            return Err(Refused::Word(ModelWord::Bound));
+        }
+        if 256 <= self.bounds.len() {
+            return Err(Refused::Word(ModelWord::Limit));
+        }
+        self.bounds.push(distance)?;
+        Ok(())
+    }
+
+    #[tactic(auto, using(crate::proofs::Sizes::length_seen))]
+    fn add_set(&mut self, set: VariableSet<'a>) -> Result<(), Refused>
+        ensures { Adds result (faults.own_fault [] [] (see.written_of self.old) (Among (see.set_of set.entry).0 (see.set_of set.entry).1)) (see.written_of self.new) (faults.with_statement (see.written_of self.old) (Among (see.set_of set.entry).0 (see.set_of set.entry).1)) }
+    {
+        if is_set(&self.sets, set.variable) {
+            return Err(Refused::Word(ModelWord::Twice));
+        }
+        if !is_of(&self.variables, set.variable) {
+            return Err(Refused::Word(ModelWord::Variable));
+        }
+        if 64 < set.values.len() {
+            return Err(Refused::Word(ModelWord::Limit));
+        }
+        self.sets.push(set)?;
+        Ok(())
+    }
+
+    #[tactic(auto, using(crate::proofs::Sizes::length_seen))]
+    fn add_differ(&mut self, left: &'a [u8], right: &'a [u8]) -> Result<(), Refused>
+        ensures { Adds result (faults.own_fault [] [] (see.written_of self.old) (Differ left.now right.now)) (see.written_of self.new) (faults.with_statement (see.written_of self.old) (Differ left.now right.now)) }
+    {
+        if !(is_of(&self.variables, left) && is_of(&self.variables, right)) {
+            return Err(Refused::Word(ModelWord::Variable));
+        }
+        if 64 <= self.differs.len() {
+            return Err(Refused::Word(ModelWord::Limit));
+        }
+        self.differs.push((left, right))?;
+        Ok(())
+    }
+
+    #[tactic(auto, using(crate::proofs::Sizes::length_seen))]
+    fn add_window(&mut self, names: &[Name<'a>], window: Window<'a>) -> Result<(), Refused>
+        ensures { Adds result (faults.own_fault (map see.name_of names.now) [] (see.written_of self.old) (Over (seen.window_of window.entry))) (see.written_of self.new) (faults.with_statement (see.written_of self.old) (Over (seen.window_of window.entry))) }
+    {
+        if let Some(word) = body_fault(names, &window.body) {
+            return Err(Refused::Word(word));
+        }
+        if let Some(word) = range_fault(self, &window) {
+            return Err(Refused::Word(word));
+        }
+        self.windows.push(window)?;
+        Ok(())
+    }
+}
+
+/// Whether an anchor names no event's point.
+fn lacks_anchor(c: &Written<'_>, window: &Window<'_>) -> bool
+    ensures { result ≡ faults.has_no_point (see.written_of c.now) (Over (seen.window_of window.now)) }
+{
+    !(is_event_point(&c.events, window.from.point) && is_event_point(&c.events, window.to.point))
+}
+
+/// Whether an offset or a count is out of its bounds.
+fn is_out_of_bounds(window: &Window<'_>) -> bool
+    ensures { result ≡ faults.is_out_of_bounds (Over (seen.window_of window.now)) }
+{
+    SIZE_LIMIT < shift_size(window.from.shift)
+        || SIZE_LIMIT < shift_size(window.to.shift)
+        || has_wrong_counts(&window.body)
+}
+
+/// The first of the words from `point` on that applies to a window.
+#[tactic(auto, using(crate::proofs::Sizes::length_seen))]
+fn range_fault(c: &Written<'_>, window: &Window<'_>) -> Option<ModelWord>
+    ensures { result ≡ faults.range_fault (see.written_of c.now) (seen.window_of window.now) }
+{
+    if lacks_anchor(c, window) {
+        return Some(ModelWord::Point);
+    }
+    if is_out_of_bounds(window) {
+        return Some(ModelWord::Bound);
+    }
+    if has_any(&window.body) {
+        return Some(ModelWord::Window);
+    }
+    if 16 <= c.windows.len() {
+        return Some(ModelWord::Limit);
+    }
+    None
+}
+
+/// Adds a text that isn't there.
+fn push_new<'a>(texts: &mut Vec<&'a [u8]>, text: &'a [u8]) -> Result<(), AllocError>
+    ensures { OnOk result (map (λ t. t.now) texts.new.items ≡ with_text (map (λ t. t.now) texts.old.items) text.now) }
+{
+    if !is_of(texts, text) {
+        texts.push(text)?;
+    }
+    Ok(())
+}
+
+fn add_variable<'a>(variables: &mut Vec<&'a [u8]>, term: &Term<'a>) -> Result<(), AllocError>
+    ensures { OnOk result (map (λ t. t.now) variables.new.items ≡ faults.with_texts (map (λ t. t.now) variables.old.items) (faults.variable_in (seen.term_of term.now))) }
+{
+    if let Term::Variable(name) = term {
+        push_new(variables, name)?;
+    }
+    Ok(())
+}
+
+fn add_variables<'a>(variables: &mut Vec<&'a [u8]>, terms: &[Term<'a>]) -> Result<(), AllocError>
+    ensures { OnOk result (map (λ t. t.now) variables.new.items ≡ faults.with_texts (map (λ t. t.now) variables.old.items) (faults.variables_in (map seen.term_of terms.now))) }
+{
+    for t in terms {
+        add_variable(variables, t)?;
+    }
+    Ok(())
+}
+
+fn add_change_variables<'a>(
+    variables: &mut Vec<&'a [u8]>,
+    change: &Option<(Term<'a>, Term<'a>)>,
+) -> Result<(), AllocError>
+    ensures { OnOk result (map (λ t. t.now) variables.new.items ≡ faults.with_texts (map (λ t. t.now) variables.old.items) (faults.variables_in (faults.change_terms (seen.change_of change.now)))) }
+{
+    if let Some((old, new)) = change {
+        add_variable(variables, old)?;
+        add_variable(variables, new)?;
+    }
+    Ok(())
+}
+
+#[tactic(auto, using(crate::proofs::Texts::with_texts_append))]
+fn add_pattern_variables<'a>(
+    variables: &mut Vec<&'a [u8]>,
+    pattern: &Pattern<'a>,
+) -> Result<(), AllocError>
+    ensures { OnOk result (map (λ t. t.now) variables.new.items ≡ faults.with_texts (map (λ t. t.now) variables.old.items) (faults.variables_of (seen.pattern_of pattern.now))) }
+{
+    add_variables(variables, &pattern.terms)?;
+    add_change_variables(variables, &pattern.change)
+}
+
+fn lacks(variables: &[&[u8]], term: &Term<'_>) -> bool
+    ensures { result ≡ faults.lacks (map (λ t. t.now) variables.now) (seen.term_of term.now) }
+{
+    match term {
+        Term::Variable(name) => !is_of(variables, name),
+        _ => false,
+    }
+}
+
+fn terms_lack(variables: &[&[u8]], terms: &[Term<'_>]) -> bool
+    ensures { result ≡ list_any (faults.lacks (map (λ t. t.now) variables.now)) (map seen.term_of terms.now) }
+{
+    for t in terms {
+        if lacks(variables, t) {
+            return true;
+        }
+    }
+    false
+}
+
+fn change_lacks(variables: &[&[u8]], change: &Option<(Term<'_>, Term<'_>)>) -> bool
+    ensures { result ≡ faults.change_lacks (map (λ t. t.now) variables.now) (seen.change_of change.now) }
+{
+    match change {
+        Some((old, new)) => lacks(variables, old) || lacks(variables, new),
+        None => false,
+    }
+}
+
+fn pattern_lacks(variables: &[&[u8]], pattern: &Pattern<'_>) -> bool
+    ensures { result ≡ faults.pattern_lacks (map (λ t. t.now) variables.now) (seen.pattern_of pattern.now) }
+{
+    terms_lack(variables, &pattern.terms) || change_lacks(variables, &pattern.change)
+}
+
+fn body_lacks(variables: &[&[u8]], body: &Body<'_>) -> bool
+    ensures { result ≡ faults.body_lacks (map (λ t. t.now) variables.now) (seen.body_of body.now) }
+{
+    match body {
+        Body::NoEvent(pattern) => pattern_lacks(variables, pattern),
+        Body::Occurs(_, _, pattern) => pattern_lacks(variables, pattern),
+        Body::Hold(_, terms, value) => terms_lack(variables, terms) || lacks(variables, value),
+    }
+}
+
+fn windows_lack(variables: &[&[u8]], windows: &[Window<'_>]) -> bool
+    ensures { result ≡ list_any (λ w. faults.body_lacks (map (λ t. t.now) variables.now) w.body) (map seen.window_of windows.now) }
+{
+    for w in windows {
+        if body_lacks(variables, &w.body) {
+            return true;
+        }
+    }
+    false
+}
+
+fn is_above(limit: u64, level: Option<u64>) -> bool
+    ensures { result ≡ faults.is_above limit level }
+{
+    match level {
+        Some(n) => limit < n,
+        None => false,
+    }
+}
+
+impl<'a> Written<'a> {
+    #[tactic(auto, using(crate::proofs::Sizes::length_seen))]
+    fn lacks_events(&self) -> bool
+        ensures { result ≡ faults.lacks_events (see.written_of self.now) Close }
+    {
+        self.events.is_empty()
+    }
+
+    /// The first of the words `events` and `unbound` that applies.
+    pub fn closing_fault(&self) -> Option<ModelWord>
+        ensures { result ≡ faults.own_fault [] [] (see.written_of self.now) Close }
+    {
+        if self.lacks_events() {
+            return Some(ModelWord::Events);
+        }
+        if windows_lack(&self.variables, &self.windows) {
+            return Some(ModelWord::Unbound);
+        }
+        None
+    }
+
+    /// Whether an event with this level, whose variables are here, would pass a limit.
+    #[tactic(auto, using(crate::proofs::Sizes::length_seen))]
+    fn is_full(&self, level: Option<u64>) -> bool
+        ensures { result ≡ faults.is_full (see.written_of self.now) level }
+    {
+        16 <= self.events.len()
+            || 24 <= self.events.len() + self.free.len()
+            || is_above(7, level)
+            || 16 < self.variables.len()
+    }
+
+    #[tactic(auto, using(crate::proofs::Sizes::length_seen))]
+    fn add_event(&mut self, names: &[Name<'a>], event: Event<'a>) -> Result<(), Refused>
+        ensures { Adds result (faults.own_fault (map see.name_of names.now) [] (see.written_of self.old) (Happens (seen.event_of event.entry))) (see.written_of self.new) (faults.with_statement (see.written_of self.old) (Happens (seen.event_of event.entry))) }
+    {
+        if self.has_point(event.point) {
+            return Err(Refused::Word(ModelWord::Twice));
+        }
+        if let Some(word) = pattern_fault(names, &event.pattern) {
+            return Err(Refused::Word(word));
+        }
+        add_pattern_variables(&mut self.variables, &event.pattern)?;
+        if self.is_full(event.level) {
+            return Err(Refused::Word(ModelWord::Limit));
+        }
+        self.events.push(event)?;
+        Ok(())
+    }
+}
+
+/// Declares a message.
+#[tactic(auto, using(crate::proofs::Sizes::length_seen))]
+pub fn add_message<'a>(names: &mut Vec<Name<'a>>, name: &'a [u8], arity: u64) -> Result<(), Refused>
+    ensures { Adds result (faults.own_fault (map see.name_of names.old.items) [] (faults.begun []) (Message name.now arity)) (map see.name_of names.new.items) (map see.name_of names.old.items ++ faults.message_named name.now arity ∷ []) }
+{
+    if name_of(names, name).is_some() {
+        return Err(Refused::Word(ModelWord::Twice));
+    }
+    if 256 <= names.len() || 8 < arity {
+        return Err(Refused::Word(ModelWord::Limit));
+    }
+    names.push(Name {
+        name,
+        arity,
+        kind: Kind::Message,
+    })?;
+    Ok(())
+}
+
+fn is_long(values: &Option<Vec<&[u8]>>) -> bool
+    ensures { result ≡ faults.is_above 64 (option_map length (see.values_of values.now)) }
+{
+    match values {
+        Some(values) => 64 < values.len(),
+        None => false,
+    }
+}
+
+/// Declares an attribute.
+#[tactic(auto, using(crate::proofs::Sizes::length_seen))]
+pub fn add_attribute<'a>(
+    names: &mut Vec<Name<'a>>,
+    name: &'a [u8],
+    arity: u64,
+    values: Option<Vec<&'a [u8]>>,
+) -> Result<(), Refused>
+    ensures { Adds result (faults.own_fault (map see.name_of names.old.items) [] (faults.begun []) (Attribute name.now arity (see.values_of values.entry))) (map see.name_of names.new.items) (map see.name_of names.old.items ++ faults.attribute_named name.now arity (see.values_of values.entry) ∷ []) }
+{
+    if name_of(names, name).is_some() {
+        return Err(Refused::Word(ModelWord::Twice));
+    }
+    if 256 <= names.len() || 8 < arity || is_long(&values) {
+        return Err(Refused::Word(ModelWord::Limit));
+    }
+    names.push(Name {
+        name,
+        arity,
+        kind: Kind::Attribute(values),
+    })?;
+    Ok(())
+}
+
+/// The first word that applies to the begin of a chronicle.
+#[tactic(auto, using(crate::proofs::Sizes::length_seen))]
+pub fn begin_fault(done: &[Closed<'_>], name: &[u8]) -> Option<ModelWord>
+    ensures { result ≡ faults.own_fault [] (map see.closed_of done.now) (faults.begun []) (Begin name.now) }
+{
+    if is_chronicle(done, name) {
+        return Some(ModelWord::Twice);
+    }
+    if 64 <= done.len() {
+        return Some(ModelWord::Limit);
+    }
+    None
+}
+
+impl<'a> Written<'a> {
+    /// Adds a statement. At the closing one nothing is added.
+    pub fn add(&mut self, names: &[Name<'a>], statement: Statement<'a>) -> Result<(), Refused>
+        ensures { Adds result (faults.own_fault (map see.name_of names.now) [] (see.written_of self.old) (seen.statement_of statement.entry)) (see.written_of self.new) (faults.with_statement (see.written_of self.old) (seen.statement_of statement.entry)) }
+    {
+        match statement {
+            Statement::Happens(event) => self.add_event(names, event),
+            Statement::Point(name) => self.add_point(name),
+            Statement::Between(distance) => self.add_bound(distance),
+            Statement::Among(variable, values) => self.add_set(VariableSet { variable, values }),
+            Statement::Differ(left, right) => self.add_differ(left, right),
+            Statement::Over(window) => self.add_window(names, window),
+            Statement::Close => match self.closing_fault() {
+                Some(word) => Err(Refused::Word(word)),
+                None => Ok(()),
+            },
+        }
+    }
+}

@@ -1,0 +1,8 @@
+//! Laws about the definitions.
+ghost use Rattle.crs_parse.specs.Laws as laws;
+
+/// What is read from the tokens of a line is exactly what they mean by the table of statements.
+pub fn read_is_what_is_meant()
+    ensures sound { laws.ReadIsMeant }
+    ensures complete { laws.MeantIsRead }
+{}

@@ -1,0 +1,12 @@
+//! The lines of a run, as bytes.
+#![tactic(auto)]
+
+mod recognitions;
+mod refusals;
+mod writing;
+
+pub use recognitions::{line_of, push_line_of};
+pub use refusals::{Fault, model_line, push_refusal_line, refusal_line};
+
+#[cfg(test)]
+mod tests;

@@ -1,0 +1,7 @@
+pub mod Forking
+pub mod Leaving
+pub mod Standing
+pub mod Marking
+pub mod Finding
+pub mod Ascending
+pub mod Advancing

@@ -1,0 +1,86 @@
+-- What a mark answers of a chronicle.
+use Rattle.std.specs.Prelude.{◌≡◌, ◌<◌, ◌≤◌, ℕ, List, map, length, Option, Some, None, false}
+use Rattle.std.specs.List.{AllByRecursion}
+use Rattle.crs_base.specs.declared.symbols.Sym.{Sym}
+use Rattle.crs_base.specs.Words.{IsIn, Ordered}
+use Rattle.crs_base.specs.Entry.{Entry}
+use Rattle.crs_model.specs.declared.recognition.Mark.{Mark}
+use Rattle.crs_model.specs.declared.recognition.Recognition.{Recognition}
+use Rattle.crs_model.specs.Models.{Chronicle}
+use Rattle.crs_model.specs.Matching.{Assignment, AreDistinct}
+use Rattle.crs_model.specs.Images.{IsImage}
+use Rattle.crs_model.specs.Steps.{GoesOn}
+use Rattle.crs_model.specs.Order.{Lists, assignment_cmp}
+use Rattle.crs_model.specs.Open.{IsRecognised, before, whole}
+use Rattle.crs_model.specs.Partial.{Partial}
+use Rattle.crs_model.specs.Plans.{chronicle}
+use Rattle.crs_model.specs.Seen.{assignment_of, given}
+use Rattle.crs_instance.specs.Instances.{InstanceState}
+use Rattle.crs_store.specs.Stores.{StoreState, Stands, parts}
+use Rattle.crs_store.specs.Sweeps.{is_whole, IsFull}
+use Rattle.std.specs.Ordering.{is_lt}
+use Rattle.std.specs.List.Sorted.{IsPermutation, IsSortedBy}
+use Rattle.std.specs.declared.cmp.Ordering.{Ordering}
+
+-- it has the number, the mark, an entry for each event of the chronicle, and a symbol for each variable
+pub record IsRecognitionOf (c : Chronicle Sym) (n : ℕ) (m : Mark) (r : Recognition) : Type 0 where
+  pub chronicle : r.chronicle ≡ n
+  pub mark : r.mark ≡ m
+  pub entries : length r.entries ≡ length c.events
+  pub binding : r.binding ≡ map Some (given r.binding)
+  pub values : length (given r.binding) ≡ length c.variables
+
+-- recognised at h over the pool, and not at g over what was the pool then
+abbrev pub IsNew : Chronicle Sym → List (Entry Sym) → List (Entry Sym) → List (Entry Sym) → ℕ → ℕ → Assignment Sym → Type 0
+IsNew c was pool entries g h b = IsRecognised c pool entries h b × (IsRecognised c was (before g entries) g b → ⊥)
+
+-- the answer has exactly the new ones, ascending by the lists of their entries' keys
+pub record IsAnswer (c : Chronicle Sym) (number : ℕ) (mark : Mark) (was pool entries : List (Entry Sym)) (g h : ℕ) (answer : List Recognition) : Type 0 where
+  pub listed : Lists assignment_cmp (IsNew c was pool entries g h) (map assignment_of answer)
+  pub each : AllByRecursion (IsRecognitionOf c number mark) answer
+
+-- after a mark whose horizon is h
+pub record IsMarked (old new : StoreState) (mark : Mark) (was pool entries : List (Entry Sym)) (g h : ℕ) (answer : List Recognition) : Type 0 where
+  pub stands : Stands new pool pool entries h h
+  pub answers : IsAnswer (chronicle old.plan) old.number mark was pool entries g h answer
+
+-- where no two entries of the pool have one arrival number, d isn't after h, and the entries are dated before h and stand in the order of their dates
+abbrev pub IsAdvanced : StoreState → ℕ → Mark → StoreState → List Recognition → Type 0
+IsAdvanced old h mark new answer =
+    (was pool entries : List (Entry Sym)) (d g : ℕ) → Stands old was pool entries d g → AreDistinct pool → d ≤ h → ((e : Entry Sym) → IsIn e entries → e.date < h) → Ordered (λ d e. d.date ≤ e.date) entries →
+    IsMarked old new mark was pool entries g h answer
+
+-- the recognition of a whole instance
+pub record IsRecognitionFrom (n : ℕ) (m : Mark) (i : InstanceState) (r : Recognition) : Type 0 where
+  pub chronicle : r.chronicle ≡ n
+  pub mark : r.mark ≡ m
+  pub entries : i.partial ≡ whole (assignment_of r)
+  pub binding : r.binding ≡ i.binding
+
+-- none where some event is unbound
+abbrev pub IsRecognitionIfWhole : ℕ → Mark → InstanceState → Option Recognition → Type 0
+IsRecognitionIfWhole number mark i None = is_whole i.partial ≡ false
+IsRecognitionIfWhole number mark i (Some r) = IsRecognitionFrom number mark i r
+
+-- the partial assignments that were recognised
+abbrev pub wholes : List Recognition → List (Partial Sym)
+wholes rs = map (λ r. whole (assignment_of r)) rs
+
+-- it is the recognition of one of the instances
+abbrev pub IsRecognitionOfOne : ℕ → Mark → List InstanceState → Recognition → Type 0
+IsRecognitionOfOne number mark is r = (i : InstanceState) × IsIn i is × IsRecognitionFrom number mark i r
+
+abbrev pub answer_cmp : Recognition → Recognition → Ordering
+answer_cmp r s = assignment_cmp (assignment_of r) (assignment_of s)
+
+-- what is found among the instances is the recognitions of the whole ones
+pub record AreFound (number : ℕ) (mark : Mark) (held : List InstanceState) (found : List Recognition) : Type 0 where
+  pub each : AllByRecursion (IsRecognitionOfOne number mark held) found
+  pub image : Ordered (λ a b. a ≡ b → ⊥) (parts held) → IsImage (GoesOn IsFull) (parts held) (wholes found)
+
+-- the same in the order of the lists of their entries' keys
+pub record AreFoundInOrder (number : ℕ) (mark : Mark) (held : List InstanceState) (answer : List Recognition) : Type 0 where
+  pub found : List Recognition
+  pub are : AreFound number mark held found
+  pub moved : IsPermutation found answer
+  pub sorted : IsSortedBy (λ r s. is_lt (answer_cmp r s)) answer

@@ -1,0 +1,102 @@
+ghost use Rattle.std.specs.Prelude.{◌≡◌, ◌<◌, ◌≤◌, ◌^◌, ◌++◌, length, IfOk, OnOk};
+ghost use Rattle.std.specs.Option.{option_to_list};
+ghost use Rattle.crs_base.specs.Seen.{entry_of};
+ghost use Rattle.crs_model.specs.Plans.{IsProper};
+ghost use Rattle.crs_model.specs.Images.{IsImage};
+ghost use Rattle.crs_instance.specs.Instances.{IsOf};
+ghost use Rattle.crs_store.specs.Stores.{parts, AllOf};
+ghost use Rattle.crs_store.specs.Sweeps.{upto, Forks, IsForkOf, IsFree, IsReady, IsFork};
+
+use crs_base::Entry;
+use crs_instance::{Fit, Instance};
+use crs_model::{Plan, fits};
+use std::alloc::{AllocError, Global};
+use std::rc::Rc;
+
+/// Adds the item, where there is one.
+pub(crate) fn push_some<T: Drop>(items: &mut Vec<T>, item: Option<T>) -> Result<(), AllocError>
+    ensures { OnOk result (items.new.items ≡ items.old.items ++ option_to_list item) }
+{
+    match item {
+        None => Ok(()),
+        Some(item) => {
+            items.push(item)?;
+            Ok(())
+        }
+    }
+}
+
+/// A copy of the instance with the event bound to the entry too, where that can be and can go on.
+/// It takes memory only where the event's pattern fits the entry.
+fn fork(
+    plan: &Plan,
+    instance: &Instance,
+    event: u8,
+    entry: &Rc<Entry>,
+) -> Result<Option<Instance>, AllocError>
+    requires proper { IsProper plan.now }
+    requires of { IsOf plan.now instance.now }
+    requires event { event < length plan.now.chronicle.events }
+    requires date { entry.now.value.date < 2 ^ 40 }
+    ensures { IfOk result (IsFork plan.now entry.now.value.date (entry_of entry.now.value) instance.now event) }
+{
+    if instance.entry(event).is_some() {
+        return Ok(None);
+    }
+    let pattern = &plan.chronicle.events.as_slice()[event as usize].pattern;
+    if !fits(pattern, instance.binding(), entry) {
+        return Ok(None);
+    }
+    let mut next = instance.copy()?;
+    match next.bind(plan, event, entry.clone()?)? {
+        Fit::No => Ok(None),
+        Fit::Yes => {
+            if next.can_go_on(entry.date) {
+                Ok(Some(next))
+            } else {
+                Ok(None)
+            }
+        }
+    }
+}
+
+/// The instance with each unbound event bound to the entry too, where that can be and can go on.
+fn forks(
+    alloc: Global,
+    plan: &Plan,
+    instance: &Instance,
+    entry: &Rc<Entry>,
+) -> Result<Vec<Instance>, AllocError>
+    requires proper { IsProper plan.now }
+    requires of { IsOf plan.now instance.now }
+    requires date { entry.now.value.date < 2 ^ 40 }
+    ensures of { IfOk result (λ v. AllOf plan.now v.items) }
+    ensures image { IfOk result (λ v. IsFree (entry_of entry.now.value) instance.now.partial → IsImage (Forks plan.now entry.now.value.date (entry_of entry.now.value) instance.now.partial) (upto (length instance.now.partial)) (parts v.items)) }
+{
+    let mut out = Vec::new(alloc);
+    for event in 0..plan.chronicle.events.len() as u8 {
+        push_some(&mut out, fork(plan, instance, event, entry)?)?;
+    }
+    Ok(out)
+}
+
+/// All forks of the instances.
+pub(crate) fn all_forks(
+    alloc: Global,
+    plan: &Plan,
+    held: &[Instance],
+    entry: &Rc<Entry>,
+) -> Result<Vec<Instance>, AllocError>
+    requires proper { IsProper plan.now }
+    requires of { AllOf plan.now held.now }
+    requires date { entry.now.value.date < 2 ^ 40 }
+    ensures of { IfOk result (λ v. AllOf plan.now v.items) }
+    ensures image { IfOk result (λ v. IsReady (entry_of entry.now.value) (parts held.now) → IsImage (IsForkOf plan.now entry.now.value.date (entry_of entry.now.value)) (parts held.now) (parts v.items)) }
+{
+    let mut out = Vec::new(alloc);
+    for instance in held {
+        let mut more = forks(alloc, plan, instance, entry)?;
+        out.append(&mut more)?;
+    }
+    Ok(out)
+}

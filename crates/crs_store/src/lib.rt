@@ -1,0 +1,15 @@
+//! The partial instances of one chronicle that can still be recognised.
+#![tactic(auto)]
+
+mod forks;
+mod order;
+mod recognising;
+mod refused;
+mod staying;
+mod store;
+
+pub use refused::StoreRefused;
+pub use store::Store;
+
+#[cfg(test)]
+mod tests;

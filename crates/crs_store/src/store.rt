@@ -1,0 +1,170 @@
+ghost use Rattle.std.specs.Prelude.{◌≡◌, ◌<◌, ◌≤◌, ◌^◌, ◌↔◌, ◌⊎◌, [], map, length, slice_get, IsTrue, OnOk, IfOk, IfSome, Err, false};
+ghost use Rattle.std.specs.Option.{option_copied};
+ghost use Rattle.crs_base.specs.Seen.{entry_of};
+ghost use Rattle.crs_model.specs.Plans.{chronicle, IsProper};
+ghost use Rattle.crs_model.specs.Images.{IsImage};
+ghost use Rattle.crs_model.specs.Steps.{GoesOnWith};
+ghost use Rattle.crs_instance.specs.Instances.{IsOf};
+ghost use Rattle.crs_store.specs.Stores.{parts, AllOf, Stands, IsStore, IsSameStore, IsOffered};
+ghost use Rattle.crs_store.specs.Sweeps.{IsFine, IsReady};
+ghost use Rattle.crs_store.specs.Answers.{IsAdvanced, AreFoundInOrder};
+ghost use Rattle.crs_store.specs.declared.refused.StoreRefused.TheVariants.{Stopped, Memory};
+
+use crate::forks::all_forks;
+use crate::order::put_in_order;
+use crate::recognising::recognitions;
+use crate::refused::StoreRefused;
+use crate::staying::{keep_able, keep_waiting};
+use crs_base::{Entry, List};
+use crs_instance::Instance;
+use crs_model::{Mark, Plan, Recognition};
+use std::alloc::{AllocError, Global};
+use std::marker::Model;
+use std::rc::Rc;
+
+/// The partial instances of one chronicle that can still be recognised.
+#[derive(Drop)]
+pub struct Store {
+    plan: Rc<Plan>,
+    number: u32,
+    held: Vec<Instance>,
+    stopped: bool,
+    alloc: Global,
+}
+
+impl Model for Store {
+    ghost use Rattle.crs_store.specs.Stores.{StoreState, IsStore};
+
+    ghost Value = { StoreState };
+
+    ghost view = { λ s. record { plan = s.plan.value; number = s.number; held = s.held.items; stopped = s.stopped } };
+
+    ghost invariant = { λ s. IsStore (record { plan = s.plan.value; number = s.number; held = s.held.items; stopped = s.stopped }) };
+}
+
+/// Adds what comes of the instances by the entry, and drops those that it makes hopeless.
+fn take_in(
+    alloc: Global,
+    plan: &Plan,
+    held: &mut Vec<Instance>,
+    entry: &Rc<Entry>,
+) -> Result<(), AllocError>
+    requires proper { IsProper plan.now }
+    requires of { AllOf plan.now held.old.items }
+    requires date { entry.now.value.date < 2 ^ 40 }
+    ensures of { AllOf plan.now held.new.items }
+    ensures image { OnOk result (IsReady (entry_of entry.now.value) (parts held.old.items) → IsImage (GoesOnWith (IsFine plan.now entry.now.value.date) (entry_of entry.now.value)) (parts held.old.items) (parts held.new.items)) }
+{
+    let mut more = all_forks(alloc, plan, held.as_slice(), entry)?;
+    keep_able(held, entry.date);
+    held.append(&mut more)?;
+    Ok(())
+}
+
+/// The recognitions of the whole instances, in order.
+fn answer(
+    alloc: Global,
+    held: &[Instance],
+    number: u32,
+    mark: Mark,
+) -> Result<List<Recognition>, AllocError>
+    ensures { IfOk result (AreFoundInOrder number mark held.now) }
+{
+    let mut found = recognitions(alloc, held, number, mark)?;
+    put_in_order(&mut found);
+    let listed = list_of(alloc, found)?;
+    Ok(listed)
+}
+
+/// The same items in order.
+fn list_of(alloc: Global, items: Vec<Recognition>) -> Result<List<Recognition>, AllocError>
+    ensures { IfOk result (λ l. l ≡ items.items) }
+{
+    let mut list = List::new(alloc);
+    for item in items {
+        list.push(item)?;
+    }
+    Ok(list)
+}
+
+impl Store {
+    /// A store of the chronicle of this number, counted from 0 in file order. Nothing is bound yet.
+    pub fn new(alloc: Global, plan: Rc<Plan>, number: u32) -> Result<Store, AllocError>
+        requires proper { IsProper plan.value }
+        requires windowless { (chronicle plan.value).windows ≡ [] }
+        ensures plan { IfOk result (λ s. s.plan ≡ plan.value) }
+        ensures number { IfOk result (λ s. s.number ≡ number) }
+        ensures running { IfOk result (λ s. s.stopped ≡ false) }
+        ensures stands { IfOk result (λ s. Stands s [] [] [] 0 0) }
+    {
+        let mut held = Vec::new(alloc);
+        held.push(Instance::root(alloc, &plan)?)?;
+        Ok(Store {
+            plan,
+            number,
+            held,
+            stopped: false,
+            alloc,
+        })
+    }
+
+    /// Takes in an entry, whose key is after those of the entries that were taken in before. After
+    /// `Memory` the store answers only `Stopped`.
+    pub fn offer(&mut self, entry: &Rc<Entry>) -> Result<(), StoreRefused>
+        requires { entry.now.value.date < 2 ^ 40 }
+        ensures stopped { (result ≡ Err Stopped) ↔ IsTrue self.old.stopped }
+        ensures raised { IsTrue self.new.stopped ↔ (IsTrue self.old.stopped ⊎ (result ≡ Err Memory)) }
+        ensures same { IsSameStore self.old self.new }
+        ensures stands { OnOk result (IsOffered self.old (entry_of entry.now.value) self.new) }
+    {
+        if self.stopped {
+            return Err(StoreRefused::Stopped);
+        }
+        match take_in(self.alloc, &self.plan, &mut self.held, entry) {
+            Ok(()) => Ok(()),
+            Err(_) => {
+                self.stopped = true;
+                Err(StoreRefused::Memory)
+            }
+        }
+    }
+
+    /// Moves on to the horizon `h`, and answers what is newly recognised, with this mark. After
+    /// `Memory` the store answers only `Stopped`.
+    pub fn advance(&mut self, h: u64, mark: Mark) -> Result<List<Recognition>, StoreRefused>
+        requires { h ≤ 2 ^ 42 }
+        ensures stopped { (result ≡ Err Stopped) ↔ IsTrue self.old.stopped }
+        ensures raised { IsTrue self.new.stopped ↔ (IsTrue self.old.stopped ⊎ (result ≡ Err Memory)) }
+        ensures same { IsSameStore self.old self.new }
+        ensures advanced { IfOk result (λ a. IsAdvanced self.old h mark self.new a) }
+    {
+        if self.stopped {
+            return Err(StoreRefused::Stopped);
+        }
+        match answer(self.alloc, self.held.as_slice(), self.number, mark) {
+            Ok(found) => {
+                keep_waiting(&mut self.held, h);
+                Ok(found)
+            }
+            Err(_) => {
+                self.stopped = true;
+                Err(StoreRefused::Memory)
+            }
+        }
+    }
+
+    /// How many instances are held.
+    pub fn held(&self) -> usize
+        ensures { result ≡ length self.now.held }
+    {
+        self.held.len()
+    }
+
+    /// The instance at a place, from 0. None exactly where the place is not below their number.
+    pub fn instance(&self, i: usize) -> Option<&Instance>
+        ensures place { option_copied result ≡ slice_get self.now.held i }
+        ensures of { IfSome (option_copied result) (IsOf self.now.plan) }
+    {
+        self.held.as_slice().get(i)
+    }
+}

@@ -1,0 +1,121 @@
+-- What is written for the answer of a clock mark is the mark's text.
+use Rattle.std.proofs.Common.{◌≡◌, ◌<◌, ◌≤◌, ℕ, ◌+◌, zero, suc, List, [], ◌∷◌, ◌++◌, map, length, refl, sym, ap, subst, ◌∙◌, arith, append_assoc, inl, inr}
+use Rattle.std.specs.Prelude.{Option, Some, None, IfSome, IsSomeAnd, slice_get, option_map, flat_map}
+use Rattle.std.specs.Option.{option_map_or}
+use Rattle.std.specs.List.{AllByRecursion}
+use Rattle.std.proofs.lemmas.List.{length-map}
+use Rattle.crs_base.specs.declared.symbols.Sym.{Sym}
+use Rattle.crs_base.specs.Entry.{Entry}
+use Rattle.crs_base.specs.Symbols.{AreDistinct}
+use Rattle.crs_base.specs.Words.{IsIn}
+use Rattle.crs_base.proofs.Words.{each_from_in, in_from_each, in_map}
+use Rattle.crs_model.specs.declared.plan.Plan.{Plan}
+use Rattle.crs_model.specs.declared.plan.Plans.{Plans}
+use Rattle.crs_model.specs.declared.recognition.Mark.{Mark}
+use Rattle.crs_model.specs.declared.recognition.Recognition.{Recognition}
+use Rattle.crs_model.specs.Models.{Chronicle, EventDef}
+use Rattle.crs_model.specs.Matching.{Assignment}
+use Rattle.crs_model.specs.Open.{IsRecognised}
+use Rattle.crs_model.specs.Order.{Lists, assignment_cmp}
+use Rattle.crs_model.specs.Plans.{chronicle, IsProper}
+use Rattle.crs_model.specs.Seen.{assignment_of, given}
+use Rattle.crs_model.specs.Renaming.{text_in, AreKnown, renamed_chronicle, renamed_entry, renamed_assignment, IsChronicleOf, IsEntryOf}
+use Rattle.crs_model.proofs.Renamed.{known_values, new_renamed}
+use Rattle.crs_store.specs.Answers.{IsRecognitionOf}
+use Rattle.crs_engine.specs.Marks.{ListsNew, ListsAllNew}
+use Rattle.crs_report.specs.Lines.{recognition_line}
+use Rattle.crs_report.specs.Printed.{chronicle_at, AreBound, IsPrintable, line_seen}
+use Rattle.crs_top.specs.Session.{HasText, chronicle_in, entries_in, line_in, ArePrintable}
+use Rattle.crs_top.specs.Texts.{IsMarkText, IsNew}
+
+flat_map_append : {A : Type 0} (f : A → List ℕ) (xs ys : List A) → flat_map f (xs ++ ys) ≡ flat_map f xs ++ flat_map f ys
+flat_map_append f [] ys = refl
+flat_map_append f (x ∷ xs) ys = ap (λ (zs : List ℕ). f x ++ zs) (flat_map_append f xs ys) ∙ sym (append_assoc (f x) (flat_map f xs) (flat_map f ys))
+
+all_append : {A : Type 0} (Q : A → Type 0) (xs ys : List A) → AllByRecursion Q xs → AllByRecursion Q ys → AllByRecursion Q (xs ++ ys)
+all_append Q [] ys h k = k
+all_append Q (x ∷ xs) ys h k = (h.0, all_append Q xs ys h.1 k)
+
+some_and : {A : Type 0} (o : Option A) (Q : A → Type 0) (x : A) → o ≡ Some x → Q x → IsSomeAnd o Q
+some_and o Q x e h = subst (λ p. IsSomeAnd p Q) (sym e) h
+
+module _ (texts : List (List ℕ)) (distinct : AreDistinct texts) where
+  -- no two symbols of the table have one text
+  pub apart : (x y : Sym) → HasText texts x → HasText texts y → text_in texts x ≡ text_in texts y → x ≡ y
+  apart x y p q e = ap (λ n. record { 0 = n }) (distinct x.0 y.0 p q e)
+
+  known_points : (vs : List (EventDef Sym)) → AllByRecursion (λ v. HasText texts v.point) vs → AreKnown texts (map (λ v. v.point) vs)
+  known_points [] h = tt
+  known_points (v ∷ vs) h = (h.0, known_points vs h.1)
+
+  bound_by : (values : List Sym) → AllByRecursion (HasText texts) values → AreBound texts (map Some values)
+  bound_by [] h = tt
+  bound_by (x ∷ values) h = (h.0, bound_by values h.1)
+
+  module _ (p : Plan) (proper : IsProper p) (of : IsChronicleOf (HasText texts) (chronicle p)) (windows : (chronicle p).windows ≡ []) where
+    -- a recognition of known entries can be printed
+    printable : (now : List (Entry Sym)) (h : ℕ) (number : ℕ) (mark : Mark) (r : Recognition) → AllByRecursion (IsEntryOf (HasText texts)) now
+        → IsRecognitionOf (chronicle p) number mark r → IsRecognised (chronicle p) now now h (assignment_of r) → IsPrintable texts r (chronicle p)
+    printable now h number mark r known k rec = record {
+        name = of.name;
+        points = known_points (chronicle p).events of.points;
+        variables = of.variables;
+        few = proper.variables_few;
+        entries = k.entries;
+        each = ap length k.binding ∙ length-map (given r.binding) Some ∙ k.values;
+        values = subst (AreBound texts) (sym k.binding)
+          (bound_by (given r.binding) (known_values (text_in texts) (HasText texts) apart (chronicle p) of proper.named windows now (assignment_of r) known rec.assignment));
+      }
+
+    -- the lines of the recognitions of the chronicle are those of the assignments
+    lines_are : (plans : Plans) (number : ℕ) (mark : Mark) (answer : List Recognition) → chronicle_at plans number ≡ Some (chronicle p) → AllByRecursion (IsRecognitionOf (chronicle p) number mark) answer
+        → flat_map (line_in plans texts) answer ≡ flat_map (recognition_line (chronicle_in texts p) mark) (map (renamed_assignment (text_in texts)) (map assignment_of answer))
+    lines_are plans number mark [] at h = refl
+    lines_are plans number mark (r ∷ answer) at h =
+        let here : chronicle_at plans r.chronicle ≡ Some (chronicle p) = ap (chronicle_at plans) h.0.chronicle ∙ at in
+        let line : line_in plans texts r ≡ recognition_line (chronicle_in texts p) mark (renamed_assignment (text_in texts) (assignment_of r)) =
+            ap (λ o. option_map_or (line_seen texts r) o []) here ∙ ap (λ m. recognition_line (chronicle_in texts p) m (renamed_assignment (text_in texts) (assignment_of r))) h.0.mark in
+        λ i. line i ++ lines_are plans number mark answer at h.1 i
+
+  module _ (plans : Plans) (mark : Mark) (was now : List (Entry Sym)) (g h : ℕ)
+      (known : AllByRecursion (IsEntryOf (HasText texts)) now) (known_was : AllByRecursion (IsEntryOf (HasText texts)) was) where
+    -- the plans from a number on
+    abbrev StandFrom : List Plan → ℕ → Type 0
+    StandFrom ps number = (k : ℕ) → chronicle_at plans (number + k) ≡ option_map chronicle (slice_get ps k)
+
+    each_printable : (p : Plan) (number : ℕ) (answer : List Recognition) → IsProper p → IsChronicleOf (HasText texts) (chronicle p) → (chronicle p).windows ≡ [] → chronicle_at plans number ≡ Some (chronicle p)
+        → AllByRecursion (IsRecognitionOf (chronicle p) number mark) answer → ((r : Recognition) → IsIn r answer → IsRecognised (chronicle p) now now h (assignment_of r)) → ArePrintable plans texts answer
+    each_printable p number [] proper of windows at each rec = tt
+    each_printable p number (r ∷ answer) proper of windows at each rec = (
+        some_and (chronicle_at plans r.chronicle) (IsPrintable texts r) (chronicle p) (ap (chronicle_at plans) each.0.chronicle ∙ at)
+          (printable p proper of windows now h number mark r known each.0 (rec r (inl refl))),
+        each_printable p number answer proper of windows at each.1 (λ s i. rec s (inr i)))
+
+    first_at : (number : ℕ) (p : Plan) (ps : List Plan) → StandFrom (p ∷ ps) number → chronicle_at plans number ≡ Some (chronicle p)
+    first_at number p ps at = let e : number + 0 ≡ number = omega arith in subst (λ n. chronicle_at plans n ≡ Some (chronicle p)) e (at 0)
+
+    next_from : (number : ℕ) (p : Plan) (ps : List Plan) → StandFrom (p ∷ ps) number → StandFrom ps (suc number)
+    next_from number p ps at k = let e : number + suc k ≡ suc number + k = omega arith in subst (λ n. chronicle_at plans n ≡ option_map chronicle (slice_get ps k)) e (at (suc k))
+
+    recognised_of : (p : Plan) (number : ℕ) (answer : List Recognition) → ListsNew (chronicle p) number mark was g now h answer → (r : Recognition) → IsIn r answer → IsRecognised (chronicle p) now now h (assignment_of r)
+    recognised_of p number answer l r i = (in_from_each (λ b. IsRecognised (chronicle p) now now h b × (IsRecognised (chronicle p) was was g b → ⊥)) (map assignment_of answer) l.listed.each (assignment_of r) (in_map assignment_of answer r i)).0
+
+    pub all_printable : (ps : List Plan) (number : ℕ) (answer : List Recognition) → StandFrom ps number → AllByRecursion IsProper ps → AllByRecursion (λ p. IsChronicleOf (HasText texts) (chronicle p)) ps
+        → AllByRecursion (λ p. (chronicle p).windows ≡ []) ps → ListsAllNew ps number mark was g now h answer → ArePrintable plans texts answer
+    all_printable [] number answer at proper of windows l = subst (ArePrintable plans texts) (sym l) tt
+    all_printable (p ∷ ps) number answer at proper of windows l = subst (ArePrintable plans texts) (sym l.2)
+        (all_append (λ r. IsSomeAnd (chronicle_at plans r.chronicle) (IsPrintable texts r)) l.0 l.1
+          (each_printable p number l.0 proper.0 of.0 windows.0 (first_at number p ps at) l.3.each (recognised_of p number l.0 l.3))
+          (all_printable ps (suc number) l.1 (next_from number p ps at) proper.1 of.1 windows.1 l.4))
+
+    pub answer_text : (ps : List Plan) (number : ℕ) (answer : List Recognition) → StandFrom ps number → AllByRecursion IsProper ps → AllByRecursion (λ p. IsChronicleOf (HasText texts) (chronicle p)) ps
+        → AllByRecursion (λ p. (chronicle p).windows ≡ []) ps → ListsAllNew ps number mark was g now h answer
+        → IsMarkText (map (chronicle_in texts) ps) mark (entries_in texts was) g (entries_in texts now) h (flat_map (line_in plans texts) answer)
+    answer_text [] number answer at proper of windows l = ap (flat_map (line_in plans texts)) l
+    answer_text (p ∷ ps) number answer at proper of windows l = (
+        map (renamed_assignment (text_in texts)) (map assignment_of l.0),
+        flat_map (line_in plans texts) l.1,
+        new_renamed (text_in texts) (HasText texts) apart (chronicle p) of.0 proper.0.named windows.0 now now was was h g known known_was (map assignment_of l.0) l.3.listed,
+        answer_text ps (suc number) l.1 (next_from number p ps at) proper.1 of.1 windows.1 l.4,
+        ap (flat_map (line_in plans texts)) l.2 ∙ flat_map_append (line_in plans texts) l.0 l.1
+          ∙ ap (λ (xs : List ℕ). xs ++ flat_map (line_in plans texts) l.1) (lines_are p proper.0 of.0 windows.0 plans number mark l.0 (first_at number p ps at) l.3.each))

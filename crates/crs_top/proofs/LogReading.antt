@@ -1,0 +1,308 @@
+-- A log, read by read.
+use Rattle.std.proofs.Common.{◌≡◌, ◌⊎◌, ◌∙◌, ap, sym, refl, subst, inl, inr, ℕ, ◌+◌, ◌-◌, ◌<◌, ◌≤◌, Bool, true, false, List, [], ◌∷◌, ◌++◌, length, take, drop, arith, rules, add-zero, append-nil, append_assoc, length-append, length-take-le, Ok, Err, Result}
+use Rattle.std.proofs.lemmas.List.{length-drop, take-append-le}
+use Rattle.std.proofs.Math.Seq.{take-add, take-length, take-append-add}
+use Rattle.crs_base.specs.Lines.{lines_of}
+use Rattle.crs_desk.specs.Desk.{Told, Stream, stream_at, advanced, turn_of, Reads, Wrote, Rises}
+use Rattle.crs_desk.specs.declared.turn.Turn.{Turn}
+use Rattle.crs_desk.specs.declared.desk.DeskError.TheVariants as errors
+use Rattle.crs_desk.proofs.Calls.{took_none, stream_after, advanced_twice, rises_push, rises_weaker}
+use Rattle.crs_log.specs.Reading.{Reader, Given, HasGiven, HasNoLine, given, given_lines, ahead, whole_lines}
+use Rattle.crs_log.specs.Run.{State, at_start}
+use Rattle.crs_log.proofs.Prompt.{told_whole}
+use Rattle.crs_top.specs.declared.log.Stop.TheVariants as stops
+use Rattle.crs_top.specs.declared.log.Stop.{Stop}
+use Rattle.crs_top.specs.declared.session.Session.{Session}
+use Rattle.crs_top.specs.Session.{Represents, IsReady}
+use Rattle.crs_top.specs.Taking.{after_all, refuses_some, Takes, IsGivenText}
+use Rattle.crs_top.specs.Texts.{Frame, setting_of, IsWholeText, IsLogText, some_refused}
+use Rattle.crs_top.specs.Logs.{Appends, AppendsFront, IsPrompt, IsPromptAt, IsCutShort, Ended, ReadsLog, HasReadLog, TakesPiece, TakesRest, Finishes}
+use Rattle.crs_top.proofs.Taken.{takes_none, takes_append, given_text, given_refused}
+
+-- the lines of the first t bytes were given, and the reader stands behind them
+pub record IsAt (t : ℕ) (bytes : List ℕ) (lines : Reader) (told : List Given) : Type 0 where
+  pub limit : lines.limit ≡ 4096
+  pub open_still : lines.finished ≡ false
+  pub fed : lines.fed ≡ t
+  pub none : HasNoLine lines
+  pub given : HasGiven 4096 bytes told lines
+
+-- t bytes of the log were read, in these turns
+pub record Base (f : Frame) (old : Told) (i t : ℕ) (more : List Turn) (now : Told) : Type 0 where
+  pub files : now.files ≡ old.files
+  pub opened : now.opened ≡ old.opened
+  pub left : now.left ≡ advanced old.left i t
+  pub within : t ≤ length (stream_at old.left i).rest
+  pub turns : now.turns ≡ old.turns ++ more
+  pub prompt : IsPrompt f old.written (stream_at old.left i).rest now.written more
+
+-- and the text of the whole lines among them is written
+pub record Reading (f : Frame) (old : Told) (i t : ℕ) (x : Session) (lines : Reader) (now : Told) : Type 0 where
+  pub more : List Turn
+  pub base : Base f old i t more now
+  pub rises : Rises i 0 t more
+  pub told : List Given
+  pub at : IsAt t (take t (stream_at old.left i).rest) lines told
+  pub text : List ℕ
+  pub takes : Takes f false x (at_start f.texts) told [] text
+  pub written : now.written ≡ old.written ++ text
+
+whole_of : (f : Frame) (t : ℕ) (bytes : List ℕ) (x : Session) (lines : Reader) (told : List Given) (text : List ℕ) → IsAt t bytes lines told → Takes f false x (at_start f.texts) told [] text → IsWholeText f bytes text
+whole_of f t bytes x lines told text a k =
+    let is : told ≡ given_lines 4096 0 (whole_lines bytes) = told_whole 4096 bytes told lines a.given a.none.1 in
+    given_text f 0 (at_start f.texts) (whole_lines bytes) text (subst (λ (z : List ℕ). IsGivenText f (at_start f.texts) (given_lines 4096 0 (whole_lines bytes)) z) (sym k.written)
+      (subst (λ (gs : List Given). IsGivenText f (at_start f.texts) gs k.text) is k.says))
+
+-- what is written so far is the text of the whole lines
+appends : (f : Frame) (old : Told) (i t : ℕ) (x : Session) (lines : Reader) (now : Told) → Reading f old i t x lines now → Appends (IsWholeText f (take t (stream_at old.left i).rest)) old.written now.written
+appends f old i t x lines now h = (h.text, whole_of f t (take t (stream_at old.left i).rest) x lines h.told h.text h.at h.takes, h.written)
+
+pub reading_none : (f : Frame) (t : Told) (i : ℕ) (x : Session) (lines : Reader) → Represents f x (at_start f.texts) → x.refused ≡ false → lines ≡ record { limit = 4096; number = 0; rest = []; finished = false; fed = 0 } → Reading f t i 0 x lines t
+reading_none f t i x lines r fresh new = record {
+  more = [];
+  base = record { files = refl; opened = refl; left = (took_none t i).left; within = omega arith; turns = sym (append-nil t.turns); prompt = tt };
+  rises = omega arith;
+  told = [];
+  at = subst (λ (l : Reader). IsAt 0 [] l []) (sym new) (record { limit = refl; open_still = refl; fed = refl; none = (refl, refl); given = λ m. refl });
+  text = [];
+  takes = subst (λ (b : Bool). Takes f b x (at_start f.texts) [] [] []) fresh (takes_none f x (at_start f.texts) [] r);
+  written = sym (append-nil t.written);
+}
+
+-- what stood before a turn still stands when more is written
+prompt_on : (f : Frame) (old log w x : List ℕ) (ts : List Turn) → IsPrompt f old log w ts → IsPrompt f old log (w ++ x) ts
+prompt_on f old log w x [] p = tt
+prompt_on f old log w x (t ∷ ts) p =
+    ((omega (arith, p.0.0, length-append w x), (p.0.1.0, p.0.1.1, take-append-le t.written w x p.0.0 ∙ p.0.1.2)), prompt_on f old log w x ts p.1)
+
+prompt_push : (f : Frame) (old log w : List ℕ) (ts : List Turn) (t : Turn) → IsPrompt f old log w ts → IsPromptAt f old log w t → IsPrompt f old log w (ts ++ t ∷ [])
+prompt_push f old log w [] t p q = (q, tt)
+prompt_push f old log w (u ∷ ts) t p q = (p.0, prompt_push f old log w ts t p.1 q)
+
+module _ (f : Frame) (old : Told) (i : ℕ) (lt : i < length old.left) (z : (stream_at old.left i).taken ≡ 0) where
+  abbrev log : List ℕ
+  log = (stream_at old.left i).rest
+
+  -- a read that was answered or failed
+  stream_now : (now : Told) (t : ℕ) (more : List Turn) → Base f old i t more now → stream_at now.left i ≡ (let s = stream_at old.left i in record { taken = s.taken + t; rest = drop t s.rest })
+  stream_now now t more h = ap (λ (l : List Stream). stream_at l i) h.left ∙ stream_after old.left i t lt
+
+  taken_now : (now : Told) (t : ℕ) (more : List Turn) → Base f old i t more now → (turn_of now i).taken ≡ t
+  taken_now now t more h = ap (λ (s : Stream). s.taken) (stream_now now t more h) ∙ omega arith
+
+  prompt_turn : (now : Told) (t : ℕ) (x : Session) (lines : Reader) → (h : Reading f old i t x lines now) → IsPrompt f old.written log now.written (h.more ++ turn_of now i ∷ [])
+  prompt_turn now t x lines h =
+      let a = appends f old i t x lines now h in
+      prompt_push f _ _ _ h.more (turn_of now i) h.base.prompt
+      (omega arith, (a.0, subst (λ (n : ℕ). IsWholeText f (take n log) a.0) (sym (taken_now now t h.more h.base)) a.1, take-length now.written ∙ a.2))
+
+  rises_turn : (now : Told) (t : ℕ) (x : Session) (lines : Reader) → (h : Reading f old i t x lines now) → Rises i 0 (t + 1) (h.more ++ turn_of now i ∷ [])
+  rises_turn now t x lines h =
+      let e = taken_now now t h.more h.base in
+      rises_weaker _ _ _ _ _ (rises_push i _ _ h.more (turn_of now i) h.rises refl (omega (arith, e))) (omega (arith, e))
+
+  -- the base after a read that gave n bytes
+  base_read : (mid new : Told) (t n : ℕ) (x : Session) (lines : Reader) (buf : List ℕ) → (h : Reading f old i t x lines mid) → Reads mid i (Ok n) buf new → Base f old i (t + n) (h.more ++ turn_of mid i ∷ []) new
+  base_read mid new t n x lines buf h r =
+      let rest_is = ap (λ (s : Stream). s.rest) (stream_now mid t h.more h.base) in
+      let le : n ≤ length (drop t log) = rw rest_is at r.bytes.enough in
+      record {
+        files = r.files ∙ h.base.files;
+        opened = r.opened ∙ h.base.opened;
+        left = r.bytes.left ∙ rw (h.base.left) (advanced_twice old.left i t n lt);
+        within = omega (arith, le, length-drop t log, h.base.within);
+        turns = r.turns ∙ rw (h.base.turns, append_assoc) refl;
+        prompt = rw (r.written) (prompt_turn mid t x lines h);
+      }
+
+  -- the bytes that came are the next of the log
+  piece_is : (mid new : Told) (t n : ℕ) (x : Session) (lines : Reader) (buf : List ℕ) → (h : Reading f old i t x lines mid) → Reads mid i (Ok n) buf new → take (t + n) log ≡ take t log ++ take n buf
+  piece_is mid new t n x lines buf h r =
+      let rest_is = ap (λ (s : Stream). s.rest) (stream_now mid t h.more h.base) in
+      take-add t n _ ∙ ap (λ (y : List ℕ). take t log ++ y) (ap (take n) (sym rest_is) ∙ sym r.bytes.bytes)
+
+  base_write : (new last : Told) (t k : ℕ) (more : List Turn) (text : List ℕ) → Base f old i t more new → Wrote new text k last → Base f old i t more last
+  base_write new last t k more text b w = record {
+    files = w.files ∙ b.files;
+    opened = w.opened ∙ b.opened;
+    left = w.left ∙ b.left;
+    within = b.within;
+    turns = w.turns ∙ b.turns;
+    prompt = rw (w.written) (prompt_on f _ _ _ _ more b.prompt);
+  }
+
+  -- the reader behind the next piece
+  at_more : (t n : ℕ) (lines now : Reader) (told : List Given) (bytes piece : List ℕ) (x y : Session) (text : List ℕ) → length piece ≡ n → IsAt t bytes lines told → (p : TakesPiece lines now x y piece text) → IsAt (t + n) (bytes ++ piece) now (told ++ p.told)
+  at_more t n lines now told bytes piece x y text len a p = record {
+      limit = p.limit ∙ a.limit;
+      open_still = p.finished ∙ a.open_still;
+      fed = p.fed ∙ (λ j. a.fed j + len j);
+      none = p.none;
+      given = λ m. ap (given 4096 0) (append_assoc bytes piece m) ∙ a.given (piece ++ m) ∙ ap (λ (gs : List Given). told ++ gs) (p.ahead_is m) ∙ sym (append_assoc told p.told (ahead now m));
+    }
+
+  pub reading_more : (mid new last : Told) (t n : ℕ) (x y : Session) (lines now : Reader) (buf text : List ℕ)
+      → (h : Reading f old i t x lines mid) → Reads mid i (Ok n) buf new → n ≤ length buf → 0 < n → TakesPiece lines now x y (take n buf) text → Wrote new text (length text) last → Reading f old i (t + n) y now last
+  reading_more mid new last t n x y lines now buf text h r few pos p w =
+      let piece = piece_is mid new t n x lines buf h r in
+      record {
+        more = h.more ++ turn_of mid i ∷ [];
+        base = base_write new last (t + n) (length text) (h.more ++ turn_of mid i ∷ []) text (base_read mid new t n x lines buf h r) w;
+        rises = rises_weaker _ _ _ _ _ (rises_turn mid t x lines h) (omega arith);
+        told = h.told ++ p.told;
+        at = subst (λ (bs : List ℕ). IsAt (t + n) bs now (h.told ++ p.told)) (sym piece) (at_more t n lines now h.told (take t log) (take n buf) x y text (length-take-le n buf few) h.at p);
+        text = h.text ++ text;
+        takes = takes_append f x y (at_start f.texts) h.told p.told h.text text h.takes (p.takes f (after_all (setting_of f) (at_start f.texts) h.told) h.takes.state);
+        written = w.written ∙ rw (r.written, h.written, append_assoc) (ap (λ (y : List ℕ). old.written ++ (h.text ++ y)) (take-length text));
+      }
+
+  -- the stops
+  reads_log : (new : Told) (limit t : ℕ) (more : List Turn) (e : _) → Base f old i t more new → Rises i 0 (t + 1) more → Ended f old.written log limit t (Err e) new.written → HasReadLog f old i limit (Err e) new
+  reads_log new limit t more e b r end = (t, more, record { files = b.files; opened = b.opened; left = b.left; within = b.within; turns = b.turns; rises = r; prompt = b.prompt; ended = end })
+
+  pub stop_failed : (mid new : Told) (limit t : ℕ) (x : Session) (lines : Reader) (buf : List ℕ) → Reading f old i t x lines mid → Reads mid i (Err errors.Failed) buf new → HasReadLog f old i limit (Err stops.ReadFault) new
+  stop_failed mid new limit t x lines buf h r =
+      let a = appends f old i t x lines mid h in
+      reads_log new limit t (h.more ++ turn_of mid i ∷ []) stops.ReadFault
+      (record {
+        files = r.files ∙ h.base.files;
+        opened = r.opened ∙ h.base.opened;
+        left = r.bytes ∙ h.base.left;
+        within = h.base.within;
+        turns = r.turns ∙ rw (h.base.turns, append_assoc) refl;
+        prompt = rw (r.written) (prompt_turn mid t x lines h);
+      })
+      (rises_turn mid t x lines h)
+      (a.0, a.1, r.written ∙ a.2)
+
+  pub stop_refused : (mid new : Told) (limit t : ℕ) (x : Session) (lines : Reader) (buf : List ℕ) → Reading f old i t x lines mid → Reads mid i (Err errors.Memory) buf new → HasReadLog f old i limit (Err stops.Memory) new
+  stop_refused mid new limit t x lines buf h r =
+      let a = appends f old i t x lines mid h in
+      reads_log new limit t h.more stops.Memory
+      (record {
+        files = r.files ∙ h.base.files;
+        opened = r.opened ∙ h.base.opened;
+        left = r.bytes ∙ h.base.left;
+        within = h.base.within;
+        turns = r.turns ∙ h.base.turns;
+        prompt = rw (r.written) h.base.prompt;
+      })
+      (rises_weaker _ _ _ _ _ h.rises (omega arith))
+      (inl (t, omega arith, (a.0, length a.0, a.1, r.written ∙ a.2 ∙ rw take-length refl)))
+
+  pub stop_long : (now : Told) (limit t : ℕ) (x : Session) (lines : Reader) → Reading f old i t x lines now → t ≡ limit → HasReadLog f old i limit (Err stops.TooLong) now
+  stop_long now limit t x lines h e =
+      reads_log now limit t h.more stops.TooLong h.base (rises_weaker _ _ _ _ _ h.rises (omega arith)) (e, appends f old i t x lines now h)
+
+  -- the write or the memory failed, with k bytes of the piece's text written
+  cut_short : (mid new last : Told) (limit t n : ℕ) (x y : Session) (lines : Reader) (buf text : List ℕ) (stop : Stop) → (stop ≡ stops.WriteFault) ⊎ (stop ≡ stops.Memory)
+      → (h : Reading f old i t x lines mid) → Reads mid i (Ok n) buf new → 0 < n → (k : ℕ) → Wrote new text k last → IsCutShort f log (t + n) old.written last.written → HasReadLog f old i limit (Err stop) last
+  cut_short mid new last limit t n x y lines buf text stop either h r pos k w cut =
+      let b = base_write new last (t + n) k (h.more ++ turn_of mid i ∷ []) text (base_read mid new t n x lines buf h r) w in
+      let up = rises_weaker _ _ _ _ _ (rises_turn mid t x lines h) (omega arith) in
+      elim either [
+        | inl e ↦ rw e (reads_log last limit (t + n) (h.more ++ turn_of mid i ∷ []) stops.WriteFault b up cut)
+        | inr e ↦ rw e (reads_log last limit (t + n) (h.more ++ turn_of mid i ∷ []) stops.Memory b up cut)
+      ]
+
+  pub stop_write : (mid new last : Told) (limit t n : ℕ) (x y : Session) (lines now : Reader) (buf text : List ℕ) (stop : Stop) → (stop ≡ stops.WriteFault) ⊎ (stop ≡ stops.Memory)
+      → (h : Reading f old i t x lines mid) → Reads mid i (Ok n) buf new → n ≤ length buf → 0 < n → (p : TakesPiece lines now x y (take n buf) text) → (k : ℕ) → Wrote new text k last → HasReadLog f old i limit (Err stop) last
+  stop_write mid new last limit t n x y lines now buf text stop either h r few pos p k w =
+      let piece = piece_is mid new t n x lines buf h r in
+      let at : IsAt (t + n) (take (t + n) log) now (h.told ++ p.told) =
+          subst (λ (bs : List ℕ). IsAt (t + n) bs now (h.told ++ p.told)) (sym piece) (at_more t n lines now h.told (take t log) (take n buf) x y text (length-take-le n buf few) h.at p) in
+      let takes = takes_append f x y (at_start f.texts) h.told p.told h.text text h.takes (p.takes f (after_all (setting_of f) (at_start f.texts) h.told) h.takes.state) in
+      cut_short mid new last limit t n x y lines buf text stop either h r pos k w
+        (inl (t + n, omega arith, (h.text ++ text, length h.text + k, whole_of f (t + n) (take (t + n) log) y now (h.told ++ p.told) (h.text ++ text) at takes,
+          w.written ∙ rw (r.written, h.written, append_assoc) (ap (λ (y : List ℕ). old.written ++ y) (sym (take-append-add h.text text k))))))
+
+  -- memory was wanting before the piece's text was made
+  pub stop_piece : (mid new : Told) (limit t n : ℕ) (x : Session) (lines : Reader) (buf : List ℕ) → (h : Reading f old i t x lines mid) → Reads mid i (Ok n) buf new → 0 < n → HasReadLog f old i limit (Err stops.Memory) new
+  stop_piece mid new limit t n x lines buf h r pos =
+      let a = appends f old i t x lines mid h in
+      cut_short mid new new limit t n x x lines buf [] stops.Memory (inr refl) h r pos 0
+        (record { files = refl; opened = refl; left = refl; turns = refl; within = omega arith; written = sym (append-nil new.written) })
+        (inl (t, omega arith, (a.0, length a.0, a.1, r.written ∙ a.2 ∙ rw take-length refl)))
+
+  -- where the end was met
+  module _ (mid new : Told) (limit t : ℕ) (x : Session) (lines : Reader) (buf : List ℕ) (h : Reading f old i t x lines mid) (r : Reads mid i (Ok 0) buf new) where
+    all_read : t ≡ length log
+    all_read =
+        let rest_is = ap (λ (s : Stream). s.rest) (stream_now mid t h.more h.base) in
+        let none : drop t log ≡ [] = sym rest_is ∙ r.bytes.end refl in
+        omega (arith, ap length none, length-drop t log, h.base.within)
+
+    all_is : take t log ≡ log
+    all_is = rw all_read (take-length log)
+
+    at_end : (last : Told) (k : ℕ) (text : List ℕ) (result : Result Bool Stop) → Wrote new text k last → Ended f old.written log limit t result last.written → HasReadLog f old i limit result last
+    at_end last k text result w ended =
+        let b : Base f old i t (h.more ++ turn_of mid i ∷ []) new = rw add-zero at (base_read mid new t 0 x lines buf h r) in
+        let c = base_write new last t k (h.more ++ turn_of mid i ∷ []) text b w in
+        (t, h.more ++ turn_of mid i ∷ [], record {
+          files = c.files; opened = c.opened; left = c.left; within = c.within; turns = c.turns; rises = rises_turn mid t x lines h; prompt = c.prompt; ended = ended;
+        })
+
+    -- the text of the log
+    module _ (y : Session) (text : List ℕ) (p : TakesRest lines x y text) where
+      all_told : given_lines 4096 0 (lines_of log) ≡ h.told ++ p.told
+      all_told =
+          ap (λ (bs : List ℕ). given 4096 0 bs) (sym (append-nil (take t log) ∙ all_is)) ∙ h.at.given [] ∙ ap (λ (gs : List Given). h.told ++ gs) p.ahead_is
+
+      all_takes : Takes f false y (at_start f.texts) (h.told ++ p.told) [] (h.text ++ text)
+      all_takes = takes_append f x y (at_start f.texts) h.told p.told h.text text h.takes (p.takes f (after_all (setting_of f) (at_start f.texts) h.told) h.takes.state)
+
+      log_text : IsLogText f log (h.text ++ text)
+      log_text = given_text f 0 (at_start f.texts) (lines_of log) (h.text ++ text)
+          (subst (λ (z : List ℕ). IsGivenText f (at_start f.texts) (given_lines 4096 0 (lines_of log)) z) (sym all_takes.written)
+            (subst (λ (gs : List Given). IsGivenText f (at_start f.texts) gs all_takes.text) (sym all_told) all_takes.says))
+
+      log_refused : y.refused ≡ some_refused f log
+      log_refused = all_takes.noted ∙ ap (refuses_some (setting_of f) (at_start f.texts)) (sym all_told) ∙ given_refused (setting_of f) 0 (at_start f.texts) (lines_of log)
+
+      written_front : (last : Told) (k : ℕ) → Wrote new text k last → last.written ≡ old.written ++ take (length h.text + k) (h.text ++ text)
+      written_front last k w = w.written ∙ rw (r.written, h.written, append_assoc) (ap (λ (y : List ℕ). old.written ++ y) (sym (take-append-add h.text text k)))
+
+      pub end_done : (last : Told) → t < limit → Wrote new text (length text) last → HasReadLog f old i limit (Ok y.refused) last
+      end_done last below w = at_end last (length text) text (Ok y.refused) w
+          (all_read, below, (h.text ++ text, log_text, w.written ∙ rw (r.written, h.written, append_assoc) (ap (λ (y : List ℕ). old.written ++ (h.text ++ y)) (take-length text))), log_refused)
+
+      pub end_stopped : (last : Told) (k : ℕ) (stop : Stop) → (stop ≡ stops.WriteFault) ⊎ (stop ≡ stops.Memory) → Wrote new text k last → HasReadLog f old i limit (Err stop) last
+      end_stopped last k stop either w =
+          let cut : IsCutShort f log t old.written last.written = inr (all_read, (h.text ++ text, length h.text + k, log_text, written_front last k w)) in
+          elim either [
+            | inl e ↦ rw e (at_end last k text (Err stops.WriteFault) w cut)
+            | inr e ↦ rw e (at_end last k text (Err stops.Memory) w cut)
+          ]
+
+    -- memory was wanting before the last line's text was made
+    pub end_refused : HasReadLog f old i limit (Err stops.Memory) new
+    end_refused =
+        let a = appends f old i t x lines mid h in
+        at_end new 0 [] (Err stops.Memory) (record { files = refl; opened = refl; left = refl; turns = refl; within = omega arith; written = sym (append-nil new.written) })
+          (inl (t, omega arith, (a.0, length a.0, a.1, r.written ∙ a.2 ∙ rw take-length refl)))
+
+-- nothing was read
+pub stop_before : (f : Frame) (t : Told) (i limit : ℕ) → HasReadLog f t i limit (Err stops.Memory) t
+stop_before f t i limit = (0, [], record {
+    files = refl; opened = refl; left = (took_none t i).left; within = omega arith; turns = sym (append-nil t.turns); rises = omega arith; prompt = tt;
+    ended = inl (0, omega arith, ([], 0, refl, sym (append-nil t.written)));
+  })
+
+-- where the rest was taken and written, or the write or the memory failed
+pub end_by : (f : Frame) (old mid new last : Told) (i limit t n : ℕ) (x : Session) (lines : Reader) (buf : List ℕ) (result : Result Bool Stop) → i < length old.left → (stream_at old.left i).taken ≡ 0 → Reading f old i t x lines mid
+    → Reads mid i (Ok n) buf new → n ≡ 0 → t < limit → Finishes new x lines result last → HasReadLog f old i limit result last
+end_by f old mid new last i limit t n x lines buf (Ok refused) lt z h r zero below e =
+    let r0 : Reads mid i (Ok 0) buf new = subst (λ (k : ℕ). Reads mid i (Ok k) buf new) zero r in
+    subst (λ (b : Bool). HasReadLog f old i limit (Ok b) last) (sym e.4) (end_done f old i lt z mid new limit t x lines buf h r0 e.0 e.1 e.2 last below e.3)
+end_by f old mid new last i limit t n x lines buf (Err stops.TooLong) lt z h r zero below e = absurd e
+end_by f old mid new last i limit t n x lines buf (Err stops.ReadFault) lt z h r zero below e = absurd e
+end_by f old mid new last i limit t n x lines buf (Err stops.WriteFault) lt z h r zero below e =
+    let r0 : Reads mid i (Ok 0) buf new = subst (λ (k : ℕ). Reads mid i (Ok k) buf new) zero r in
+    end_stopped f old i lt z mid new limit t x lines buf h r0 e.0 e.1 e.3 last e.2 stops.WriteFault (inl refl) e.4
+end_by f old mid new last i limit t n x lines buf (Err stops.Memory) lt z h r zero below (inl same) =
+    let r0 : Reads mid i (Ok 0) buf new = subst (λ (k : ℕ). Reads mid i (Ok k) buf new) zero r in
+    subst (λ (d : Told). HasReadLog f old i limit (Err stops.Memory) d) (sym same) (end_refused f old i lt z mid new limit t x lines buf h r0)
+end_by f old mid new last i limit t n x lines buf (Err stops.Memory) lt z h r zero below (inr e) =
+    let r0 : Reads mid i (Ok 0) buf new = subst (λ (k : ℕ). Reads mid i (Ok k) buf new) zero r in
+    end_stopped f old i lt z mid new limit t x lines buf h r0 e.0 e.1 e.3 last e.2 stops.Memory (inr refl) e.4

@@ -1,0 +1,198 @@
+-- What a text that is accepted prepares.
+use Rattle.std.proofs.Common.{◌≡◌, ◌⊎◌, ◌∙◌, ap, sym, refl, subst, inl, inr, ℕ, ◌<◌, ◌≤◌, List, [], ◌∷◌, ◌++◌, map, length, Ok, Err, arith, false, true≢false}
+use Rattle.std.specs.Prelude.{Option, Some, None}
+use Rattle.std.specs.List.{AllByRecursion}
+use Rattle.std.specs.declared.rc.Rc.{Rc}
+use Rattle.std.proofs.Common.{Global}
+use Rattle.std.proofs.lemmas.List.{length-map}
+use Rattle.crs_base.specs.declared.symbols.Sym.{Sym}
+use Rattle.crs_base.specs.Symbols.{Table, AreDistinct}
+use Rattle.crs_stn.specs.Bound.{IsConsistent}
+use Rattle.crs_model.specs.declared.chronicle.Chronicle.{Chronicle as CodeChronicle}
+use Rattle.crs_model.specs.declared.models.Models.{Models as CodeModels}
+use Rattle.crs_model.specs.declared.models.Name.{Name as CodeName}
+use Rattle.crs_model.specs.declared.models.ModelWord.{ModelWord}
+use Rattle.crs_model.specs.declared.models.ModelWord.TheVariants.{Form, Inconsistent}
+use Rattle.crs_model.specs.declared.models.ModelRefused.{ModelRefused}
+use Rattle.crs_model.specs.declared.models.ModelRefused.TheVariants.{At, Memory}
+use Rattle.crs_model.specs.declared.plan.Plan.{Plan}
+use Rattle.crs_model.specs.declared.plan.Plans.{Plans}
+use Rattle.crs_model.specs.Models.{Chronicle, Models, Body, NoEvent, Occurs, Hold, EventDef, Window, Name}
+use Rattle.crs_model.specs.Bindings.{PatternIsBelow}
+use Rattle.crs_model.specs.Plans.{chronicle, IsProper}
+use Rattle.crs_model.specs.Renaming.{text_in, renamed_chronicle, renamed_window, renamed_name, renamed_models, AreModelsOf, IsChronicleOf}
+use Rattle.crs_model.specs.Seen.{chronicle_of, name_of, models_of}
+use Rattle.crs_log.specs.Run.{at_start, horizon_at}
+use Rattle.crs_log.specs.SeenNames.{name_seen, AreNamesIn}
+use Rattle.crs_parse.specs.Proper as parsed
+use Rattle.crs_parse.specs.Meant.{models_read}
+use Rattle.crs_compile.specs.Proper as compiled
+use Rattle.crs_compile.specs.Compiled.{IsPlan, chronicles_in, plans_in, ClosesFirst, IsRefusal}
+use Rattle.crs_engine.specs.Engines.{EngineState, StandsFor, plans_of}
+use Rattle.crs_top.specs.declared.session.Session.{Session}
+use Rattle.crs_top.specs.Session.{HasText, chronicle_in, HasModels, HasEntries, Represents}
+use Rattle.crs_top.specs.Models.{IsAccepted, IsRejected, ClosesInconsistent, ClosesWindowed}
+use Rattle.crs_top.specs.Prepared.{IsRefusedText, FirstWindowed}
+use Rattle.crs_top.specs.Texts.{Frame}
+
+all_from : {A : Type 0} (F G : A → Type 0) (xs : List A) → ((x : A) → F x → G x) → AllByRecursion F xs → AllByRecursion G xs
+all_from F G [] e h = tt
+all_from F G (x ∷ xs) e h = (e x h.0, all_from F G xs e h.1)
+
+-- what is proper as it is read is proper for compiling
+module _ {S : Type 0} where
+  proper_body : (names : List (Name S)) (n : ℕ) (b : Body S) → parsed.IsProperBody names n b → compiled.BodyIsBelow n b
+  proper_body names n (NoEvent p) h = h.1
+  proper_body names n (Occurs least most p) h = h.1
+  proper_body names n (Hold name terms value) h = (h.1, h.2)
+
+  proper_chronicle : (names : List (Name S)) (c : Chronicle S) → parsed.IsProperChronicle names c → compiled.IsProperChronicle c
+  proper_chronicle names c h = record {
+      events_some = h.events_some;
+      events_few = h.events_few;
+      points_few = h.points_few;
+      variables_few = h.variables_few;
+      within = h.within;
+      named = h.named;
+      below = all_from (parsed.IsProperEvent names c) (λ v. PatternIsBelow (length c.variables) v.pattern) c.events (λ v k. k.below) h.events;
+      sets = h.sets;
+      differs = h.differs;
+      windows = all_from (parsed.IsProperWindow names c) (compiled.IsProperWindow (length c.events) (length c.variables)) c.windows (λ w k. record {
+          from = record { event = k.from.event; not_large = k.from.not_large; not_small = k.from.not_small };
+          to = record { event = k.to.event; not_large = k.to.not_large; not_small = k.to.not_small };
+          body = proper_body names (length c.variables) w.body k.body;
+        }) h.windows;
+    }
+
+  pub proper_models : (m : Models S) → parsed.AreProper m → compiled.AreProper m
+  proper_models m h = all_from (parsed.IsProperChronicle m.names) compiled.IsProperChronicle m.chronicles (proper_chronicle m.names) h.chronicles
+
+-- the refusals
+pub closes_inconsistent : (texts : List (List ℕ)) (cs : List CodeChronicle) (line : ℕ) → ClosesFirst cs line → ClosesInconsistent (map (renamed_chronicle (text_in texts)) (map chronicle_of cs)) line
+closes_inconsistent texts [] line h = h
+closes_inconsistent texts (c ∷ cs) line (inl h) = inl h
+closes_inconsistent texts (c ∷ cs) line (inr h) = inr (h.0, closes_inconsistent texts cs line h.1)
+
+renamed_none : (texts : List (List ℕ)) (ws : List (Window Sym)) → map (renamed_window (text_in texts)) ws ≡ [] → ws ≡ []
+renamed_none texts [] e = refl
+renamed_none texts (w ∷ ws) e = cc
+
+closes_windowed : (texts : List (List ℕ)) (ps : List Plan) (line : ℕ) → FirstWindowed ps (Some line) → ClosesWindowed (map (chronicle_in texts) ps) line
+closes_windowed texts [] line h = h
+closes_windowed texts (p ∷ ps) line (inl h) = inl ((λ e. h.0 (renamed_none texts (chronicle p).windows e)), h.1)
+closes_windowed texts (p ∷ ps) line (inr h) = inr (ap (map (renamed_window (text_in texts))) h.0, closes_windowed texts ps line h.1)
+
+none_windowed : (ps : List Plan) → FirstWindowed ps None → AllByRecursion (λ p. (chronicle p).windows ≡ []) ps
+none_windowed [] h = tt
+none_windowed (p ∷ ps) h = (h.0, none_windowed ps h.1)
+
+pub compile_refused : (symbols : ℕ) (text : List ℕ) (m : CodeModels) (texts : List (List ℕ)) → models_read symbols [] text ≡ Ok (renamed_models (text_in texts) (models_of m), texts) → (e : ModelRefused) → IsRefusal m.chronicles e
+    → IsRefusedText symbols text e
+compile_refused symbols text m texts read (At line word) h = inr (inl (renamed_models (text_in texts) (models_of m), texts, read, h.0, closes_inconsistent texts m.chronicles line h.1))
+compile_refused symbols text m texts read Memory h = tt
+
+-- chronicles by their plans
+chronicles_by : (texts : List (List ℕ)) (ps : List Plan) → map (chronicle_in texts) ps ≡ map (renamed_chronicle (text_in texts)) (map chronicle_of (map (λ p. p.chronicle) ps))
+chronicles_by texts [] = refl
+chronicles_by texts (p ∷ ps) = ap (λ (cs : List (Chronicle (List ℕ))). chronicle_in texts p ∷ cs) (chronicles_by texts ps)
+
+known_by : (texts : List (List ℕ)) (ps : List Plan) → AllByRecursion (IsChronicleOf (HasText texts)) (map chronicle_of (map (λ p. p.chronicle) ps)) → AllByRecursion (λ p. IsChronicleOf (HasText texts) (chronicle p)) ps
+known_by texts [] h = tt
+known_by texts (p ∷ ps) h = (h.0, known_by texts ps h.1)
+
+names_by : (texts : List (List ℕ)) (ns : List CodeName) → map (renamed_name (text_in texts)) (map name_of ns) ≡ map (name_seen texts) ns
+names_by texts [] = refl
+names_by texts (n ∷ ns) = ap (λ (xs : List (Name (List ℕ))). name_seen texts n ∷ xs) (names_by texts ns)
+
+arities_by : (ns : List CodeName) → AllByRecursion (λ n. n.arity ≤ 8) (map name_of ns) → AllByRecursion (λ n. n.arity ≤ 8) ns
+arities_by [] h = tt
+arities_by (n ∷ ns) h = (h.0, arities_by ns h.1)
+
+consistent_by : (texts : List (List ℕ)) (ps : List Plan) → AllByRecursion IsPlan ps → AllByRecursion (λ c. IsConsistent c.bounds) (map (chronicle_in texts) ps)
+consistent_by texts [] h = tt
+consistent_by texts (p ∷ ps) h = (h.0.proper.consistent, consistent_by texts ps h.1)
+
+windowless_by : (texts : List (List ℕ)) (ps : List Plan) → AllByRecursion (λ p. (chronicle p).windows ≡ []) ps → AllByRecursion (λ c. c.windows ≡ []) (map (chronicle_in texts) ps)
+windowless_by texts [] h = tt
+windowless_by texts (p ∷ ps) h = (ap (map (renamed_window (text_in texts))) h.0, windowless_by texts ps h.1)
+
+pub by_value : (F : Plan → Type 0) (rs : List (Rc Plan Global)) → AllByRecursion F (map (λ r. r.value) rs) → AllByRecursion (λ r. F r.value) rs
+by_value F [] h = tt
+by_value F (r ∷ rs) h = (h.0, by_value F rs h.1)
+
+pub plans_proper : (ps : List Plan) → AllByRecursion IsPlan ps → AllByRecursion IsProper ps
+plans_proper ps h = all_from IsPlan IsProper ps (λ p k. k.proper) h
+
+-- the models of a text, as they were read and compiled
+module _ (symbols entries : ℕ) (text : List ℕ) (m : CodeModels) (table : Table) (plans : Plans)
+    (read : models_read symbols [] text ≡ Ok (renamed_models (text_in table.texts) (models_of m), table.texts))
+    (numbered : AreModelsOf (HasText table.texts) (models_of m)) (proper : parsed.AreProper (models_of m))
+    (names : plans.names ≡ m.names) (chronicles : chronicles_in plans.plans ≡ m.chronicles) (made : AllByRecursion IsPlan (plans_of plans)) where
+  abbrev pub frame : Frame
+  frame = record { models = renamed_models (text_in table.texts) (models_of m); texts = table.texts; symbols = symbols; entries = entries }
+
+  chronicles_are : frame.models.chronicles ≡ map (chronicle_in table.texts) (plans_of plans)
+  chronicles_are = ap (λ (cs : List CodeChronicle). map (renamed_chronicle (text_in table.texts)) (map chronicle_of cs)) (sym chronicles) ∙ sym (chronicles_by table.texts (plans_of plans))
+
+  consistent : AllByRecursion (λ c. IsConsistent c.bounds) frame.models.chronicles
+  consistent = subst (AllByRecursion (λ c. IsConsistent c.bounds)) (sym chronicles_are) (consistent_by table.texts (plans_of plans) made)
+
+  -- how many plans there are
+  pub plans_few : length plans.plans ≤ 64
+  plans_few =
+      let a : length (chronicles_in plans.plans) ≡ length m.chronicles = ap length chronicles in
+      omega (arith, a, length-map (plans_of plans) (λ (p : Plan). p.chronicle), length-map plans.plans (λ r. r.value), length-map m.chronicles chronicle_of, proper.chronicles_few)
+
+  -- a chronicle has a window
+  pub rejected_windowed : (line : ℕ) → FirstWindowed (plans_of plans) (Some line) → IsRejected symbols text line Form
+  rejected_windowed line h = inr (inr (frame.models, table.texts, read, consistent, refl, subst (λ (cs : List (Chronicle (List ℕ))). ClosesWindowed cs line) (sym chronicles_are) (closes_windowed table.texts (plans_of plans) line h)))
+
+  module _ (none : FirstWindowed (plans_of plans) None) where
+    windowless : AllByRecursion (λ p. (chronicle p).windows ≡ []) (plans_of plans)
+    windowless = none_windowed (plans_of plans) none
+
+    pub plans_windowless : AllByRecursion (λ p. (chronicle p).windows ≡ []) (plans_of plans)
+    plans_windowless = windowless
+
+    pub accepted : IsAccepted symbols entries text frame
+    accepted = record {
+        read = read;
+        consistent = consistent;
+        windowless = subst (AllByRecursion (λ c. c.windows ≡ [])) (sym chronicles_are) (windowless_by table.texts (plans_of plans) windowless);
+        symbols_are = refl;
+        entries_are = refl;
+      }
+
+    has_models : AreDistinct table.texts → table.limit ≡ symbols → HasModels frame plans table
+    has_models distinct limit = record {
+        proper = plans_proper (plans_of plans) made;
+        windowless = windowless;
+        names = names_by table.texts m.names ∙ ap (map (name_seen table.texts)) (sym names);
+        names_in = subst (AreNamesIn table.texts) (sym names) numbered.names;
+        names_few = let a : length plans.names ≡ length m.names = ap length names in omega (arith, a, length-map m.names name_of, proper.names_few);
+        arities = subst (AllByRecursion (λ n. n.arity ≤ 8)) (sym names) (arities_by m.names proper.arities);
+        chronicles = chronicles_are;
+        chronicles_in = known_by table.texts (plans_of plans) (subst (λ (cs : List CodeChronicle). AllByRecursion (IsChronicleOf (HasText table.texts)) (map chronicle_of cs)) (sym chronicles) numbered.chronicles);
+        distinct = distinct;
+        limit = limit;
+      }
+
+    -- the session at the start
+    pub represented : (e : EngineState) → AreDistinct table.texts → table.limit ≡ symbols → e.plans ≡ plans → e.delay ≡ 0 → e.last ≡ 0 → e.horizon ≡ 0 → e.accepted ≡ 0 → e.limit ≡ entries → e.stopped ≡ false → StandsFor e [] []
+        → Represents frame (record { engine = e; symbols = table; entries = entries; met = false; ended = false; refused = false }) (at_start table.texts)
+    represented e distinct limit p delay last horizon count most running stands = record {
+        models = subst (λ (q : Plans). HasModels frame q table) (sym p) (has_models distinct limit);
+        entries = record { settled = []; waiting = []; stands = stands; members = record { there = λ x i. absurd i; back = λ x i. absurd i }; known = tt; distinct = tt; below = tt };
+        reached = record { fresh = λ _. (refl, refl, refl); open_horizon = λ _. omega arith; open_last = λ _. omega arith };
+        running = running;
+        texts = refl;
+        delay = sym delay;
+        last = sym last;
+        horizon = sym horizon;
+        count = sym count;
+        most = most;
+        few = omega arith;
+        most_here = refl;
+        met = refl;
+        ended = refl;
+      }

@@ -1,0 +1,168 @@
+-- One more line, and the lines that were taken.
+use Rattle.std.proofs.Common.{◌≡◌, ◌≤◌, ◌<◌, ℕ, ◌+◌, Bool, true, false, cond, List, [], ◌∷◌, ◌++◌, length, nat_lt, refl, sym, ap, subst, ◌∙◌, arith, append-nil, append_assoc, eqb, get_or, take, ◌-◌, length-take-le}
+use Rattle.std.specs.Prelude.{◌||◌, if◌then◌else◌}
+use Rattle.std.specs.Str.Lines.{strip_carriage_return}
+use Rattle.std.proofs.lemmas.Bool.{ltb-false}
+use Rattle.std.specs.List.{list_any}
+use Rattle.crs_base.specs.Lines.{Line, lines_of, bytes_of, is_longer, line_limit}
+use Rattle.crs_log.specs.ItemOf.{what_of}
+use Rattle.crs_log.specs.Run as run
+use Rattle.crs_log.specs.Reading.{Reader, Given, Plain, Long, Gives, HasNoLine, given_line, given_lines, ahead}
+use Rattle.crs_log.specs.Run.{Setting, State, Outcome, after_given, after_what}
+use Rattle.crs_top.specs.declared.session.Session.{Session}
+use Rattle.crs_top.specs.Session.{Represents, Brings, BringsAll, IsReady, IsShort, number_of}
+use Rattle.crs_top.specs.Taking.{after_all, refuses_some, IsGivenText, Takes}
+use Rattle.crs_top.specs.Texts.{Frame, setting_of, IsLineText, IsTextFrom, is_refused}
+
+-- a line that is given whole is no longer than the limit
+abbrev IsShortBy : ℕ → Given → Type 0
+IsShortBy limit (Long n) = Unit {0}
+IsShortBy limit (Plain n bytes) = length bytes ≤ limit
+
+stripped : (raw : List ℕ) → length (strip_carriage_return raw) ≤ length raw
+stripped raw = by (eqb (get_or raw (length raw - 1) 0) 13)
+  where
+    by : (b : Bool) → length (cond b (take (length raw - 1) raw) raw) ≤ length raw
+    by true = omega (arith, length-take-le (length raw - 1) raw)
+    by false = omega arith
+
+bytes_short : (limit : ℕ) (l : Line) → length l.raw ≤ limit → length (bytes_of l) ≤ limit
+bytes_short limit l h = by l.ended
+  where
+    by : (b : Bool) → length (if b then strip_carriage_return l.raw else l.raw) ≤ limit
+    by true = let s = stripped l.raw in omega arith
+    by false = h
+
+line_by : (limit n : ℕ) (l : Line) (b : Bool) → is_longer limit l ≡ b → IsShortBy limit (cond b (Long n) (Plain n (bytes_of l)))
+line_by limit n l true e = tt
+line_by limit n l false e = bytes_short limit l (ltb-false limit (length l.raw) e)
+
+line_short : (limit n : ℕ) (l : Line) → IsShortBy limit (given_line limit n l)
+line_short limit n l = line_by limit n l (is_longer limit l) refl
+
+first_short : (limit n : ℕ) (ls : List Line) (g : Given) (gs : List Given) → given_lines limit n ls ≡ g ∷ gs → IsShortBy limit g
+first_short limit n [] g gs e = absurd (cc)
+first_short limit n (l ∷ ls) g gs e =
+    let same : given_line limit (n + 1) l ≡ g = cc in
+    subst (IsShortBy limit) same (line_short limit (n + 1) l)
+
+same_short : (g : Given) → IsShortBy 4096 g → IsShort g
+same_short (Long n) h = tt
+same_short (Plain n bytes) h = h
+
+pub given_short : (old new : Reader) (g : Given) → old.limit ≡ 4096 → Gives old g new → IsShort g
+given_short old new g e h =
+    let first = h.ahead [] (λ q. refl) in
+    same_short g (subst (λ (n : ℕ). IsShortBy n g) e (first_short old.limit old.number (lines_of (old.rest ++ [])) g (ahead new []) first))
+
+-- one more line behind those that were taken
+after_more : (c : Setting) (s : State) (gs : List Given) (g : Given) → after_all c s (gs ++ g ∷ []) ≡ (after_given c (after_all c s gs) g).0
+after_more c s [] g = refl
+after_more c s (x ∷ gs) g = after_more c (after_given c s x).0 gs g
+
+or_assoc : (a b c : Bool) → ((a || b) || c) ≡ (a || (b || c))
+or_assoc true b c = refl
+or_assoc false b c = refl
+
+or_last : (b : Bool) → (b || false) ≡ b
+or_last true = refl
+or_last false = refl
+
+refuses_more : (c : Setting) (s : State) (gs : List Given) (g : Given) → refuses_some c s (gs ++ g ∷ []) ≡ (refuses_some c s gs || is_refused (after_given c (after_all c s gs) g).1)
+refuses_more c s [] g = or_last (is_refused (after_given c s g).1)
+refuses_more c s (x ∷ gs) g =
+    ap (λ b. is_refused (after_given c s x).1 || b) (refuses_more c (after_given c s x).0 gs g)
+    ∙ sym (or_assoc (is_refused (after_given c s x).1) (refuses_some c (after_given c s x).0 gs) (is_refused (after_given c (after_all c (after_given c s x).0 gs) g).1))
+
+text_more : (f : Frame) (s : State) (gs : List Given) (g : Given) (text first : List ℕ) → IsGivenText f s gs text
+    → IsLineText f.models.chronicles (number_of g) (after_all (setting_of f) s gs) (after_given (setting_of f) (after_all (setting_of f) s gs) g) first → IsGivenText f s (gs ++ g ∷ []) (text ++ first)
+text_more f s [] g text first h k = (first, [], k, refl, ap (λ (xs : List ℕ). xs ++ first) h ∙ sym (append-nil first))
+text_more f s (x ∷ gs) g text first h k = (h.0, h.1 ++ first, h.2, text_more f (after_given (setting_of f) s x).0 gs g h.1 first h.3 k, ap (λ (xs : List ℕ). xs ++ first) h.4 ∙ append_assoc h.0 h.1 first)
+
+pub takes_none : (f : Frame) (x : Session) (s : State) (out : List ℕ) → Represents f x s → Takes f x.refused x s [] out out
+takes_none f x s out r = record { state = r; text = []; says = refl; written = sym (append-nil out); noted = sym (or_last x.refused) }
+
+pub takes_more : (f : Frame) (refused : Bool) (x new : Session) (s : State) (gs : List Given) (g : Given) (out mid more : List ℕ) → Takes f refused x s gs out mid
+    → BringsAll x new (number_of g) (λ f s. after_given (setting_of f) s g) mid more → Takes f refused new s (gs ++ g ∷ []) out more
+takes_more f refused x new s gs g out mid more t brings =
+    let b = brings f (after_all (setting_of f) s gs) t.state in
+    record {
+      state = subst (λ (z : State). Represents f new z) (sym (after_more (setting_of f) s gs g)) b.state;
+      text = t.text ++ b.text;
+      says = text_more f s gs g t.text b.text t.says b.says;
+      written = b.written ∙ ap (λ (xs : List ℕ). xs ++ b.text) t.written ∙ append_assoc out t.text b.text;
+      noted = b.noted ∙ ap (λ c. c || is_refused (after_given (setting_of f) (after_all (setting_of f) s gs) g).1) t.noted
+        ∙ or_assoc refused (refuses_some (setting_of f) s gs) (is_refused (after_given (setting_of f) (after_all (setting_of f) s gs) g).1)
+        ∙ ap (λ c. refused || c) (sym (refuses_more (setting_of f) s gs g));
+    }
+
+no_rest : (b : Bool) (rest : List ℕ) → b ≡ true → (if b then [] else rest) ≡ rest → rest ≡ []
+no_rest true rest e h = sym h
+no_rest false rest e h = cc
+
+-- once the input ended and no line is held, all lines were given
+pub all_given : (lines ended now : Reader) (told : List Given) → ended ≡ record lines { finished = true } → now.finished ≡ ended.finished → HasNoLine now → ahead ended [] ≡ told ++ ahead now [] → ahead lines [] ≡ told
+all_given lines ended now told is same none given_is =
+    let e : now.finished ≡ true = same ∙ ap (λ (r : Reader). r.finished) is in
+    let r : now.rest ≡ [] = no_rest now.finished now.rest e none.0 in
+    let last : ahead now [] ≡ [] = ap (λ (xs : List ℕ). given_lines now.limit now.number (lines_of (xs ++ []))) r in
+    sym (ap (λ (r : Reader). ahead r []) is) ∙ given_is ∙ ap (λ (gs : List Given). told ++ gs) last ∙ append-nil told
+
+-- the text of lines by their numbers is that of the lines
+line_by_number : (c : Setting) (s : State) (n : ℕ) (l : Line) (b : Bool)
+    → after_given c s (cond b (Long n) (Plain n (bytes_of l))) ≡ cond b (s, run.Refused run.TooLong) (after_what c s (what_of (bytes_of l)))
+line_by_number c s n l true = refl
+line_by_number c s n l false = refl
+
+line_is : (c : Setting) (s : State) (n : ℕ) (l : Line) → after_given c s (given_line line_limit n l) ≡ run.after_line c s l
+line_is c s n l = line_by_number c s n l (is_longer line_limit l)
+
+number_by : (n : ℕ) (l : Line) (b : Bool) → number_of (cond b (Long n) (Plain n (bytes_of l))) ≡ n
+number_by n l true = refl
+number_by n l false = refl
+
+pub given_text : (f : Frame) (n : ℕ) (s : State) (ls : List Line) (text : List ℕ) → IsGivenText f s (given_lines line_limit n ls) text → IsTextFrom (setting_of f) f.models.chronicles (n + 1) s ls text
+given_text f n s [] text h = h
+given_text f n s (l ∷ ls) text h =
+    let c = setting_of f in
+    let g = given_line line_limit (n + 1) l in
+    let same : after_given c s g ≡ run.after_line c s l = line_is c s (n + 1) l in
+    let number : number_of g ≡ n + 1 = number_by (n + 1) l (is_longer line_limit l) in
+    let rest : IsTextFrom c f.models.chronicles (n + 1 + 1) (run.after_line c s l).0 ls h.1 =
+        subst (λ (z : State). IsTextFrom c f.models.chronicles (n + 1 + 1) z ls h.1) (ap (λ a. a.0) same) (given_text f (n + 1) (after_given c s g).0 ls h.1 h.3) in
+    let first : IsLineText f.models.chronicles (n + 1) s (run.after_line c s l) h.0 =
+        subst (λ (a : State × Outcome). IsLineText f.models.chronicles (n + 1) s a h.0) same (subst (λ (k : ℕ). IsLineText f.models.chronicles k s (after_given c s g) h.0) number h.2) in
+    (h.0, h.1, first, rest, h.4)
+
+pub given_refused : (c : Setting) (n : ℕ) (s : State) (ls : List Line) → refuses_some c s (given_lines line_limit n ls) ≡ list_any is_refused (run.outcomes c s ls)
+given_refused c n s [] = refl
+given_refused c n s (l ∷ ls) =
+    let same : after_given c s (given_line line_limit (n + 1) l) ≡ run.after_line c s l = line_is c s (n + 1) l in
+    (λ i. is_refused (same i).1 || refuses_some c (same i).0 (given_lines line_limit (n + 1) ls))
+    ∙ ap (λ b. is_refused (run.after_line c s l).1 || b) (given_refused c (n + 1) (run.after_line c s l).0 ls)
+
+-- lines behind others
+after_append : (c : Setting) (s : State) (xs ys : List Given) → after_all c s (xs ++ ys) ≡ after_all c (after_all c s xs) ys
+after_append c s [] ys = refl
+after_append c s (x ∷ xs) ys = after_append c (after_given c s x).0 xs ys
+
+refuses_append : (c : Setting) (s : State) (xs ys : List Given) → refuses_some c s (xs ++ ys) ≡ (refuses_some c s xs || refuses_some c (after_all c s xs) ys)
+refuses_append c s [] ys = refl
+refuses_append c s (x ∷ xs) ys =
+    ap (λ b. is_refused (after_given c s x).1 || b) (refuses_append c (after_given c s x).0 xs ys)
+    ∙ sym (or_assoc (is_refused (after_given c s x).1) (refuses_some c (after_given c s x).0 xs) (refuses_some c (after_all c (after_given c s x).0 xs) ys))
+
+text_append : (f : Frame) (s : State) (xs ys : List Given) (a b : List ℕ) → IsGivenText f s xs a → IsGivenText f (after_all (setting_of f) s xs) ys b → IsGivenText f s (xs ++ ys) (a ++ b)
+text_append f s [] ys a b h k = subst (λ (z : List ℕ). IsGivenText f s ys (z ++ b)) (sym h) k
+text_append f s (x ∷ xs) ys a b h k = (h.0, h.1 ++ b, h.2, text_append f (after_given (setting_of f) s x).0 xs ys h.1 b h.3 k, ap (λ (z : List ℕ). z ++ b) h.4 ∙ append_assoc h.0 h.1 b)
+
+-- what was taken from the start, and then more
+pub takes_append : (f : Frame) (x new : Session) (s : State) (xs ys : List Given) (a text : List ℕ) → Takes f false x s xs [] a
+    → Takes f x.refused new (after_all (setting_of f) s xs) ys [] text → Takes f false new s (xs ++ ys) [] (a ++ text)
+takes_append f x new s xs ys a text t u = record {
+    state = subst (λ (z : State). Represents f new z) (sym (after_append (setting_of f) s xs ys)) u.state;
+    text = a ++ text;
+    says = text_append f s xs ys a text (subst (IsGivenText f s xs) (sym t.written) t.says) (subst (IsGivenText f (after_all (setting_of f) s xs) ys) (sym u.written) u.says);
+    written = refl;
+    noted = u.noted ∙ ap (λ b. b || refuses_some (setting_of f) (after_all (setting_of f) s xs) ys) t.noted ∙ sym (refuses_append (setting_of f) s xs ys);
+  }

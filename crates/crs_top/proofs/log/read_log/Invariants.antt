@@ -1,0 +1,24 @@
+use Rattle.std.proofs.Common.{◌≡◌, ◌≤◌, ◌-◌, true, false}
+use Rattle.crs_log.specs.Run.{at_start}
+use Rattle.crs_top.specs.Session.{IsReady, Represents}
+use Rattle.crs_top.specs.Texts.{Frame}
+use Rattle.crs_top.proofs.LogReading.{Reading}
+use Rattle.crs_top.proofs.log.read_log.Given as goal
+
+abbrev pub invariant-loop-taken : goal.invariant-loop-taken
+invariant-loop-taken g l =
+    let d = g.D.Desk in
+    record {
+      inputs : d.inputs l.desk ≡ d.inputs l.fn.desk;
+      reading : d.in_faults l.fn.desk ≤ d.in_faults l.desk;
+      writing : d.out_faults l.fn.desk ≤ d.out_faults l.desk;
+      within : l.taken ≤ l.limit;
+      ready : IsReady l.session;
+      short : l.lines.limit ≡ 4096;
+      open_still : l.lines.finished ≡ false;
+      fed : l.lines.fed ≡ l.taken;
+      told : d.tells ≡ true → (f : Frame) → Represents f l.fn.session (at_start f.texts) → Reading f (d.told l.fn.desk) l.fn.log l.taken l.session l.lines (d.told l.desk);
+    }
+
+abbrev pub decreases-loop-taken : goal.decreases-loop-taken
+decreases-loop-taken g l = l.limit - l.taken

@@ -1,0 +1,13 @@
+use Rattle.std.proofs.Common.{◌≡◌, ◌∙◌, ap, sym, subst, List, ℕ, [], refl}
+use Rattle.crs_top.specs.Taking.{Takes}
+use Rattle.crs_top.proofs.Taken.{all_given}
+use Rattle.crs_top.proofs.log.take_rest.Goals as goal
+
+pub returns : goal.returns
+returns c =
+    let t = c.in_ok-take_lines.ensures in
+    record {
+      told = t.told;
+      ahead_is = all_given c.args.lines.now c.finish.new.self c.take_lines.new.lines t.told c.finish.ensures t.finished t.none (t.ahead_is [] (λ q. refl));
+      takes = λ f s r. subst (λ (out : List ℕ). Takes f c.args.session.now.refused c.take_lines.new.session s t.told out c.take_lines.new.out.items) c.new-text.ensures.items (t.takes f s r);
+    }

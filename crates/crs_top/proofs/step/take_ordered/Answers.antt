@@ -1,0 +1,15 @@
+use Rattle.std.proofs.Common.{◌≡◌, ap}
+use Rattle.crs_log.specs.SeenItems.{what_seen}
+use Rattle.crs_top.specs.Session.{is_delay_what}
+use Rattle.crs_top.proofs.Ordering.{delay_brings}
+use Rattle.crs_top.proofs.step.take_ordered.Goals as goal
+
+pub returns-in-Delay : goal.returns-in-Delay
+returns-in-Delay c = λ f s r. rw (c.in-Delay.is, c.set_delay.ensures.value)
+    (delay_brings f c.args.session.now s c.in-Delay.delay c.args.number c.args.out.now.items (c.requires.fresh (ap (λ i. is_delay_what (what_seen c.args.line.now i)) c.in-Delay.is)) r)
+
+pub returns-in-Clock : goal.returns-in-Clock
+returns-in-Clock c = rw c.in-Clock.is c.take_clock.ensures
+
+pub returns-in-Finish : goal.returns-in-Finish
+returns-in-Finish c = rw c.in-Finish.is c.take_end.ensures

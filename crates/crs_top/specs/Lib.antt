@@ -1,0 +1,9 @@
+pub mod Status
+pub mod Words
+pub mod Texts
+pub mod Session
+pub mod Taking
+pub mod Logs
+pub mod Models
+pub mod Prepared
+pub mod Run

@@ -1,0 +1,79 @@
+-- Reading a log to its end, and writing as it comes.
+use Rattle.std.specs.Prelude.{◌≡◌, ◌⊎◌, ℕ, ◌+◌, ◌<◌, ◌≤◌, Bool, List, [], ◌∷◌, ◌++◌, length, take, Result, Ok, Err}
+use Rattle.crs_desk.specs.Desk.{Told, stream_at, advanced, Rises, Wrote}
+use Rattle.crs_desk.specs.declared.turn.Turn.{Turn}
+use Rattle.crs_log.specs.Reading.{Reader, Given, HasNoLine, ahead}
+use Rattle.crs_log.specs.Run.{State}
+use Rattle.crs_top.specs.declared.log.Stop.{Stop}
+use Rattle.crs_top.specs.declared.log.Stop.TheVariants.{ReadFault, WriteFault, Memory, TooLong}
+use Rattle.crs_top.specs.declared.session.Session.{Session}
+use Rattle.crs_top.specs.Session.{Represents}
+use Rattle.crs_top.specs.Taking.{Takes}
+use Rattle.crs_top.specs.Texts.{Frame, IsWholeText, IsLogText, some_refused}
+
+-- a text of which P holds was appended
+abbrev pub Appends : (List ℕ → Type 0) → List ℕ → List ℕ → Type 0
+Appends P old new = (text : List ℕ) × P text × (new ≡ old ++ text)
+
+-- a front of a text of which P holds was appended
+abbrev pub AppendsFront : (List ℕ → Type 0) → List ℕ → List ℕ → Type 0
+AppendsFront P old new = (text : List ℕ) × (k : ℕ) × P text × (new ≡ old ++ take k text)
+
+-- At this turn the bytes written were the text of the whole lines among the log bytes read.
+abbrev pub IsPromptAt : Frame → List ℕ → List ℕ → List ℕ → Turn → Type 0
+IsPromptAt f old log written t = (t.written ≤ length written) × Appends (IsWholeText f (take t.taken log)) old (take t.written written)
+
+abbrev pub IsPrompt : Frame → List ℕ → List ℕ → List ℕ → List Turn → Type 0
+IsPrompt f old log written [] = Unit {0}
+IsPrompt f old log written (t ∷ ts) = IsPromptAt f old log written t × IsPrompt f old log written ts
+
+-- a front of the text of the whole lines among the first bytes, of which at most t were read; or, where the end was met, of the whole log's text
+abbrev pub IsCutShort : Frame → List ℕ → ℕ → List ℕ → List ℕ → Type 0
+IsCutShort f log t old new =
+    ((u : ℕ) × (u ≤ t) × AppendsFront (IsWholeText f (take u log)) old new) ⊎ ((t ≡ length log) × AppendsFront (IsLogText f log) old new)
+
+-- what was written when t bytes of the log were read, and how it ended; Ok tells whether some line was refused
+abbrev pub Ended : Frame → List ℕ → List ℕ → ℕ → ℕ → Result Bool Stop → List ℕ → Type 0
+Ended f old log limit t (Ok refused) new = (t ≡ length log) × (t < limit) × Appends (IsLogText f log) old new × (refused ≡ some_refused f log)
+Ended f old log limit t (Err ReadFault) new = Appends (IsWholeText f (take t log)) old new
+Ended f old log limit t (Err TooLong) new = (t ≡ limit) × Appends (IsWholeText f (take t log)) old new
+Ended f old log limit t (Err WriteFault) new = IsCutShort f log t old new
+Ended f old log limit t (Err Memory) new = IsCutShort f log t old new
+
+-- t bytes of a log that was just opened were read, in rising and prompt turns
+pub record ReadsLog (f : Frame) (old : Told) (input limit t : ℕ) (more : List Turn) (result : Result Bool Stop) (new : Told) : Type 0 where
+  pub files : new.files ≡ old.files
+  pub opened : new.opened ≡ old.opened
+  pub left : new.left ≡ advanced old.left input t
+  pub within : t ≤ length (stream_at old.left input).rest
+  pub turns : new.turns ≡ old.turns ++ more
+  pub rises : Rises input 0 (t + 1) more
+  pub prompt : IsPrompt f old.written (stream_at old.left input).rest new.written more
+  pub ended : Ended f old.written (stream_at old.left input).rest limit t result new.written
+
+abbrev pub HasReadLog : Frame → Told → ℕ → ℕ → Result Bool Stop → Told → Type 0
+HasReadLog f old input limit result new = (t : ℕ) × (more : List Turn) × ReadsLog f old input limit t more result new
+
+-- the lines that a piece completes are taken, and their text is made
+pub record TakesPiece (old_lines new_lines : Reader) (old new : Session) (piece text : List ℕ) : Type 0 where
+  pub told : List Given
+  pub limit : new_lines.limit ≡ old_lines.limit
+  pub finished : new_lines.finished ≡ old_lines.finished
+  pub fed : new_lines.fed ≡ old_lines.fed + length piece
+  pub none : HasNoLine new_lines
+  pub ahead_is : (m : List ℕ) → ahead old_lines (piece ++ m) ≡ told ++ ahead new_lines m
+  pub takes : (f : Frame) (s : State) → Represents f old s → Takes f old.refused new s told [] text
+
+-- the last line, which has no line feed, is taken, and its text is made
+pub record TakesRest (lines : Reader) (old new : Session) (text : List ℕ) : Type 0 where
+  pub told : List Given
+  pub ahead_is : ahead lines [] ≡ told
+  pub takes : (f : Frame) (s : State) → Represents f old s → Takes f old.refused new s told [] text
+
+-- the rest is taken, and its text written, or a front of it, or none of it
+abbrev pub Finishes : Told → Session → Reader → Result Bool Stop → Told → Type 0
+Finishes old x lines (Ok refused) new = (y : Session) × (text : List ℕ) × TakesRest lines x y text × Wrote old text (length text) new × (refused ≡ y.refused)
+Finishes old x lines (Err TooLong) new = ⊥
+Finishes old x lines (Err ReadFault) new = ⊥
+Finishes old x lines (Err WriteFault) new = (y : Session) × (text : List ℕ) × (k : ℕ) × TakesRest lines x y text × Wrote old text k new
+Finishes old x lines (Err Memory) new = (new ≡ old) ⊎ ((y : Session) × (text : List ℕ) × (k : ℕ) × TakesRest lines x y text × Wrote old text k new)

@@ -1,0 +1,35 @@
+-- When a models text is accepted, and by which line and word it is refused.
+use Rattle.std.specs.Prelude.{◌≡◌, ◌⊎◌, ℕ, List, [], ◌∷◌, Ok, Err}
+use Rattle.std.specs.List.{AllByRecursion}
+use Rattle.crs_stn.specs.Bound.{IsConsistent}
+use Rattle.crs_model.specs.declared.models.ModelWord.{ModelWord}
+use Rattle.crs_model.specs.declared.models.ModelWord.TheVariants.{Form, Inconsistent}
+use Rattle.crs_model.specs.Models.{Chronicle, Models}
+use Rattle.crs_parse.specs.Meant.{models_read}
+use Rattle.crs_top.specs.Texts.{Frame}
+
+-- The text means the models of the frame: it has no fault, whole dates meet each chronicle's bounds, and no chronicle has a window.
+pub record IsAccepted (symbols entries : ℕ) (text : List ℕ) (f : Frame) : Type 0 where
+  pub read : models_read symbols [] text ≡ Ok (f.models, f.texts)
+  pub consistent : AllByRecursion (λ c. IsConsistent c.bounds) f.models.chronicles
+  pub windowless : AllByRecursion (λ c. c.windows ≡ []) f.models.chronicles
+  pub symbols_are : f.symbols ≡ symbols
+  pub entries_are : f.entries ≡ entries
+
+-- the line closes the first chronicle whose bounds no whole dates meet
+abbrev pub ClosesInconsistent : List (Chronicle (List ℕ)) → ℕ → Type 0
+ClosesInconsistent [] line = ⊥
+ClosesInconsistent (c ∷ cs) line = ((IsConsistent c.bounds → ⊥) × (line ≡ c.line)) ⊎ (IsConsistent c.bounds × ClosesInconsistent cs line)
+
+-- the line closes the first chronicle that has a window
+abbrev pub ClosesWindowed : List (Chronicle (List ℕ)) → ℕ → Type 0
+ClosesWindowed [] line = ⊥
+ClosesWindowed (c ∷ cs) line = ((c.windows ≡ [] → ⊥) × (line ≡ c.line)) ⊎ ((c.windows ≡ []) × ClosesWindowed cs line)
+
+-- The text is refused at this line with this word: by its first fault; or, where it has none, by the first chronicle whose bounds can't be met;
+-- or, where there is none either, by the first that has a window, which isn't served yet.
+abbrev pub IsRejected : ℕ → List ℕ → ℕ → ModelWord → Type 0
+IsRejected symbols text line word =
+    (models_read symbols [] text ≡ Err (line, word))
+    ⊎ ((m : Models (List ℕ)) × (texts : List (List ℕ)) × (models_read symbols [] text ≡ Ok (m, texts)) × (word ≡ Inconsistent) × ClosesInconsistent m.chronicles line)
+    ⊎ ((m : Models (List ℕ)) × (texts : List (List ℕ)) × (models_read symbols [] text ≡ Ok (m, texts)) × AllByRecursion (λ c. IsConsistent c.bounds) m.chronicles × (word ≡ Form) × ClosesWindowed m.chronicles line)

@@ -1,0 +1,139 @@
+-- What a session stands for, and what one line does to it.
+use Rattle.std.specs.Prelude.{◌≡◌, ◌<◌, ◌≤◌, ◌^◌, ◌||◌, ℕ, ◌+◌, Bool, false, true, cond, List, [], ◌++◌, length, map, IsSomeAnd}
+use Rattle.std.specs.List.{AllByRecursion}
+use Rattle.crs_base.specs.declared.symbols.Sym.{Sym}
+use Rattle.crs_base.specs.Entry.{Entry}
+use Rattle.crs_base.specs.Symbols.{Table, AreDistinct as TextsAreDistinct}
+use Rattle.crs_model.specs.declared.plan.Plan.{Plan}
+use Rattle.crs_model.specs.declared.plan.Plans.{Plans}
+use Rattle.crs_model.specs.declared.recognition.Recognition.{Recognition}
+use Rattle.crs_report.specs.Printed.{chronicle_at, line_seen, IsPrintable}
+use Rattle.std.specs.Option.{option_map_or}
+use Rattle.crs_model.specs.Models.{Chronicle}
+use Rattle.crs_model.specs.Matching.{AreDistinct}
+use Rattle.crs_model.specs.Order.{HaveSameMembers}
+use Rattle.crs_model.specs.Plans.{chronicle, IsProper}
+use Rattle.crs_model.specs.Renaming.{text_in, renamed_chronicle, renamed_entry, IsChronicleOf, IsEntryOf}
+use Rattle.crs_log.specs.ItemOf.{What, Empty, Is, Faulty}
+use Rattle.crs_log.specs.Reading.{Given, Plain, Long}
+use Rattle.crs_log.specs.Run as run
+use Rattle.crs_log.specs.Run.{Setting, State, Outcome, Passed, Refused, settled}
+use Rattle.crs_log.specs.SeenNames.{name_seen, AreNamesIn}
+use Rattle.crs_engine.specs.Engines.{EngineState, StandsFor, plans_of}
+use Rattle.crs_top.specs.declared.session.Session.{Session}
+use Rattle.crs_top.specs.Texts.{Frame, LogEntry, IsOutcomeText, is_refused}
+
+-- the symbol has a text
+abbrev pub HasText : List (List ℕ) → Sym → Type 0
+HasText texts s = s.0 < length texts
+
+-- the plan's chronicle with the texts of its symbols
+abbrev pub chronicle_in : List (List ℕ) → Plan → Chronicle (List ℕ)
+chronicle_in texts p = renamed_chronicle (text_in texts) (chronicle p)
+
+abbrev pub entries_in : List (List ℕ) → List (Entry Sym) → List (Entry (List ℕ))
+entries_in texts es = map (renamed_entry (text_in texts)) es
+
+-- the plans are those of the frame's models, by the texts of the table
+pub record HasModels (f : Frame) (plans : Plans) (table : Table) : Type 0 where
+  pub proper : AllByRecursion IsProper (plans_of plans)
+  pub windowless : AllByRecursion (λ p. (chronicle p).windows ≡ []) (plans_of plans)
+  pub names : f.models.names ≡ map (name_seen table.texts) plans.names
+  pub names_in : AreNamesIn table.texts plans.names
+  pub names_few : length plans.names ≤ 256
+  pub arities : AllByRecursion (λ n. n.arity ≤ 8) plans.names
+  pub chronicles : f.models.chronicles ≡ map (chronicle_in table.texts) (plans_of plans)
+  pub chronicles_in : AllByRecursion (λ p. IsChronicleOf (HasText table.texts) (chronicle p)) (plans_of plans)
+  pub distinct : TextsAreDistinct table.texts
+  pub limit : table.limit ≡ f.symbols
+
+-- the settled and the waiting entries together are the accepted ones
+pub record HasEntries (e : EngineState) (texts : List (List ℕ)) (accepted : List LogEntry) : Type 0 where
+  pub settled : List (Entry Sym)
+  pub waiting : List (Entry Sym)
+  pub stands : StandsFor e settled waiting
+  pub members : HaveSameMembers (entries_in texts (settled ++ waiting)) accepted
+  pub known : AllByRecursion (IsEntryOf (HasText texts)) (settled ++ waiting)
+  pub distinct : AreDistinct accepted
+  pub below : AllByRecursion (λ x. x.arrival < length accepted) accepted
+
+-- before an item is met nothing is accepted and no clock is taken; before the end the horizon is the last clock less the delay
+pub record IsReached (s : State) : Type 0 where
+  pub fresh : s.met ≡ false → (s.accepted ≡ []) × (s.last ≡ 0) × (s.horizon ≡ 0)
+  pub open_horizon : s.ended ≡ false → s.horizon ≡ run.horizon_at s s.last
+  pub open_last : s.ended ≡ false → s.last < 2 ^ 40
+
+-- the session stands for the state of the run
+pub record Represents (f : Frame) (x : Session) (s : State) : Type 0 where
+  pub models : HasModels f x.engine.plans x.symbols
+  pub entries : HasEntries x.engine x.symbols.texts s.accepted
+  pub reached : IsReached s
+  pub running : x.engine.stopped ≡ false
+  pub texts : s.texts ≡ x.symbols.texts
+  pub delay : s.delay ≡ x.engine.delay
+  pub last : s.last ≡ x.engine.last
+  pub horizon : s.horizon ≡ x.engine.horizon
+  pub count : length s.accepted ≡ x.engine.accepted
+  pub most : x.engine.limit ≡ f.entries
+  pub few : length s.accepted ≤ f.entries
+  pub most_here : x.entries ≡ f.entries
+  pub met : s.met ≡ x.met
+  pub ended : s.ended ≡ x.ended
+
+-- the session stands for some state of some run
+abbrev pub IsReady : Session → Type 0
+IsReady x = (f : Frame) × (s : State) × Represents f x s
+
+-- What one line brings, where `was` were settled before it at the horizon g: the session stands for the state after it, and its text is added.
+pub record Brings (f : Frame) (refused : Bool) (new : Session) (n : ℕ) (was : List LogEntry) (g : ℕ) (after : State × Outcome) (out more : List ℕ) : Type 0 where
+  pub state : Represents f new after.0
+  pub text : List ℕ
+  pub says : IsOutcomeText f.models.chronicles n was g (settled after.0) after.0.horizon after.1 text
+  pub written : more ≡ out ++ text
+  pub noted : new.refused ≡ (refused || is_refused after.1)
+
+-- whatever state of a run the session stands for
+abbrev pub BringsAll : Session → Session → ℕ → (Frame → State → State × Outcome) → List ℕ → List ℕ → Type 0
+BringsAll old new n after out more = (f : Frame) (s : State) → Represents f old s → Brings f old.refused new n (settled s) s.horizon (after f s) out more
+
+abbrev pub number_of : Given → ℕ
+number_of (Long n) = n
+number_of (Plain n bytes) = n
+
+-- the line of a recognition, by the texts of the table; none where there is no chronicle of its number
+abbrev pub line_in : Plans → List (List ℕ) → Recognition → List ℕ
+line_in plans texts r = option_map_or (line_seen texts r) (chronicle_at plans r.chronicle) []
+
+abbrev pub ArePrintable : Plans → List (List ℕ) → List Recognition → Type 0
+ArePrintable plans texts rs = AllByRecursion (λ r. IsSomeAnd (chronicle_at plans r.chronicle) (IsPrintable texts r)) rs
+
+-- no end was accepted yet
+abbrev pub IsOpen : Session → Type 0
+IsOpen x = x.ended ≡ false
+
+-- no entry was accepted and no clock was taken
+pub record IsUnused (e : EngineState) : Type 0 where
+  pub none : e.accepted ≡ 0
+  pub start : e.last ≡ 0
+  pub horizon : e.horizon ≡ 0
+
+-- a line that is given whole has at most 4096 bytes
+abbrev pub IsShort : Given → Type 0
+IsShort (Long n) = Unit {0}
+IsShort (Plain n bytes) = length bytes ≤ 4096
+
+abbrev pub is_blank_what : What → Bool
+is_blank_what Empty = true
+is_blank_what (Is item) = false
+is_blank_what Faulty = false
+
+abbrev pub is_delay_what : What → Bool
+is_delay_what Empty = false
+is_delay_what (Is item) = run.is_delay item
+is_delay_what Faulty = false
+
+-- what becomes of a line's item that stands in order
+abbrev pub ordered_what : Setting → State → What → State × Outcome
+ordered_what c s Empty = (s, Passed)
+ordered_what c s (Is item) = run.after_ordered c s item
+ordered_what c s Faulty = (s, Refused run.Form)

@@ -1,0 +1,22 @@
+//! The top call: the words, the desk and a status.
+#![tactic(auto)]
+
+mod answer;
+mod laws;
+mod limits;
+mod log;
+mod models;
+mod piece;
+mod run;
+mod session;
+mod status;
+mod step;
+mod words;
+
+#[cfg(test)]
+mod tests;
+
+pub use laws::log_text_is_one;
+pub use limits::{Limits, STANDARD};
+pub use run::{run_program, run_with};
+pub use status::Status;

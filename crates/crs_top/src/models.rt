@@ -1,0 +1,66 @@
+// What a log is read with.
+ghost use Rattle.std.specs.Prelude.{◌≡◌, IfOk, IfErr, map};
+ghost use Rattle.crs_top.specs.Prepared.{IsPrepared, IsRefusedText, FirstWindowed};
+
+use crate::limits::Limits;
+use crate::session::Session;
+use crs_base::Symbols;
+use crs_compile::compile;
+use crs_engine::Engine;
+use crs_model::{ModelRefused, ModelWord, Plan};
+use crs_parse::read_models;
+use std::alloc::Global;
+use std::rc::Rc;
+
+/// The closing line of the first chronicle that has a window, where there is one.
+fn first_windowed(plans: &[Rc<Plan>]) -> Option<u32>
+    ensures { FirstWindowed (map (λ r. r.value) plans.now) result }
+{
+    match plans.split_first() {
+        None => None,
+        Some((plan, rest)) => {
+            if plan.chronicle.windows.len() == 0 {
+                first_windowed(rest)
+            } else {
+                Some(plan.chronicle.line)
+            }
+        }
+    }
+}
+
+/// A session at the start of a log, with the models that the text means.
+pub fn prepare(alloc: Global, text: &[u8], limits: Limits) -> Result<Session, ModelRefused>
+    ensures ok { IfOk result (IsPrepared limits.symbols limits.entries text.now) }
+    ensures refused { IfErr result (IsRefusedText limits.symbols text.now) }
+{
+    let Ok(mut symbols) = Symbols::new(alloc, limits.symbols) else {
+        return Err(ModelRefused::Memory);
+    };
+    let models = match read_models(alloc, text, &mut symbols) {
+        Ok(models) => models,
+        Err(refused) => return Err(refused),
+    };
+    // no text stands twice in the table
+    let _ = symbols.len();
+    let plans = match compile(alloc, models) {
+        Ok(plans) => plans,
+        Err(refused) => return Err(refused),
+    };
+    if let Some(line) = first_windowed(plans.plans.as_slice()) {
+        return Err(ModelRefused::At {
+            line,
+            word: ModelWord::Form,
+        });
+    }
+    let Ok(engine) = Engine::new(alloc, plans, limits.entries) else {
+        return Err(ModelRefused::Memory);
+    };
+    Ok(Session {
+        engine,
+        symbols,
+        entries: limits.entries,
+        met: false,
+        ended: false,
+        refused: false,
+    })
+}

@@ -1,0 +1,246 @@
+// One line of a log.
+ghost use Rattle.std.specs.Prelude.{◌≡◌, ◌≤◌, ◌<◌, ◌^◌, ◌||◌, ◌&&◌, ◌++◌, ℕ, List, OnOk, true, false, length};
+ghost use Rattle.crs_log.specs.Given.{seen};
+ghost use Rattle.crs_log.specs.Items.{Clock, Finish as LogEnd, Happens, IsItem};
+ghost use Rattle.crs_log.specs.Known.{known_of};
+ghost use Rattle.crs_log.specs.Run.{after_ordered, after_named};
+ghost use Rattle.crs_log.specs.SeenItems.{event_seen, what_seen, IsInRange, IsRead};
+ghost use Rattle.crs_log.specs.SeenNames.{name_seen};
+ghost use Rattle.crs_log.specs.Known.{Named};
+ghost use Rattle.std.specs.Prelude.{map};
+ghost use Rattle.crs_log.specs.Run.{after_given, after_what};
+ghost use Rattle.crs_top.specs.Session.{IsReady, IsOpen, IsUnused, BringsAll, IsShort, number_of, ordered_what, is_blank_what, is_delay_what};
+ghost use Rattle.crs_top.specs.Texts.{setting_of};
+ghost use Rattle.crs_report.specs.Lines.{refusal_line};
+
+use crate::answer::push_answer;
+use crate::session::Session;
+use crs_engine::Refused;
+use crs_log::naming::known;
+use crs_log::{Item, Known, Line, LineRefused, Raw, make_entry, read_item};
+use crs_report::{Fault, push_refusal_line};
+use std::alloc::{AllocError, Global};
+
+/// Writes the refusal of a line.
+fn refuse(
+    session: &mut Session,
+    number: u64,
+    fault: Fault,
+    out: &mut Vec<u8>,
+) -> Result<(), AllocError>
+    ensures written { OnOk result (out.new.items ≡ out.old.items ++ refusal_line number fault) }
+    ensures noted { OnOk result (session.new ≡ record session.old { refused = true }) }
+{
+    push_refusal_line(out, number, fault)?;
+    session.refused = true;
+    Ok(())
+}
+
+/// Takes a clock mark.
+fn take_clock(
+    session: &mut Session,
+    number: u64,
+    t: u64,
+    out: &mut Vec<u8>,
+) -> Result<(), AllocError>
+    requires ready { IsReady session.old }
+    requires open { IsOpen session.old }
+    requires met { session.old.met ≡ true }
+    requires date { t < 2 ^ 40 }
+    ensures { OnOk result (BringsAll session.old session.new number (λ f s. after_ordered (setting_of f) s (Clock t)) out.old.items out.new.items) }
+{
+    match session.engine.clock(t) {
+        Ok(answer) => push_answer(
+            session.engine.plans(),
+            &session.symbols,
+            answer.as_slice(),
+            out,
+        ),
+        Err(Refused::Back { t, last }) => refuse(session, number, Fault::Back { t, last }, out),
+        Err(_) => Err(AllocError),
+    }
+}
+
+/// Takes the end of the log's items.
+fn take_end(session: &mut Session, number: u64, out: &mut Vec<u8>) -> Result<(), AllocError>
+    requires ready { IsReady session.old }
+    requires open { IsOpen session.old }
+    requires met { session.old.met ≡ true }
+    ensures { OnOk result (BringsAll session.old session.new number (λ f s. after_ordered (setting_of f) s LogEnd) out.old.items out.new.items) }
+{
+    match session.engine.finish() {
+        Ok(answer) => {
+            session.ended = true;
+            push_answer(
+                session.engine.plans(),
+                &session.symbols,
+                answer.as_slice(),
+                out,
+            )
+        }
+        Err(_) => Err(AllocError),
+    }
+}
+
+/// Accepts the event of a line, whose name is declared with these arguments and this value.
+fn accept_event(
+    alloc: Global,
+    session: &mut Session,
+    number: u64,
+    line: &[u8],
+    raw: &Raw,
+    out: &mut Vec<u8>,
+) -> Result<(), AllocError>
+    requires ready { IsReady session.old }
+    requires met { session.old.met ≡ true }
+    requires item { IsItem line.now (Happens (event_seen line.now raw.now)) }
+    requires date { raw.now.date < 2 ^ 40 }
+    requires due { session.old.engine.horizon ≤ raw.now.date }
+    requires named { (place : ℕ) × (known_of (map (name_seen session.old.symbols.texts) session.old.engine.plans.names) (event_seen line.now raw.now) ≡ Named place) }
+    ensures { OnOk result (BringsAll session.old session.new number (λ f s. after_named (setting_of f) s (event_seen line.now raw.now)) out.old.items out.new.items) }
+{
+    if session.engine.is_full() {
+        let limit = session.entries;
+        return refuse(session, number, Fault::Full { limit }, out);
+    }
+    let arrival = session.engine.accepted();
+    let entry = match make_entry(alloc, line, raw, arrival, &mut session.symbols) {
+        Ok(entry) => entry,
+        Err(LineRefused::Values { limit }) => {
+            return refuse(session, number, Fault::Values { limit }, out);
+        }
+        Err(_) => return Err(AllocError),
+    };
+    // no text stands twice in the table
+    let _ = session.symbols.len();
+    match session.engine.accept(entry) {
+        Ok(()) => Ok(()),
+        Err(_) => Err(AllocError),
+    }
+}
+
+/// Takes an event.
+fn take_event(
+    alloc: Global,
+    session: &mut Session,
+    number: u64,
+    line: &[u8],
+    raw: &Raw,
+    out: &mut Vec<u8>,
+) -> Result<(), AllocError>
+    requires ready { IsReady session.old }
+    requires met { session.old.met ≡ true }
+    requires item { IsItem line.now (Happens (event_seen line.now raw.now)) }
+    requires date { raw.now.date < 2 ^ 40 }
+    ensures { OnOk result (BringsAll session.old session.new number (λ f s. after_ordered (setting_of f) s (Happens (event_seen line.now raw.now))) out.old.items out.new.items) }
+{
+    match session.engine.test_date(raw.date) {
+        Ok(()) => {}
+        Err(Refused::Late { date, horizon }) => {
+            return refuse(session, number, Fault::Late { date, horizon }, out);
+        }
+        Err(_) => return Err(AllocError),
+    }
+    match known(line, raw, &session.engine.plans().names, &session.symbols) {
+        Ok(Known::Name(_)) => accept_event(alloc, session, number, line, raw, out),
+        Ok(Known::Other) => Ok(()),
+        Err(LineRefused::Arity) => refuse(session, number, Fault::Arity, out),
+        Err(_) => refuse(session, number, Fault::Value, out),
+    }
+}
+
+/// Whether the line is blank or a comment.
+fn is_blank(item: &Item) -> bool
+    ensures { (line : List ℕ) → result ≡ is_blank_what (what_seen line item.now) }
+{
+    matches!(item, Item::Blank)
+}
+
+/// Whether the item is a delay.
+fn is_delay(item: &Item) -> bool
+    ensures { (line : List ℕ) → result ≡ is_delay_what (what_seen line item.now) }
+{
+    matches!(item, Item::Delay(_))
+}
+
+/// Whether the item is a delay that isn't the first item, or stands behind the end.
+fn is_out_of_order(session: &Session, item: &Item) -> bool
+    ensures { (line : List ℕ) → result ≡ (session.now.ended || (is_delay_what (what_seen line item.now) && session.now.met)) }
+{
+    session.ended || (is_delay(item) && session.met)
+}
+
+/// Takes an item that stands in order.
+fn take_ordered(
+    alloc: Global,
+    session: &mut Session,
+    number: u64,
+    line: &[u8],
+    item: Item,
+    out: &mut Vec<u8>,
+) -> Result<(), AllocError>
+    requires ready { IsReady session.old }
+    requires open { IsOpen session.old }
+    requires met { session.old.met ≡ true }
+    requires range { IsInRange item }
+    requires read { IsRead line.now item }
+    requires fresh { is_delay_what (what_seen line.now item) ≡ true → IsUnused session.old.engine }
+    ensures { OnOk result (BringsAll session.old session.new number (λ f s. ordered_what (setting_of f) s (what_seen line.now item)) out.old.items out.new.items) }
+{
+    match item {
+        Item::Blank => Ok(()),
+        Item::Delay(delay) => {
+            session.engine.set_delay(delay);
+            Ok(())
+        }
+        Item::Clock(t) => take_clock(session, number, t, out),
+        Item::Finish => take_end(session, number, out),
+        Item::Event(raw) => take_event(alloc, session, number, line, &raw, out),
+    }
+}
+
+/// Takes what a line is.
+fn take_item(
+    alloc: Global,
+    session: &mut Session,
+    number: u64,
+    line: &[u8],
+    item: Item,
+    out: &mut Vec<u8>,
+) -> Result<(), AllocError>
+    requires ready { IsReady session.old }
+    requires range { IsInRange item }
+    requires read { IsRead line.now item }
+    ensures { OnOk result (BringsAll session.old session.new number (λ f s. after_what (setting_of f) s (what_seen line.now item)) out.old.items out.new.items) }
+{
+    if is_blank(&item) {
+        return Ok(());
+    }
+    let refused = is_out_of_order(session, &item);
+    session.met = true;
+    if refused {
+        return refuse(session, number, Fault::Order, out);
+    }
+    take_ordered(alloc, session, number, line, item, out)
+}
+
+/// Takes a line, and adds what it brings to the text.
+pub fn take_line(
+    alloc: Global,
+    session: &mut Session,
+    line: Line<'_>,
+    out: &mut Vec<u8>,
+) -> Result<(), AllocError>
+    requires ready { IsReady session.old }
+    requires short { IsShort (seen line) }
+    ensures { OnOk result (BringsAll session.old session.new (number_of (seen line.entry)) (λ f s. after_given (setting_of f) s (seen line.entry)) out.old.items out.new.items) }
+{
+    match line {
+        Line::Long { number } => refuse(session, number, Fault::Long, out),
+        Line::Plain { number, bytes } => match read_item(alloc, bytes) {
+            Ok(item) => take_item(alloc, session, number, bytes, item, out),
+            Err(LineRefused::Form) => refuse(session, number, Fault::Form, out),
+            Err(_) => Err(AllocError),
+        },
+    }
+}

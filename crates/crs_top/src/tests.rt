@@ -1,0 +1,127 @@
+ghost use Rattle.std.specs.Prelude.{◌≡◌, ◌≤◌, IfOk};
+ghost use Rattle.crs_desk.specs.Memory.{memory_inputs};
+
+use crate::{Limits, STANDARD, Status, run_with};
+use crs_desk::MemoryDesk;
+use std::alloc::{AllocError, Global};
+use std::test::Fail;
+
+const MODELS: &str = "message a 0\nmessage b 0\nchronicle c {\n  event(a, t1)\n  event(b, t2)\n  t2 - t1 in [1, 5]\n}\n";
+
+fn words_of(alloc: Global) -> Result<Vec<String>, AllocError> {
+    let mut words = Vec::new(alloc);
+    for word in ["run", "m", "l"] {
+        words.push(String::from_str(alloc, word)?)?;
+    }
+    Ok(words)
+}
+
+fn desk_of(alloc: Global, models: &str, log: &str) -> Result<MemoryDesk, AllocError>
+    ensures { IfOk result (λ d. memory_inputs d ≡ 0) }
+{
+    let mut desk = MemoryDesk::new(alloc);
+    desk.add_file("m", models.as_bytes())?;
+    desk.add_file("l", log.as_bytes())?;
+    Ok(desk)
+}
+
+#[test]
+fn worked_logs(rt: HostRuntime) -> Result<(), Fail> {
+    let alloc = rt.alloc();
+    let words = words_of(alloc)?;
+    for (models, log, status, output) in [
+        (MODELS, "", Status::Done, ""),
+        (MODELS, "10 a\n12 b\nclock 13\n", Status::Done, "c at 13 t1=10 t2=12\n"),
+        (MODELS, "10 a\n12 b\nclock 13", Status::Done, "c at 13 t1=10 t2=12\n"),
+        (MODELS, "delay 2\n12 b\n10 a\nclock 14\nclock 15\n", Status::Done, "c at 15 t1=10 t2=12\n"),
+        (
+            MODELS,
+            "delay 2\n10 a\n12 b\nclock 14\nclock 15\n12 b\n13 b\nclock 16\n",
+            Status::Refusals,
+            "c at 15 t1=10 t2=12\nline 6 late 12 13\nc at 16 t1=10 t2=13\n",
+        ),
+        (MODELS, "clock 20\nclock 19\nclock 20\n", Status::Refusals, "line 2 back 19 20\n"),
+        (MODELS, "1 a\ndelay 2\nend\n2 a\n", Status::Refusals, "line 2 order\nline 4 order\n"),
+        (MODELS, "1 a\n3 b\nend\n", Status::Done, "c at end t1=1 t2=3\n"),
+        (
+            "message a 0\nchronicle twin {\n  event(a, t1)\n  event(a, t2)\n  t2 - t1 in [0, 5]\n}\n",
+            "5 a\n5 a\nclock 6\n",
+            Status::Done,
+            "twin at 6 t1=5 t2=5\ntwin at 6 t1=5 t2=5\n",
+        ),
+        (
+            "message a 0\nchronicle c {\nevent(a, t1)\nevent(a, t2)\nevent(a, t3)\nt2 - t1 in [5, 10]\nt3 - t2 in [5, 10]\nt3 - t1 in [0, 8]\n}\n",
+            "1 a\n",
+            Status::Rejected,
+            "model line 9 inconsistent\n",
+        ),
+        (
+            "message a 0\nmessage b 0\nchronicle q {\nevent(a, t1)\nnoevent(b, (t1 + 1, t1 + 10))\n}\n",
+            "1 a\n",
+            Status::Rejected,
+            "model line 6 form\n",
+        ),
+        ("message a 0\nmessage a 1\n", "", Status::Rejected, "model line 2 twice\n"),
+    ] {
+        for piece in [1, 4096] {
+            let mut desk = desk_of(alloc, models, log)?;
+            desk.set_piece(piece);
+            assert_eq!(rt; run_with(alloc, words.as_slice(), STANDARD, &mut desk), status);
+            assert!(rt; desk.written() == output.as_bytes(), "in pieces of {piece}");
+        }
+    }
+    Ok(())
+}
+
+#[test]
+fn small_limits(rt: HostRuntime) -> Result<(), Fail> {
+    let alloc = rt.alloc();
+    let words = words_of(alloc)?;
+    let lone = "message a 1\nchronicle c {\nevent(a[?x], t1)\n}\n";
+    for (models, log, symbols, entries, bytes, status, output) in [
+        (MODELS, "1 a\n3 b\nclock 4\n", 9, 1, 99, Status::Refusals, "line 2 full 1\n"),
+        (lone, "1 a[p]\n1 a[c]\nclock 2\n", 4, 9, 99, Status::Refusals, "line 1 values 4\nc at 2 t1=1 ?x=c\n"),
+        (MODELS, "1 a\n3 b\nclock 4\n", 9, 9, 17, Status::Done, "c at 4 t1=1 t2=3\n"),
+        (MODELS, "1 a\n3 b\nclock 4\n", 9, 9, 16, Status::TooLong, "c at 4 t1=1 t2=3\n"),
+        (MODELS, "1 a\n3 b\nclock 4\n", 9, 9, 12, Status::TooLong, ""),
+        (MODELS, "1 a\n", 4, 9, 99, Status::Rejected, "model line 5 limit\n"),
+    ] {
+        let limits = Limits {
+            symbols,
+            entries,
+            bytes,
+        };
+        let mut desk = desk_of(alloc, models, log)?;
+        assert_eq!(rt; run_with(alloc, words.as_slice(), limits, &mut desk), status);
+        assert!(rt; desk.written() == output.as_bytes());
+    }
+    Ok(())
+}
+
+#[test]
+fn failing_calls(rt: HostRuntime) -> Result<(), Fail> {
+    let alloc = rt.alloc();
+    let words = words_of(alloc)?;
+    let log = "1 a\n3 b\nclock 4\n5 a\n6 b\nclock 7\n8 a\n";
+    let output = "c at 4 t1=1 t2=3\nc at 7 t1=1 t2=6\nc at 7 t1=5 t2=6\n";
+    for (open, read, write, status, lines) in [
+        (1, 9, 9, Status::ReadFault, ""),
+        (2, 9, 9, Status::ReadFault, ""),
+        (9, 3, 9, Status::ReadFault, output),
+        (9, 9, 1, Status::WriteFault, ""),
+        (9, 9, 9, Status::Done, output),
+    ] {
+        let mut desk = desk_of(alloc, MODELS, log)?;
+        desk.set_piece(16);
+        desk.fail_open(open)?;
+        desk.fail_read("l", read)?;
+        desk.fail_write(write)?;
+        assert_eq!(rt; run_with(alloc, words.as_slice(), STANDARD, &mut desk), status);
+        assert!(rt; desk.written() == lines.as_bytes());
+    }
+    let mut desk = MemoryDesk::new(alloc);
+    assert_eq!(rt; run_with(alloc, words.as_slice(), STANDARD, &mut desk), Status::ReadFault);
+    assert_eq!(rt; run_with(alloc, &words[..2], STANDARD, &mut desk), Status::Words);
+    assert!(rt; desk.written().is_empty());
+    Ok(())
+}
