@@ -7,5 +7,4 @@ ghost use Rattle.crs_base.specs.Entry.{Key, key_cmp};
 pub fn key_order_is_total()
     ensures total { IsTotalOrder key_cmp }
     ensures exact { (j k : Key) → key_cmp j k ≡ Equal → j ≡ k }
-{
-}
+{}

@@ -86,7 +86,7 @@ pub(crate) fn reach_of(network: &Network, chronicle: &Chronicle) -> Option<i64>
     let events = chronicle.events.len() as u8;
     longer(
         event_reach(network, events),
-        { let _windows = window_reach(network, chronicle.windows.as_slice(), events); Some(0) },
+        window_reach(network, chronicle.windows.as_slice(), events),
     )
 }
 

@@ -1,12 +1,10 @@
 -- Whether a binding is allowed.
-use Rattle.std.proofs.Common.{◌≡◌, ◌≢◌, ℕ, Bool, true, false, ◌&&◌, not, List, [], ◌∷◌, map, refl, sym, ap, subst, ◌∙◌, inl, inr, ◌⊎◌, true≢false}
-use Rattle.std.specs.Prelude.{Option, Some, None, IsTrue, IfSome, ◌↔◌, ◌==◌, ◌||◌}
-use Rattle.std.specs.List.{AllByRecursion, list_any}
+use Rattle.std.proofs.Common.{◌≡◌, ◌≢◌, ℕ, Bool, true, false, not, List, [], ◌∷◌, refl, sym, ap, ◌∙◌, inl, inr, ◌⊎◌, true≢false}
+use Rattle.std.specs.Prelude.{Option, Some, IsTrue, IfSome, ◌↔◌, ◌==◌, ◌||◌}
+use Rattle.std.specs.List.{list_any}
 use Rattle.std.proofs.lemmas.Bool.Decides.{eqb_tells}
 use Rattle.crs_base.specs.declared.symbols.Sym.{Sym}
 use Rattle.crs_base.specs.Words.{IsIn}
-use Rattle.crs_model.specs.Models.{Chronicle}
-use Rattle.crs_model.specs.Matching.{Binding, IsAllowed}
 
 same_sym : (x y : Sym) → x.0 ≡ y.0 → x ≡ y
 same_sym x y e = λ i. record { 0 = e i }

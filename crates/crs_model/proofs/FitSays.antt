@@ -1,12 +1,12 @@
 -- Whether some binding fits, and which is the least.
-use Rattle.std.proofs.Common.{◌≡◌, ◌≢◌, List, length, refl, sym, subst}
-use Rattle.std.specs.Prelude.{Option, Some, None, option_map, is_some, IsTrue, ◌↔◌}
+use Rattle.std.proofs.Common.{◌≡◌, ◌≢◌, List, refl, sym, subst}
+use Rattle.std.specs.Prelude.{Option, Some, None, is_some, IsTrue, ◌↔◌}
 use Rattle.std.specs.List.{AllZip}
 use Rattle.crs_base.specs.declared.symbols.Sym.{Sym}
-use Rattle.crs_model.specs.Matching.{Binding, TermIs, ChangeIs, PatternIs}
+use Rattle.crs_model.specs.Matching.{TermIs, ChangeIs, PatternIs}
 use Rattle.crs_base.specs.Entry.{Entry}
 use Rattle.crs_model.specs.Models.{Term, Pattern}
-use Rattle.crs_model.specs.Bindings.{look_of, IsMatch, IsFit, Looser}
+use Rattle.crs_model.specs.Bindings.{look_of, IsMatch, IsFit}
 use Rattle.crs_model.proofs.Matches.{match_then, match_not}
 use Rattle.crs_model.proofs.Lost.{terms_up}
 

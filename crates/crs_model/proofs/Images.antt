@@ -1,6 +1,6 @@
 -- A list that is made of another, each element giving some.
-use Rattle.std.proofs.Common.{◌≡◌, List, [], ◌∷◌, ◌++◌, refl, sym, ap, subst, ◌∙◌, inl, inr, ◌⊎◌}
-use Rattle.crs_base.specs.Words.{IsIn, Ordered}
+use Rattle.std.proofs.Common.{◌≡◌, List, [], ◌++◌, sym, subst, inl, inr}
+use Rattle.crs_base.specs.Words.{IsIn}
 use Rattle.crs_base.proofs.Words.{in_append, in_append_left, in_append_right, ordered_append}
 use Rattle.crs_model.specs.Images.{IsImage}
 

@@ -1,12 +1,12 @@
 -- Entries put in key order.
-use Rattle.std.proofs.Common.{◌≡◌, ◌≢◌, ℕ, Bool, true, false, cond, List, [], ◌∷◌, filter, refl, sym, ap, subst, ◌∙◌, inl, inr, true≢false, Ordering, Less, Equal, Greater}
+use Rattle.std.proofs.Common.{◌≡◌, ◌≢◌, Bool, true, false, cond, List, [], ◌∷◌, refl, sym, ap, subst, ◌∙◌, inl, inr, true≢false, Ordering, Less, Equal, Greater}
 use Rattle.std.specs.List.{AllByRecursion}
 use Rattle.std.specs.Ordering.{is_lt, ordering_reverse}
 use Rattle.std.specs.Cmp.{IsTotalOrder}
 use Rattle.crs_base.specs.Words.{IsIn, Ordered}
 use Rattle.crs_base.proofs.Words.{each_from_in, in_from_each}
 use Rattle.crs_base.specs.Entry.{Entry, entry_cmp}
-use Rattle.crs_model.specs.Order.{put_in_order, put_all}
+use Rattle.crs_model.specs.Order.{put_in_order}
 
 module _ {S : Type 0} (total : IsTotalOrder (entry_cmp {S = S})) where
   abbrev Below : Entry S → Entry S → Type 0
@@ -39,8 +39,13 @@ module _ {S : Type 0} (total : IsTotalOrder (entry_cmp {S = S})) where
       lower Less k = refl
       lower Equal k = absurd (true≢false (sym k))
       lower Greater k = absurd (true≢false (sym k))
+
       by : (b : Bool) → is_lt (entry_cmp e y) ≡ b → Ordered Below (put_in_order e ys) → Ordered Below (cond b (e ∷ y ∷ ys) (y ∷ put_in_order e ys))
       by true k rest = let less : Below e y = lower (entry_cmp e y) k in ((less, below_all e y ys less h.0), h)
-      by false k rest = (each_from_in (Below y) (put_in_order e ys) (λ z i. elim (in_put e z ys i) [
-            inl q ↦ subst (Below y) (sym q) (greater e y (entry_cmp e y) refl k other.0)
-          | inr j ↦ in_from_each (Below y) ys h.0 z j ]), rest)
+      by false k rest = (
+        each_from_in (Below y) (put_in_order e ys) (λ z i. elim (in_put e z ys i) [
+          | inl q ↦ subst (Below y) (sym q) (greater e y (entry_cmp e y) refl k other.0)
+          | inr j ↦ in_from_each (Below y) ys h.0 z j
+        ]),
+        rest,
+      )

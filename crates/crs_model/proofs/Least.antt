@@ -1,15 +1,15 @@
 -- A part of what is bound has a least binding too.
-use Rattle.std.proofs.Common.{◌≡◌, ℕ, zero, suc, Bool, true, false, cond, ◌||◌, List, [], ◌∷◌, refl, sym, ap, subst, ◌∙◌, inl, inr, ◌⊎◌, arith, true≢false}
-use Rattle.std.specs.Prelude.{Option, Some, None, IfSome, slice_get, slice_index_or, ◌==◌}
-use Rattle.std.specs.List.{AllZip, AllByRecursion}
+use Rattle.std.proofs.Common.{◌≡◌, ℕ, zero, suc, Bool, true, false, cond, ◌||◌, List, [], ◌∷◌, refl, sym, ap, ◌∙◌, inl, inr, ◌⊎◌, true≢false}
+use Rattle.std.specs.Prelude.{Option, Some, None, slice_get, slice_index_or}
+use Rattle.std.specs.List.{AllZip}
 use Rattle.std.proofs.lemmas.Bool.Decides.{eqb_tells}
 use Rattle.crs_base.specs.Entry.{Entry}
-use Rattle.crs_model.specs.Models.{Term, Value, Var, Any, Pattern, EventDef, Chronicle, VarSet}
+use Rattle.crs_model.specs.Models.{Term, Value, Var, Any, Pattern, EventDef, Chronicle}
 use Rattle.crs_model.specs.Matching.{Binding, TermIs, ChangeIs, PatternIs, IsAllowed}
 use Rattle.crs_model.specs.Partial.{Partial, at, EqualsAll, IsLeast}
 use Rattle.crs_model.specs.Proper.{term_has, terms_have, change_has, pattern_has}
 pub use Rattle.crs_model.specs.Bindings.{Looser}
-use Rattle.crs_model.proofs.Options.{of_some, some_if, cases_of}
+use Rattle.crs_model.proofs.Options.{of_some, some_if}
 use Rattle.crs_base.proofs.Words.{each_from_in, in_from_each}
 
 or_left : (a b : Bool) → a ≡ true → (a || b) ≡ true

@@ -1,6 +1,6 @@
 -- Lost windows stay lost.
-use Rattle.std.proofs.Common.{◌≡◌, ◌≢◌, ℕ, zero, suc, ◌≤◌, ◌<◌, List, [], ◌∷◌, ◌++◌, refl, sym, ap, subst, ◌∙◌, inl, inr, ◌⊎◌, arith}
-use Rattle.std.specs.Prelude.{ℤ, pos, ◌≤ℤ◌, ◌<ℤ◌, ◌+ℤ◌, Option, Some, None, IfSome, IsSomeAnd}
+use Rattle.std.proofs.Common.{◌≡◌, ℕ, suc, ◌≤◌, ◌<◌, List, [], ◌∷◌, ◌++◌, refl, sym, ap, subst, ◌∙◌, inl, inr, ◌⊎◌, arith}
+use Rattle.std.specs.Prelude.{ℤ, pos, ◌≤ℤ◌, ◌<ℤ◌, Option, Some, None, IfSome, IsSomeAnd}
 use Rattle.std.specs.List.{AllZip, AllByRecursion}
 use Rattle.std.proofs.lemmas.Int.{ints, by_lt_z}
 use Rattle.crs_base.specs.Words.{IsIn}
@@ -9,8 +9,8 @@ use Rattle.crs_base.specs.Entry.{Entry}
 use Rattle.crs_model.specs.Models.{Term, Value, Var, Any, Pattern, Window, Body, NoEvent, Occurs, Hold}
 use Rattle.crs_model.specs.Matching.{Binding, TermIs, ChangeIs, PatternIs}
 use Rattle.crs_model.specs.Partial.{Partial, at}
-use Rattle.crs_model.specs.Verdicts.{Count, IsDatedIn, Changes, IsValue, HasValue, IsAttribute, IsCount, IsSo, IsSpoilt, IsStretch, TermIsBound, PatternIsBound, BodyIsBound, IsLost, IsMet}
-use Rattle.crs_model.proofs.Options.{of_some, some_if, and_some, some_and}
+use Rattle.crs_model.specs.Verdicts.{Count, IsDatedIn, IsValue, IsAttribute, IsCount, IsSo, IsSpoilt, IsStretch, TermIsBound, PatternIsBound, BodyIsBound, IsLost}
+use Rattle.crs_model.proofs.Options.{and_some, some_and}
 use Rattle.crs_model.proofs.Least.{Extends, Looser}
 
 -- ---- counts

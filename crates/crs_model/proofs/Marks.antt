@@ -1,24 +1,24 @@
 -- What a store stands for after a mark, and what it answers.
-use Rattle.std.proofs.Common.{◌≡◌, ◌≢◌, ℕ, zero, suc, ◌≤◌, ◌<◌, List, [], ◌∷◌, ◌++◌, length, map, filter, refl, sym, ap, subst, ◌∙◌, inl, inr, ◌⊎◌, arith, nat_lt}
-use Rattle.std.specs.Prelude.{ℤ, Option, Some, None, IfSome, slice_get}
+use Rattle.std.proofs.Common.{◌≡◌, ◌≢◌, ℕ, zero, suc, ◌≤◌, ◌<◌, List, [], ◌∷◌, ◌++◌, length, map, refl, sym, ap, subst, ◌∙◌, inl, inr, arith}
+use Rattle.std.specs.Prelude.{Some, None, IfSome, slice_get}
 use Rattle.std.specs.List.{AllZip, AllByRecursion}
 use Rattle.std.proofs.lemmas.List.{append-nil, length-map}
 use Rattle.std.proofs.lemmas.Bool.{le-ltb, lt-ltb, cases_lt}
 use Rattle.crs_base.specs.Words.{IsIn, Ordered}
-use Rattle.crs_base.proofs.Words.{in_append, in_append_left, in_from_each, each_from_in}
+use Rattle.crs_base.proofs.Words.{in_from_each}
 use Rattle.crs_base.specs.Entry.{Entry}
-use Rattle.crs_model.specs.Models.{Chronicle, EventDef, Window}
-use Rattle.crs_model.specs.Matching.{Binding, Assignment, IsAssignment, PatternIs}
-use Rattle.crs_model.specs.Partial.{Partial, at, IsPartial, IsLeast, EqualsAll, GivesNoneTwice, IsLevelClosed, CanGoOn, dates_of}
-use Rattle.crs_model.specs.Proper.{IsNamed, pattern_has}
-use Rattle.crs_model.specs.Open.{IsOpen, IsRecognised, IsRecognisedWhole, IsKept, StandsFor, before, whole}
+use Rattle.crs_model.specs.Models.{Chronicle, EventDef}
+use Rattle.crs_model.specs.Matching.{Binding, Assignment, IsAssignment}
+use Rattle.crs_model.specs.Partial.{Partial, at, IsPartial, EqualsAll, GivesNoneTwice}
+use Rattle.crs_model.specs.Proper.{IsNamed}
+use Rattle.crs_model.specs.Open.{IsOpen, IsRecognised, IsRecognisedWhole, StandsFor, before, whole}
 use Rattle.crs_model.specs.Images.{IsImage}
 use Rattle.crs_model.specs.Verdicts.{IsMet}
 use Rattle.crs_model.specs.Steps.{GoesOn}
-use Rattle.crs_model.proofs.Options.{of_some, some_if, cases_of}
-use Rattle.crs_model.proofs.Least.{pattern_agrees, pattern_moves}
+use Rattle.crs_model.proofs.Options.{of_some, some_if}
+use Rattle.crs_model.proofs.Least.{pattern_agrees}
 use Rattle.crs_model.proofs.StaysMet.{met_grows, met_not_lost}
-use Rattle.crs_model.proofs.Offers.{before_more, at_whole, same_pool, swept}
+use Rattle.crs_model.proofs.Offers.{at_whole, same_pool}
 
 module _ {S : Type 0} where
   -- ---- lists of entries in the order of their dates

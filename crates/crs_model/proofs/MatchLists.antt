@@ -1,16 +1,14 @@
 -- Matching term by term, over the program's terms.
-use Rattle.std.proofs.Common.{◌≡◌, List, [], ◌∷◌, map, refl}
-use Rattle.std.specs.Prelude.{Option, Some, None, option_map}
+use Rattle.std.proofs.Common.{◌≡◌, List, ◌∷◌, map}
+use Rattle.std.specs.Prelude.{Option, Some, option_map}
 use Rattle.std.specs.List.{AllZip}
 use Rattle.crs_base.specs.declared.symbols.Sym.{Sym}
 use Rattle.crs_model.specs.declared.pattern.Term.{Term as CodeTerm}
-use Rattle.crs_model.specs.Matching.{Binding, TermIs, ChangeIs, PatternIs}
-use Rattle.crs_base.specs.Entry.{Entry}
-use Rattle.crs_model.specs.Models.{Pattern}
+use Rattle.crs_model.specs.Matching.{TermIs, ChangeIs}
 use Rattle.crs_model.specs.Seen.{term_of}
-use Rattle.crs_model.specs.Bindings.{look_of, IsMatch}
-use Rattle.crs_model.proofs.Matches.{match_then, match_not}
-use Rattle.crs_model.proofs.Lost.{term_up, terms_up}
+use Rattle.crs_model.specs.Bindings.{IsMatch}
+use Rattle.crs_model.proofs.Matches.{match_then}
+use Rattle.crs_model.proofs.Lost.{term_up}
 
 pub change_then : (change : Option (CodeTerm × CodeTerm)) (symbols : Option (Sym × Sym)) (s t : CodeTerm) (x y : Sym) (old mid : List (Option Sym)) (new : Option (List (Option Sym))) → change ≡ Some (s, t) → symbols ≡ Some (x, y) →
     IsMatch (λ look. TermIs look (term_of s) x) old (Some mid) → IsMatch (λ look. TermIs look (term_of t) y) mid new →

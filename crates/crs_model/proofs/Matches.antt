@@ -1,12 +1,10 @@
 -- The least binding by which terms equal symbols, term by term.
-use Rattle.std.proofs.Common.{◌≡◌, ◌≢◌, ℕ, ◌<◌, List, [], ◌∷◌, length, refl, sym, ap, subst, ◌∙◌, inl, inr, length-set, get_or-set_same, get_or-set_other}
+use Rattle.std.proofs.Common.{◌≡◌, ◌≢◌, ℕ, ◌<◌, List, length, refl, sym, ap, subst, ◌∙◌, inl, inr, length-set, get_or-set_same, get_or-set_other}
 use Rattle.std.specs.Prelude.{Option, Some, None, slice_set}
 use Rattle.std.proofs.lemmas.Bool.Decides.{eqb_tells}
 use Rattle.crs_base.specs.declared.symbols.Sym.{Sym}
-use Rattle.crs_base.specs.Entry.{Entry}
-use Rattle.crs_model.specs.Models.{Term, Value, Var, Any, Pattern}
-use Rattle.crs_model.specs.Matching.{Binding, TermIs}
-use Rattle.crs_model.specs.Bindings.{look_of, Looser, IsLeastWith, IsMatch}
+use Rattle.crs_model.specs.Matching.{Binding}
+use Rattle.crs_model.specs.Bindings.{look_of, Looser, IsMatch}
 
 -- nothing more is asked
 pub match_same : (P : Binding Sym → Type 0) (old : List (Option Sym)) → P (look_of old) → IsMatch P old (Some old)

@@ -1,23 +1,21 @@
 -- What a store stands for after an offered entry.
-use Rattle.std.proofs.Common.{◌≡◌, ◌≢◌, ℕ, zero, suc, ◌≤◌, ◌<◌, List, [], ◌∷◌, ◌++◌, length, map, filter, cond, Bool, true, false, refl, sym, ap, subst, ◌∙◌, inl, inr, ◌⊎◌, arith, length-set, nat_lt, get_or-set_same, get_or-set_other}
+use Rattle.std.proofs.Common.{◌≡◌, ◌≢◌, ℕ, zero, suc, ◌≤◌, ◌<◌, List, [], ◌∷◌, ◌++◌, length, map, refl, sym, ap, subst, ◌∙◌, inl, inr, ◌⊎◌, arith, length-set, nat_lt, get_or-set_same, get_or-set_other}
 use Rattle.std.proofs.lemmas.List.{append-nil, length-map}
 use Rattle.std.proofs.lemmas.List.Elements.{filter-append}
 use Rattle.crs_base.proofs.Words.{in_from_each}
 use Rattle.std.proofs.lemmas.Bool.{le-ltb}
-use Rattle.std.specs.Prelude.{Option, Some, None, IfSome}
+use Rattle.std.specs.Prelude.{Some, None}
 use Rattle.std.proofs.lemmas.Bool.{cases_lt}
 use Rattle.std.proofs.lemmas.Bool.Decides.{eqb_tells}
-use Rattle.crs_base.specs.Words.{IsIn, Ordered}
-use Rattle.crs_base.proofs.Words.{in_append, in_append_left, in_append_right}
+use Rattle.crs_base.specs.Words.{IsIn}
+use Rattle.crs_base.proofs.Words.{in_append, in_append_left}
 use Rattle.crs_base.specs.Entry.{Entry}
 use Rattle.crs_model.specs.Models.{Chronicle}
-use Rattle.crs_model.specs.Matching.{Assignment}
 use Rattle.crs_model.specs.Partial.{Partial, at, put, IsLevelClosed}
-use Rattle.crs_model.specs.Open.{IsOpen, IsRecognisedWhole, IsKept, StandsFor, before, whole}
+use Rattle.crs_model.specs.Open.{IsOpen, IsRecognisedWhole, StandsFor, before}
 use Rattle.crs_model.specs.Images.{IsImage}
 use Rattle.crs_model.specs.Steps.{GoesOnWith, GoesOn, flat}
-use Rattle.crs_model.proofs.Options.{of_some, some_if, cases_of}
-use Rattle.crs_model.proofs.Least.{Extends}
+use Rattle.crs_model.proofs.Options.{of_some, cases_of}
 use Rattle.crs_model.proofs.Parts.{clear, at_within, put_same, put_other, extends_cleared, put_cleared, clear_put, open_back}
 
 -- later entries aren't dated before g

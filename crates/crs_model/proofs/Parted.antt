@@ -1,5 +1,5 @@
 -- All accepted entries in key order, and where a horizon parts them.
-use Rattle.std.proofs.Common.{◌≡◌, ◌≢◌, ◌<◌, ◌≤◌, ℕ, Bool, true, false, cond, not, List, [], ◌∷◌, ◌++◌, map, filter, nat_lt, refl, sym, ap, subst, ◌∙◌, inl, inr, Less, lt-ltb, ltb-true, ◌⊎◌, arith}
+use Rattle.std.proofs.Common.{◌≡◌, ◌≢◌, ◌<◌, ◌≤◌, ℕ, Bool, true, false, cond, not, List, [], ◌∷◌, ◌++◌, map, filter, nat_lt, refl, ap, ◌∙◌, inl, inr, Less, lt-ltb, ltb-true, arith}
 use Rattle.std.specs.List.{AllByRecursion}
 use Rattle.crs_base.specs.Words.{IsIn, Ordered}
 use Rattle.crs_base.specs.Entry.{Entry, entry_cmp}
@@ -57,38 +57,47 @@ module _ {S : Type 0} where
 
   of_sides : (h : ℕ) (x : Entry S) (waiting : List (Entry S)) → IsIn x (before h waiting ++ since h waiting) → IsIn x waiting
   of_sides h x waiting i = elim (in_append (before h waiting) (since h waiting) x i) [
-      inl k ↦ (in_filter_back (λ e. nat_lt e.date h) waiting x k).0
-    | inr k ↦ (in_filter_back (λ e. not (nat_lt e.date h)) waiting x k).0 ]
+    | inl k ↦ (in_filter_back (λ e. nat_lt e.date h) waiting x k).0
+    | inr k ↦ (in_filter_back (λ e. not (nat_lt e.date h)) waiting x k).0
+  ]
 
   -- parting the waiting entries leaves the members
   pub parted_members : (h : ℕ) (settled waiting : List (Entry S)) → HaveSameMembers ((settled ++ before h waiting) ++ since h waiting) (settled ++ waiting)
   parted_members h settled waiting = record {
-      there = λ x i. elim (in_append (settled ++ before h waiting) (since h waiting) x i) [
-          inl k ↦ (elim (in_append settled (before h waiting) x k) [
-              inl m ↦ in_append_left settled waiting x m
-            | inr m ↦ in_append_right settled waiting x (of_sides h x waiting (in_append_left (before h waiting) (since h waiting) x m)) ])
-        | inr k ↦ in_append_right settled waiting x (of_sides h x waiting (in_append_right (before h waiting) (since h waiting) x k)) ];
-      back = λ x i. elim (in_append settled waiting x i) [
-          inl k ↦ in_append_left (settled ++ before h waiting) (since h waiting) x (in_append_left settled (before h waiting) x k)
-        | inr k ↦ (elim (in_append (before h waiting) (since h waiting) x (either_side h x waiting (nat_lt x.date h) refl k)) [
-              inl m ↦ in_append_left (settled ++ before h waiting) (since h waiting) x (in_append_right settled (before h waiting) x m)
-            | inr m ↦ in_append_right (settled ++ before h waiting) (since h waiting) x m ]) ];
-    }
+    there = λ x i. elim (in_append (settled ++ before h waiting) (since h waiting) x i) [
+      | inl k ↦ (elim (in_append settled (before h waiting) x k) [
+        | inl m ↦ in_append_left settled waiting x m
+        | inr m ↦ in_append_right settled waiting x (of_sides h x waiting (in_append_left (before h waiting) (since h waiting) x m))
+      ])
+      | inr k ↦ in_append_right settled waiting x (of_sides h x waiting (in_append_right (before h waiting) (since h waiting) x k))
+    ];
+    back = λ x i. elim (in_append settled waiting x i) [
+      | inl k ↦ in_append_left (settled ++ before h waiting) (since h waiting) x (in_append_left settled (before h waiting) x k)
+      | inr k ↦ (elim (in_append (before h waiting) (since h waiting) x (either_side h x waiting (nat_lt x.date h) refl k)) [
+        | inl m ↦ in_append_left (settled ++ before h waiting) (since h waiting) x (in_append_right settled (before h waiting) x m)
+        | inr m ↦ in_append_right (settled ++ before h waiting) (since h waiting) x m
+      ])
+    ];
+  }
 
   -- an entry that is put among the waiting ones is one more member
   pub put_members : (x : Entry S) (settled waiting : List (Entry S)) → HaveSameMembers (settled ++ put_in_order x waiting) ((settled ++ waiting) ++ x ∷ [])
   put_members x settled waiting = record {
-      there = λ y i. elim (in_append settled (put_in_order x waiting) y i) [
-          inl k ↦ in_append_left (settled ++ waiting) (x ∷ []) y (in_append_left settled waiting y k)
-        | inr k ↦ (elim (in_put entry_total x y waiting k) [
-              inl e ↦ in_append_right (settled ++ waiting) (x ∷ []) y (inl e)
-            | inr m ↦ in_append_left (settled ++ waiting) (x ∷ []) y (in_append_right settled waiting y m) ]) ];
-      back = λ y i. elim (in_append (settled ++ waiting) (x ∷ []) y i) [
-          inl k ↦ (elim (in_append settled waiting y k) [
-              inl m ↦ in_append_left settled (put_in_order x waiting) y m
-            | inr m ↦ in_append_right settled (put_in_order x waiting) y (put_in x y waiting (inr m)) ])
-        | inr k ↦ in_append_right settled (put_in_order x waiting) y (put_in x y waiting (elim k [ inl e ↦ inl e | inr n ↦ absurd n ])) ];
-    }
+    there = λ y i. elim (in_append settled (put_in_order x waiting) y i) [
+      | inl k ↦ in_append_left (settled ++ waiting) (x ∷ []) y (in_append_left settled waiting y k)
+      | inr k ↦ (elim (in_put entry_total x y waiting k) [
+        | inl e ↦ in_append_right (settled ++ waiting) (x ∷ []) y (inl e)
+        | inr m ↦ in_append_left (settled ++ waiting) (x ∷ []) y (in_append_right settled waiting y m)
+      ])
+    ];
+    back = λ y i. elim (in_append (settled ++ waiting) (x ∷ []) y i) [
+      | inl k ↦ (elim (in_append settled waiting y k) [
+        | inl m ↦ in_append_left settled (put_in_order x waiting) y m
+        | inr m ↦ in_append_right settled (put_in_order x waiting) y (put_in x y waiting (inr m))
+      ])
+      | inr k ↦ in_append_right settled (put_in_order x waiting) y (put_in x y waiting (elim k [ inl e ↦ inl e | inr n ↦ absurd n ]))
+    ];
+  }
 
   -- Those of all that are dated before the horizon, put in key order, are those of the key order that are dated before it.
   pub settled_is : (h : ℕ) (all ordered : List (Entry S)) → Ordered (λ d e. d.arrival ≢ e.arrival) all → Ordered (λ a b. entry_cmp a b ≡ Less) ordered → HaveSameMembers ordered all → before h ordered ≡ dated_before h all

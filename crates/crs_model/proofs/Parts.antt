@@ -1,18 +1,16 @@
 -- Binding one event, and what is open with less bound, fewer entries and an earlier horizon.
-use Rattle.std.proofs.Common.{◌≡◌, ◌≢◌, ℕ, zero, suc, ◌≤◌, ◌<◌, List, [], ◌∷◌, ◌++◌, length, map, get_or, refl, sym, ap, subst, ◌∙◌, inl, inr, ◌⊎◌, arith, get_or-set_same, get_or-set_other, length-set}
-use Rattle.std.specs.Prelude.{ℤ, pos, ◌≤ℤ◌, Option, Some, None, option_map, IfSome, IsSomeAnd, slice_set}
+use Rattle.std.proofs.Common.{◌≡◌, ◌≢◌, ℕ, zero, suc, ◌≤◌, ◌<◌, List, [], ◌∷◌, ◌++◌, length, refl, sym, ap, subst, ◌∙◌, inl, inr, arith, get_or-set_same, get_or-set_other}
+use Rattle.std.specs.Prelude.{ℤ, pos, ◌≤ℤ◌, Option, Some, None, option_map, IfSome, slice_set}
 use Rattle.std.proofs.lemmas.Int.{ints}
 use Rattle.std.proofs.lemmas.Bool.Decides.{eqb_tells}
 use Rattle.crs_base.specs.Words.{IsIn}
-use Rattle.crs_stn.specs.Bound.{Meets, Agrees}
+use Rattle.crs_stn.specs.Bound.{Agrees}
 use Rattle.crs_base.specs.Entry.{Entry}
-use Rattle.crs_model.specs.Models.{Chronicle, Window}
-use Rattle.crs_model.specs.Matching.{Binding}
-use Rattle.crs_model.specs.Partial.{Partial, at, put, IsLeast, GivesNoneTwice, IsPartial, IsLevelClosed, IsAwaited, dates_of, CanGoOn}
-use Rattle.crs_model.specs.Verdicts.{IsLost}
+use Rattle.crs_model.specs.Models.{Chronicle}
+use Rattle.crs_model.specs.Partial.{Partial, at, put, GivesNoneTwice, IsLevelClosed, IsAwaited, dates_of, CanGoOn}
 use Rattle.crs_model.specs.Open.{IsOpen}
 use Rattle.crs_model.proofs.Options.{of_some, some_if, cases_of}
-use Rattle.crs_model.proofs.Least.{Extends, Looser, restricted, restricted_looser, restricted_least, allowed_looser}
+use Rattle.crs_model.proofs.Least.{Extends, restricted, restricted_looser, restricted_least, allowed_looser}
 use Rattle.crs_model.proofs.Lost.{lost_grows, lost_up}
 
 module _ {S : Type 0} where

@@ -1,6 +1,6 @@
 -- Recognised assignments with other symbols in place of theirs, for chronicles without windows.
-use Rattle.std.proofs.Common.{◌≡◌, ◌≢◌, ℕ, zero, suc, ◌<◌, ℤ, pos, Bool, true, false, List, [], ◌∷◌, map, length, refl, sym, ap, subst, ◌∙◌, inl, inr, ◌⊎◌, arith, eqb-true}
-use Rattle.std.specs.Prelude.{Option, Some, None, IfSome, slice_get, option_map, ◌||◌}
+use Rattle.std.proofs.Common.{◌≡◌, ◌≢◌, ℕ, zero, suc, ◌<◌, ℤ, true, false, List, [], ◌∷◌, map, length, refl, sym, ap, subst, ◌∙◌, inl, inr, arith, eqb-true}
+use Rattle.std.specs.Prelude.{Option, Some, None, IfSome, slice_get, option_map}
 use Rattle.std.specs.List.{AllZip, AllByRecursion}
 use Rattle.std.proofs.lemmas.List.{length-map}
 use Rattle.std.proofs.lemmas.Option.{slice_get-map}
@@ -14,12 +14,11 @@ use Rattle.crs_base.proofs.Words.{in_map, in_map_back, ordered_map, each_from_in
 use Rattle.crs_stn.specs.Bound.{MeetsInPart}
 use Rattle.crs_model.specs.Models.{Term, Value, Var, Any, Pattern, EventDef, VarSet, Chronicle, Window}
 use Rattle.crs_model.specs.Matching.{Binding, Assignment, TermIs, ChangeIs, PatternIs, IsAllowed, IsAssignment}
-use Rattle.crs_model.specs.Partial.{at, dates_of}
+use Rattle.crs_model.specs.Partial.{dates_of}
 use Rattle.crs_model.specs.Open.{IsRecognised, whole}
 use Rattle.crs_model.specs.Verdicts.{IsMet}
 use Rattle.crs_model.specs.Proper.{term_has, terms_have, change_has, pattern_has, IsNamed}
 use Rattle.crs_model.specs.Renaming.{renamed_term, renamed_pattern, renamed_event, renamed_set, renamed_window, renamed_chronicle, renamed_entry, renamed_assignment, IsTermOf, IsPatternOf, IsChronicleOf, IsEntryOf}
-use Rattle.crs_model.proofs.Options.{of_some, some_if, cases_of}
 use Rattle.crs_model.proofs.Least.{or_cases}
 
 false_is_not : false ≡ true → ⊥
@@ -100,21 +99,24 @@ module _ {S T : Type 0} (f : S → T) where
     of_terms look v [] ys p h e = absurd (false_is_not h)
     of_terms look v (t ∷ ts) [] p h e = absurd e
     of_terms look v (t ∷ ts) (y ∷ ys) p h e = elim (or_cases (term_has v t) (terms_have v ts) h) [
-        inl k ↦ of_term look v t y p.0 k e.0
-      | inr k ↦ of_terms look v ts ys p.1 k e.1 ]
+      | inl k ↦ of_term look v t y p.0 k e.0
+      | inr k ↦ of_terms look v ts ys p.1 k e.1
+    ]
 
     of_change : (look : Binding T) (v : ℕ) (t : Option (Term S × Term S)) (x : Option (S × S)) → IfSome x (λ c. P c.0 × P c.1) → change_has v t ≡ true
         → ChangeIs look (option_map (λ c. (renamed_term f c.0, renamed_term f c.1)) t) (option_map (λ c. (f c.0, f c.1)) x) → IsGiven look v
     of_change look v None x p h e = absurd (false_is_not h)
     of_change look v (Some t) None p h e = absurd e
     of_change look v (Some t) (Some x) p h e = elim (or_cases (term_has v t.0) (term_has v t.1) h) [
-        inl k ↦ of_term look v t.0 x.0 p.0 k e.0
-      | inr k ↦ of_term look v t.1 x.1 p.1 k e.1 ]
+      | inl k ↦ of_term look v t.0 x.0 p.0 k e.0
+      | inr k ↦ of_term look v t.1 x.1 p.1 k e.1
+    ]
 
     of_pattern : (look : Binding T) (v : ℕ) (p : Pattern S) (e : Entry S) → IsEntryOf P e → pattern_has v p ≡ true → PatternIs look (renamed_pattern f p) (renamed_entry f e) → IsGiven look v
     of_pattern look v p e q h k = elim (or_cases (terms_have v p.terms) (change_has v p.change) h) [
-        inl m ↦ of_terms look v p.terms e.args q.args m k.terms
-      | inr m ↦ of_change look v p.change e.change q.change m k.change ]
+      | inl m ↦ of_terms look v p.terms e.args q.args m k.terms
+      | inr m ↦ of_change look v p.change e.change q.change m k.change
+    ]
 
     of_events : (look : Binding T) (v : ℕ) (vs : List (EventDef S)) (es : List (Entry S)) → AllByRecursion (IsEntryOf P) es
         → AllZip (λ w e. PatternIs look w.pattern e) (map (renamed_event f) vs) (map (renamed_entry f) es)
@@ -170,12 +172,13 @@ module _ {S T : Type 0} (f : S → T) where
     patterns_back look k [] (e ∷ es) q p h = h
     patterns_back look k (v ∷ vs) [] q p h = h
     patterns_back look k (v ∷ vs) (e ∷ es) q p h = (
-        record {
-          name = apart v.pattern.name e.name q.0.name p.0.name h.0.name;
-          terms = terms_back look k v.pattern.terms e.args q.0.terms p.0.args h.0.terms;
-          change = change_back look k v.pattern.change e.change q.0.change p.0.change h.0.change;
-        },
-        patterns_back look k vs es q.1 p.1 h.1)
+      record {
+        name = apart v.pattern.name e.name q.0.name p.0.name h.0.name;
+        terms = terms_back look k v.pattern.terms e.args q.0.terms p.0.args h.0.terms;
+        change = change_back look k v.pattern.change e.change q.0.change p.0.change h.0.change;
+      },
+      patterns_back look k vs es q.1 p.1 h.1,
+    )
 
     -- the sets
     set_on : (o : Option S) (xs : List S) → IfSome o (λ x. IsIn x xs) → IfSome (option_map f o) (λ x. IsIn x (map f xs))
@@ -242,7 +245,7 @@ module _ {S T : Type 0} (f : S → T) (P : S → Type 0) (apart : (x y : S) → 
   values_known pool b known a v x e =
       let stands = named.stands v (let l = short b.values v x e in omega (arith, a.bound)) in
       let g = of_events (λ (y : S). y) P (renamed_look (λ (y : S). y) (slice_get b.values)) v c.events b.entries (known_row pool b.entries known a.given)
-        (patterns_on (λ (y : S). y) (slice_get b.values) c.events b.entries a.equal) stands.0 stands.1 stands.2 stands.3 in
+      (patterns_on (λ (y : S). y) (slice_get b.values) c.events b.entries a.equal) stands.0 stands.1 stands.2 stands.3 in
       let i : Some x ≡ Some g.0 = sym e ∙ unrenamed (slice_get b.values v) g.0 g.2 in
       let same : g.0 ≡ x = cc in
       subst P same g.1
@@ -287,32 +290,35 @@ module _ {S T : Type 0} (f : S → T) (P : S → Type 0) (apart : (x y : S) → 
       let s = sources f pool d.entries r.assignment.given in
       let row : AllByRecursion (IsEntryOf P) s.0 = known_row pool s.0 known s.1 in
       let equal : AllZip (λ v e. PatternIs (slice_get d.values) v.pattern e) (map (renamed_event f) c.events) (map (renamed_entry f) s.0) =
-          subst (λ (es : List (Entry T)). AllZip (λ v e. PatternIs (slice_get d.values) v.pattern e) (map (renamed_event f) c.events) es) s.2 r.assignment.equal in
+      subst (λ (es : List (Entry T)). AllZip (λ v e. PatternIs (slice_get d.values) v.pattern e) (map (renamed_event f) c.events) es) s.2 r.assignment.equal in
       let ys = list_of f P d.values (λ v l.
-          let stands = named.stands v (omega (arith, l, r.assignment.bound, length-map c.variables f)) in
-          of_events f P (slice_get d.values) v c.events s.0 row equal stands.0 stands.1 stands.2 stands.3) in
+      let stands = named.stands v (omega (arith, l, r.assignment.bound, length-map c.variables f)) in
+      of_events f P (slice_get d.values) v c.events s.0 row equal stands.0 stands.1 stands.2 stands.3) in
       let b : Assignment S = record { entries = s.0; values = ys.0 } in
       let same : d ≡ renamed_assignment f b = (λ i. record { entries = s.2 i; values = ys.2 i }) in
       let q : IsRecognised (renamed_chronicle f c) (map (renamed_entry f) pool) (map (renamed_entry f) entries) h (renamed_assignment f b) =
-          subst (IsRecognised (renamed_chronicle f c) (map (renamed_entry f) pool) (map (renamed_entry f) entries) h) same r in
+      subst (IsRecognised (renamed_chronicle f c) (map (renamed_entry f) pool) (map (renamed_entry f) entries) h) same r in
       let look : IsLookOf f P (slice_get ys.0) = look_known f P ys.0 ys.1 in
       let looks : slice_get (map f ys.0) ≡ renamed_look f (slice_get ys.0) = values_look f ys.0 in
-      let allowed : IsAllowed (renamed_chronicle f c) (renamed_look f (slice_get ys.0)) = subst (λ (l : Binding T). IsAllowed (renamed_chronicle f c) l) looks q.assignment.allowed in
-      (b, record {
-        assignment = record {
-          given = s.1;
-          distinct = ordered_back (λ d e. d.arrival ≢ e.arrival) (λ d e. d.arrival ≢ e.arrival) (renamed_entry f) s.0 (λ d e n. n) q.assignment.distinct;
-          bound = sym (length-map ys.0 f) ∙ q.assignment.bound ∙ length-map c.variables f;
-          equal = patterns_back f P apart (slice_get ys.0) look c.events s.0 of.patterns row
-            (subst (λ (l : Binding T). AllZip (λ v e. PatternIs l v.pattern e) (map (renamed_event f) c.events) (map (renamed_entry f) s.0)) looks q.assignment.equal);
-          allowed = record {
-            sets = sets_back f P apart (slice_get ys.0) look c.sets of.sets allowed.sets;
-            differs = differs_back f P apart (slice_get ys.0) c.differs allowed.differs;
+      let allowed : IsAllowed (renamed_chronicle f c) (renamed_look f (slice_get ys.0)) = subst (λ (l : Binding T). IsAllowed (renamed_chronicle f c) l) looks q.assignment.allowed in (
+        b,
+        record {
+          assignment = record {
+            given = s.1;
+            distinct = ordered_back (λ d e. d.arrival ≢ e.arrival) (λ d e. d.arrival ≢ e.arrival) (renamed_entry f) s.0 (λ d e n. n) q.assignment.distinct;
+            bound = sym (length-map ys.0 f) ∙ q.assignment.bound ∙ length-map c.variables f;
+            equal = patterns_back f P apart (slice_get ys.0) look c.events s.0 of.patterns row
+                (subst (λ (l : Binding T). AllZip (λ v e. PatternIs l v.pattern e) (map (renamed_event f) c.events) (map (renamed_entry f) s.0)) looks q.assignment.equal);
+            allowed = record {
+              sets = sets_back f P apart (slice_get ys.0) look c.sets of.sets allowed.sets;
+              differs = differs_back f P apart (slice_get ys.0) c.differs allowed.differs;
+            };
           };
-        };
-        bounds = subst (λ (d : ℕ → Option ℤ). MeetsInPart c.bounds d) (all_dates f s.0) q.bounds;
-        windows = λ w i. none_met c.windows (λ w. IsMet (slice_get ys.0) (whole b) entries h w) windows w i;
-      }, same)
+          bounds = subst (λ (d : ℕ → Option ℤ). MeetsInPart c.bounds d) (all_dates f s.0) q.bounds;
+          windows = λ w i. none_met c.windows (λ w. IsMet (slice_get ys.0) (whole b) entries h w) windows w i;
+        },
+        same,
+      )
 
   -- symbols, entries and assignments that are the same with the other symbols are the same
   same_symbols : (xs ys : List S) → AllByRecursion P xs → AllByRecursion P ys → map f xs ≡ map f ys → xs ≡ ys
@@ -387,10 +393,13 @@ module _ {S T : Type 0} (f : S → T) (P : S → Type 0) (apart : (x y : S) → 
         × (IsRecognised (renamed_chronicle f c) (map (renamed_entry f) was) (map (renamed_entry f) before) g b → ⊥)
 
     new_on : (b : Assignment S) → IsNewOne b → IsNewRenamed (renamed_assignment f b)
-    new_on b n = (recognised_on pool entries h b known n.0, λ r.
-        let k = recognised_back was before g (renamed_assignment f b) known_was r in
-        let e : b ≡ k.0 = same_assignment pool was b k.0 known known_was n.0.assignment k.1.assignment k.2 in
-        n.1 (subst (IsRecognised c was before g) (sym e) k.1))
+    new_on b n = (
+      recognised_on pool entries h b known n.0,
+      λ r.
+          let k = recognised_back was before g (renamed_assignment f b) known_was r in
+          let e : b ≡ k.0 = same_assignment pool was b k.0 known known_was n.0.assignment k.1.assignment k.2 in
+          n.1 (subst (IsRecognised c was before g) (sym e) k.1),
+    )
 
     new_back : (d : Assignment T) → IsNewRenamed d → (b : Assignment S) × IsNewOne b × (d ≡ renamed_assignment f b)
     new_back d n =
@@ -400,10 +409,10 @@ module _ {S T : Type 0} (f : S → T) (P : S → Type 0) (apart : (x y : S) → 
     -- the list of the new ones is the list of those with the other symbols
     pub new_renamed : (xs : List (Assignment S)) → Lists assignment_cmp IsNewOne xs → Lists assignment_cmp IsNewRenamed (map (renamed_assignment f) xs)
     new_renamed xs l = record {
-        ascending = ordered_map (λ a b. assignment_cmp a b ≡ Less) (λ a b. assignment_cmp a b ≡ Less) (renamed_assignment f) xs (λ a b e. rows_cmp a.entries b.entries ∙ e) l.ascending;
-        each = each_from_in IsNewRenamed (map (renamed_assignment f) xs) (λ d i.
+      ascending = ordered_map (λ a b. assignment_cmp a b ≡ Less) (λ a b. assignment_cmp a b ≡ Less) (renamed_assignment f) xs (λ a b e. rows_cmp a.entries b.entries ∙ e) l.ascending;
+      each = each_from_in IsNewRenamed (map (renamed_assignment f) xs) (λ d i.
           let m = in_map_back (renamed_assignment f) xs d i in
           subst IsNewRenamed (sym m.2) (new_on m.0 (in_from_each IsNewOne xs l.each m.0 m.1)));
-        all = λ d n. let k = new_back d n in
+      all = λ d n. let k = new_back d n in
           subst (λ x. IsIn x (map (renamed_assignment f) xs)) (sym k.2) (in_map (renamed_assignment f) xs k.0 (l.all k.0 k.1));
-      }
+    }

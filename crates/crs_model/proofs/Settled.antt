@@ -51,8 +51,9 @@ module _ {S : Type 0} where
     in_all : (x : Entry S) (sorted xs : List (Entry S)) → IsIn x (put_all sorted xs) → IsIn x sorted ⊎ IsIn x xs
     in_all x sorted [] h = inl h
     in_all x sorted (e ∷ xs) h = elim (in_all x (put_in_order e sorted) xs h) [
-        inl k ↦ elim (in_put total e x sorted k) [ inl q ↦ inr (inl q) | inr i ↦ inl i ]
-      | inr k ↦ inr (inr k) ]
+      | inl k ↦ elim (in_put total e x sorted k) [ inl q ↦ inr (inl q) | inr i ↦ inl i ]
+      | inr k ↦ inr (inr k)
+    ]
 
     none_in : (x : Entry S) → IsIn x [] ⊎ IsIn x [] → ⊥
     none_in x (inl h) = h
@@ -76,9 +77,10 @@ module _ {S : Type 0} where
         (ordered_put total e sorted (each_from_in (λ y. entry_cmp e y ≢ Equal) sorted (λ y i q. in_from_each (λ y. e.arrival ≢ y.arrival) sorted k.0 y i (same_arrival e y q))) o)
         d.1
         (each_from_in (λ x. AllByRecursion (λ y. x.arrival ≢ y.arrival) (put_in_order e sorted)) xs (λ x j. each_from_in (λ y. x.arrival ≢ y.arrival) (put_in_order e sorted) (λ y i.
-          elim (in_put total e y sorted i) [
-            inl q ↦ (λ m. in_from_each (λ x. e.arrival ≢ x.arrival) xs d.0 x j (sym (m ∙ ap (λ z. z.arrival) q)))
-          | inr n ↦ in_from_each (λ y. x.arrival ≢ y.arrival) sorted (in_from_each (λ x. AllByRecursion (λ y. x.arrival ≢ y.arrival) sorted) xs k.1 x j) y n ])))
+        elim (in_put total e y sorted i) [
+          | inl q ↦ (λ m. in_from_each (λ x. e.arrival ≢ x.arrival) xs d.0 x j (sym (m ∙ ap (λ z. z.arrival) q)))
+          | inr n ↦ in_from_each (λ y. x.arrival ≢ y.arrival) sorted (in_from_each (λ x. AllByRecursion (λ y. x.arrival ≢ y.arrival) sorted) xs k.1 x j) y n
+        ])))
 
     -- the settled entries are in key order
     pub settled_in_order : (h : ℕ) (xs : List (Entry S)) → Ordered (λ d e. d.arrival ≢ e.arrival) xs → Ordered (λ a b. entry_cmp a b ≡ Less) (dated_before h xs)

@@ -1,6 +1,6 @@
 -- Met windows stay met, and aren't lost.
-use Rattle.std.proofs.Common.{◌≡◌, ◌≢◌, ℕ, zero, suc, ◌≤◌, ◌<◌, List, [], ◌∷◌, ◌++◌, refl, sym, ap, subst, ◌∙◌, inl, inr, ◌⊎◌, arith}
-use Rattle.std.specs.Prelude.{ℤ, pos, ◌≤ℤ◌, ◌<ℤ◌, ◌+ℤ◌, Option, Some, None, IfSome, IsSomeAnd}
+use Rattle.std.proofs.Common.{◌≡◌, ℕ, ◌≤◌, List, [], ◌∷◌, ◌++◌, refl, sym, subst, ◌∙◌, inl, inr, arith}
+use Rattle.std.specs.Prelude.{ℤ, pos, ◌≤ℤ◌, ◌<ℤ◌, ◌+ℤ◌, Option, Some, None, IsSomeAnd}
 use Rattle.std.proofs.lemmas.Int.{ints}
 use Rattle.crs_base.specs.Words.{IsIn}
 use Rattle.crs_base.proofs.Words.{in_append, in_append_left}
@@ -8,8 +8,7 @@ use Rattle.crs_base.specs.Entry.{Entry}
 use Rattle.crs_model.specs.Models.{Window, Body, NoEvent, Occurs, Hold}
 use Rattle.crs_model.specs.Matching.{Binding}
 use Rattle.crs_model.specs.Partial.{Partial, at}
-use Rattle.crs_model.specs.Verdicts.{Count, IsDatedIn, Changes, IsValue, HasValue, IsAttribute, IsCount, IsSo, IsStretch, IsLost, IsMet}
-use Rattle.crs_model.proofs.Options.{of_some, and_some}
+use Rattle.crs_model.specs.Verdicts.{Count, IsValue, IsSo, IsLost, IsMet}
 
 count_zero : {A : Type 0} (P : A → Type 0) (ys : List A) → ((x : A) → IsIn x ys → P x → ⊥) → Count P ys 0
 count_zero P [] none = refl

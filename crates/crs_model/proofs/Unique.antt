@@ -1,5 +1,5 @@
 -- Two lists in strict order with the same members are the same.
-use Rattle.std.proofs.Common.{◌≡◌, List, [], ◌∷◌, refl, sym, subst, ap, ◌∙◌, inl, inr}
+use Rattle.std.proofs.Common.{◌≡◌, List, [], ◌∷◌, refl, sym, subst, ◌∙◌, inl, inr}
 use Rattle.std.specs.Cmp.{IsTotalOrder}
 use Rattle.std.specs.Ordering.{ordering_reverse}
 use Rattle.std.specs.List.{AllByRecursion}
@@ -37,6 +37,6 @@ module _ {A : Type 0} {R : A → A → Ordering} (total : IsTotalOrder R) where
   same_members (x ∷ xs) (y ∷ ys) o p there back =
       let e : x ≡ y = same_first x y xs ys o.0 p.0 (there x (inl refl)) (back y (inl refl)) in
       let r : xs ≡ ys = same_members xs ys o.1 p.1
-        (λ z i. behind x y z xs ys e o.0 i (there z (inr i)))
-        (λ z i. behind y x z ys xs (sym e) p.0 i (back z (inr i))) in
+      (λ z i. behind x y z xs ys e o.0 i (there z (inr i)))
+      (λ z i. behind y x z ys xs (sym e) p.0 i (back z (inr i))) in
       λ i. e i ∷ r i

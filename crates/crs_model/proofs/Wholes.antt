@@ -1,15 +1,15 @@
 -- A whole partial assignment all of whose windows are met is recognised.
-use Rattle.std.proofs.Common.{◌≡◌, ◌≢◌, ℕ, zero, suc, ◌<◌, ◌≤◌, List, [], ◌∷◌, length, map, refl, sym, ap, subst, ◌∙◌, inl, inr, ◌⊎◌, arith}
-use Rattle.std.specs.Prelude.{Option, Some, None, IfSome, slice_get}
-use Rattle.std.specs.List.{AllZip, AllByRecursion}
+use Rattle.std.proofs.Common.{◌≡◌, ◌≢◌, ℕ, suc, List, [], ◌∷◌, length, map, sym, ap, subst, ◌∙◌, inl, inr, arith}
+use Rattle.std.specs.Prelude.{Some, IfSome, slice_get}
+use Rattle.std.specs.List.{AllZip}
 use Rattle.std.proofs.lemmas.List.{length-map}
 use Rattle.crs_base.specs.Words.{IsIn, Ordered}
 use Rattle.crs_base.proofs.Words.{each_from_in}
 use Rattle.crs_stn.specs.Bound.{MeetsInPart}
 use Rattle.crs_base.specs.Entry.{Entry}
-use Rattle.crs_model.specs.Models.{Chronicle, EventDef, Window}
-use Rattle.crs_model.specs.Matching.{Binding, Assignment, IsAssignment, IsAllowed, PatternIs}
-use Rattle.crs_model.specs.Partial.{Partial, at, IsPartial, GivesNoneTwice, dates_of}
+use Rattle.crs_model.specs.Models.{Chronicle, Window}
+use Rattle.crs_model.specs.Matching.{Binding, Assignment, IsAllowed, PatternIs}
+use Rattle.crs_model.specs.Partial.{at, IsPartial, GivesNoneTwice, dates_of}
 use Rattle.crs_model.specs.Verdicts.{IsMet}
 use Rattle.crs_model.specs.Open.{IsRecognised, whole}
 use Rattle.crs_model.proofs.Options.{of_some}

@@ -1,5 +1,5 @@
 -- When a pattern equals an entry, and what an assignment is.
-use Rattle.std.specs.Prelude.{◌≡◌, ◌≢◌, ℕ, List, length, Option, Some, None, slice_get, Contains, AllPairs, IfSome}
+use Rattle.std.specs.Prelude.{◌≡◌, ◌≢◌, ℕ, List, length, Option, Some, None, slice_get, IfSome}
 use Rattle.std.specs.List.{AllZip, AllByRecursion}
 use Rattle.crs_base.specs.Words.{IsIn, Ordered}
 use Rattle.crs_base.specs.Entry.{Entry}

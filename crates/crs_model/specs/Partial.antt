@@ -3,7 +3,7 @@ use Rattle.std.specs.Prelude.{◌≡◌, ◌≢◌, ℕ, ◌<◌, ◌≤◌, ℤ
 use Rattle.crs_base.specs.Words.{IsIn}
 use Rattle.crs_stn.specs.Bound.{Meets, Agrees}
 use Rattle.crs_base.specs.Entry.{Entry}
-use Rattle.crs_model.specs.Models.{Chronicle, EventDef}
+use Rattle.crs_model.specs.Models.{Chronicle}
 use Rattle.crs_model.specs.Matching.{Binding, PatternIs, IsAllowed}
 
 abbrev pub Partial : Type 0 → Type 0

@@ -1,5 +1,5 @@
 -- Plans that come of accepted models.
-use Rattle.std.specs.Prelude.{◌≡◌, ◌<◌, ◌≤◌, ◌+◌, ℕ, List, length, map, Option, Some, slice_get}
+use Rattle.std.specs.Prelude.{◌≡◌, ◌<◌, ◌≤◌, ◌+◌, length}
 use Rattle.std.specs.List.{AllByRecursion}
 use Rattle.crs_base.specs.declared.symbols.Sym.{Sym}
 use Rattle.crs_stn.specs.Bound.{IsWithin, IsConsistent}

@@ -1,10 +1,10 @@
 -- Models, entries and assignments with other symbols in place of theirs, as the texts of a table in place of its numbers.
-use Rattle.std.specs.Prelude.{ℕ, ◌<◌, List, length, map, Option, IfSome, option_map}
+use Rattle.std.specs.Prelude.{ℕ, ◌<◌, List, length, map, IfSome, option_map}
 use Rattle.std.specs.List.{AllByRecursion}
 use Rattle.crs_base.specs.Symbols.{text_at}
 use Rattle.crs_base.specs.declared.symbols.Sym.{Sym}
 use Rattle.crs_base.specs.Entry.{Entry}
-use Rattle.crs_model.specs.Models.{Term, Value, Var, Any, Pattern, EventDef, VarSet, Anchor, Body, NoEvent, Occurs, Hold, Window, Chronicle, Kind, Message, Attribute, Name, Models}
+use Rattle.crs_model.specs.Models.{Term, Value, Var, Any, Pattern, EventDef, VarSet, Body, NoEvent, Occurs, Hold, Window, Chronicle, Kind, Message, Attribute, Name, Models}
 use Rattle.crs_model.specs.Matching.{Assignment}
 
 -- a symbol's text
@@ -40,9 +40,16 @@ module _ {S T : Type 0} (f : S → T) where
 
   abbrev pub renamed_chronicle : Chronicle S → Chronicle T
   renamed_chronicle c = record {
-      name = f c.name; line = c.line; events = map renamed_event c.events; free = map f c.free; bounds = c.bounds; variables = map f c.variables;
-      sets = map renamed_set c.sets; differs = c.differs; windows = map renamed_window c.windows;
-    }
+    name = f c.name;
+    line = c.line;
+    events = map renamed_event c.events;
+    free = map f c.free;
+    bounds = c.bounds;
+    variables = map f c.variables;
+    sets = map renamed_set c.sets;
+    differs = c.differs;
+    windows = map renamed_window c.windows;
+  }
 
   abbrev pub renamed_kind : Kind S → Kind T
   renamed_kind Message = Message

@@ -1,5 +1,5 @@
 -- What the program's models are as those of the definitions, with the numbers of symbols.
-use Rattle.std.specs.Prelude.{ℕ, List, [], ◌∷◌, map, option_map, Option, Some, None}
+use Rattle.std.specs.Prelude.{List, [], ◌∷◌, map, option_map, Option, Some, None}
 use Rattle.crs_base.specs.declared.symbols.Sym.{Sym}
 use Rattle.crs_model.specs.declared.pattern.Term.{Term as CodeTerm}
 use Rattle.crs_model.specs.declared.pattern.Term.TheVariants.{Value as CodeValue, Var as CodeVar, Any as CodeAny}

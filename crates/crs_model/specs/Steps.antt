@@ -1,9 +1,7 @@
 -- What comes of a held partial assignment when an entry is offered.
-use Rattle.std.specs.Prelude.{◌≡◌, ◌⊎◌, ◌<◌, ℕ, List, length, None}
+use Rattle.std.specs.Prelude.{◌≡◌, ◌⊎◌, ◌<◌, ℕ, length, None}
 use Rattle.crs_base.specs.Entry.{Entry}
-use Rattle.crs_model.specs.Models.{Chronicle}
 use Rattle.crs_model.specs.Partial.{Partial, at, put}
-use Rattle.crs_model.specs.Open.{IsOpen}
 
 -- all levels are 0
 abbrev pub flat : ℕ → ℕ

@@ -1,9 +1,9 @@
 -- Windows: their stretch of dates, and their verdict at a horizon over a list of entries.
-use Rattle.std.specs.Prelude.{◌≡◌, ◌≢◌, ◌⊎◌, ℕ, suc, ◌<◌, ◌≤◌, ℤ, pos, ◌+ℤ◌, ◌≤ℤ◌, ◌<ℤ◌, List, [], ◌∷◌, Option, Some, None, IfSome, IsSomeAnd}
+use Rattle.std.specs.Prelude.{◌≡◌, ◌≢◌, ◌⊎◌, ℕ, suc, ◌<◌, ◌≤◌, ℤ, pos, ◌+ℤ◌, ◌≤ℤ◌, ◌<ℤ◌, List, [], ◌∷◌, IfSome, IsSomeAnd}
 use Rattle.std.specs.List.{AllZip, AllByRecursion}
 use Rattle.crs_base.specs.Words.{IsIn}
 use Rattle.crs_base.specs.Entry.{Entry}
-use Rattle.crs_model.specs.Models.{Term, Value, Var, Any, Pattern, Chronicle, Window, Body, NoEvent, Occurs, Hold, Anchor}
+use Rattle.crs_model.specs.Models.{Term, Value, Var, Any, Pattern, Window, Body, NoEvent, Occurs, Hold}
 use Rattle.crs_model.specs.Matching.{Binding, TermIs, PatternIs}
 use Rattle.crs_model.specs.Partial.{Partial, at}
 

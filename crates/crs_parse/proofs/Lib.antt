@@ -25,6 +25,7 @@ pub mod GivesAnchors
 pub mod GivesStatements
 pub mod Takes
 pub mod TakesStatements
+pub mod CanonTokens
 pub mod Premises
 pub mod Until
 pub mod Grows

@@ -6,3 +6,8 @@ pub fn read_is_what_is_meant()
     ensures sound { laws.ReadIsMeant }
     ensures complete { laws.MeantIsRead }
 {}
+
+/// The canonical text of a statement is read as that statement.
+pub fn canonical_statement_is_read()
+    ensures { laws.CanonicalIsRead }
+{}

@@ -12,7 +12,7 @@ mod statements;
 mod symbols;
 mod tokens;
 
-pub use laws::read_is_what_is_meant;
+pub use laws::{canonical_statement_is_read, read_is_what_is_meant};
 pub use models::read_models;
 pub use printing::print_models;
 

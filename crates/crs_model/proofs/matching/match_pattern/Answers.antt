@@ -1,4 +1,4 @@
-use Rattle.std.proofs.Common.{rules, ◌≡◌, List, map, ap}
+use Rattle.std.proofs.Common.{rules, List, map, ap}
 use Rattle.crs_model.specs.declared.pattern.Term.{Term as CodeTerm}
 use Rattle.crs_base.specs.Seen.{entry_of}
 use Rattle.crs_model.specs.Seen.{term_of, pattern_of}
