@@ -65,7 +65,7 @@ module _ (f : Frame) (x : Session) (s : State) (r : Represents f x s) (e : Event
       let small : nat_le (length s.texts + length (new_texts s.texts (texts_of e))) f.symbols ≡ true = grind (arith, new_is, r.models.limit) in
       let taken : State × Outcome = (with_entry s (entry_of_event (length s.accepted) e) e, Accepted (entry_of_event (length s.accepted) e)) in
       let is : taken ≡ after_named (setting_of f) s e =
-          (λ i. cond (sym room_is i) (cond (sym small i) taken (s, Refused (run.Values f.symbols))) (s, Refused (run.Full f.entries))) in
+      (λ i. cond (sym room_is i) (cond (sym small i) taken (s, Refused (run.Values f.symbols))) (s, Refused (run.Full f.entries))) in
       subst (λ (b : State × Outcome). Brings f x.refused (record x { engine = new; symbols = table }) n (settled s) s.horizon b out out) is (record {
         state = accepted f x s r was_met has_room e new table en a running texts limit distinct seen known st;
         text = [];

@@ -57,15 +57,15 @@ module _ (texts : List (List ℕ)) (distinct : AreDistinct texts) where
     printable : (now : List (Entry Sym)) (h : ℕ) (number : ℕ) (mark : Mark) (r : Recognition) → AllByRecursion (IsEntryOf (HasText texts)) now
         → IsRecognitionOf (chronicle p) number mark r → IsRecognised (chronicle p) now now h (assignment_of r) → IsPrintable texts r (chronicle p)
     printable now h number mark r known k rec = record {
-        name = of.name;
-        points = known_points (chronicle p).events of.points;
-        variables = of.variables;
-        few = proper.variables_few;
-        entries = k.entries;
-        each = ap length k.binding ∙ length-map (given r.binding) Some ∙ k.values;
-        values = subst (AreBound texts) (sym k.binding)
+      name = of.name;
+      points = known_points (chronicle p).events of.points;
+      variables = of.variables;
+      few = proper.variables_few;
+      entries = k.entries;
+      each = ap length k.binding ∙ length-map (given r.binding) Some ∙ k.values;
+      values = subst (AreBound texts) (sym k.binding)
           (bound_by (given r.binding) (known_values (text_in texts) (HasText texts) apart (chronicle p) of proper.named windows now (assignment_of r) known rec.assignment));
-      }
+    }
 
     -- the lines of the recognitions of the chronicle are those of the assignments
     lines_are : (plans : Plans) (number : ℕ) (mark : Mark) (answer : List Recognition) → chronicle_at plans number ≡ Some (chronicle p) → AllByRecursion (IsRecognitionOf (chronicle p) number mark) answer
@@ -74,7 +74,7 @@ module _ (texts : List (List ℕ)) (distinct : AreDistinct texts) where
     lines_are plans number mark (r ∷ answer) at h =
         let here : chronicle_at plans r.chronicle ≡ Some (chronicle p) = ap (chronicle_at plans) h.0.chronicle ∙ at in
         let line : line_in plans texts r ≡ recognition_line (chronicle_in texts p) mark (renamed_assignment (text_in texts) (assignment_of r)) =
-            ap (λ o. option_map_or (line_seen texts r) o []) here ∙ ap (λ m. recognition_line (chronicle_in texts p) m (renamed_assignment (text_in texts) (assignment_of r))) h.0.mark in
+        ap (λ o. option_map_or (line_seen texts r) o []) here ∙ ap (λ m. recognition_line (chronicle_in texts p) m (renamed_assignment (text_in texts) (assignment_of r))) h.0.mark in
         λ i. line i ++ lines_are plans number mark answer at h.1 i
 
   module _ (plans : Plans) (mark : Mark) (was now : List (Entry Sym)) (g h : ℕ)
@@ -87,9 +87,10 @@ module _ (texts : List (List ℕ)) (distinct : AreDistinct texts) where
         → AllByRecursion (IsRecognitionOf (chronicle p) number mark) answer → ((r : Recognition) → IsIn r answer → IsRecognised (chronicle p) now now h (assignment_of r)) → ArePrintable plans texts answer
     each_printable p number [] proper of windows at each rec = tt
     each_printable p number (r ∷ answer) proper of windows at each rec = (
-        some_and (chronicle_at plans r.chronicle) (IsPrintable texts r) (chronicle p) (ap (chronicle_at plans) each.0.chronicle ∙ at)
+      some_and (chronicle_at plans r.chronicle) (IsPrintable texts r) (chronicle p) (ap (chronicle_at plans) each.0.chronicle ∙ at)
           (printable p proper of windows now h number mark r known each.0 (rec r (inl refl))),
-        each_printable p number answer proper of windows at each.1 (λ s i. rec s (inr i)))
+      each_printable p number answer proper of windows at each.1 (λ s i. rec s (inr i)),
+    )
 
     first_at : (number : ℕ) (p : Plan) (ps : List Plan) → StandFrom (p ∷ ps) number → chronicle_at plans number ≡ Some (chronicle p)
     first_at number p ps at = let e : number + 0 ≡ number = omega arith in subst (λ n. chronicle_at plans n ≡ Some (chronicle p)) e (at 0)
@@ -105,17 +106,18 @@ module _ (texts : List (List ℕ)) (distinct : AreDistinct texts) where
     all_printable [] number answer at proper of windows l = subst (ArePrintable plans texts) (sym l) tt
     all_printable (p ∷ ps) number answer at proper of windows l = subst (ArePrintable plans texts) (sym l.2)
         (all_append (λ r. IsSomeAnd (chronicle_at plans r.chronicle) (IsPrintable texts r)) l.0 l.1
-          (each_printable p number l.0 proper.0 of.0 windows.0 (first_at number p ps at) l.3.each (recognised_of p number l.0 l.3))
-          (all_printable ps (suc number) l.1 (next_from number p ps at) proper.1 of.1 windows.1 l.4))
+        (each_printable p number l.0 proper.0 of.0 windows.0 (first_at number p ps at) l.3.each (recognised_of p number l.0 l.3))
+        (all_printable ps (suc number) l.1 (next_from number p ps at) proper.1 of.1 windows.1 l.4))
 
     pub answer_text : (ps : List Plan) (number : ℕ) (answer : List Recognition) → StandFrom ps number → AllByRecursion IsProper ps → AllByRecursion (λ p. IsChronicleOf (HasText texts) (chronicle p)) ps
         → AllByRecursion (λ p. (chronicle p).windows ≡ []) ps → ListsAllNew ps number mark was g now h answer
         → IsMarkText (map (chronicle_in texts) ps) mark (entries_in texts was) g (entries_in texts now) h (flat_map (line_in plans texts) answer)
     answer_text [] number answer at proper of windows l = ap (flat_map (line_in plans texts)) l
     answer_text (p ∷ ps) number answer at proper of windows l = (
-        map (renamed_assignment (text_in texts)) (map assignment_of l.0),
-        flat_map (line_in plans texts) l.1,
-        new_renamed (text_in texts) (HasText texts) apart (chronicle p) of.0 proper.0.named windows.0 now now was was h g known known_was (map assignment_of l.0) l.3.listed,
-        answer_text ps (suc number) l.1 (next_from number p ps at) proper.1 of.1 windows.1 l.4,
-        ap (flat_map (line_in plans texts)) l.2 ∙ flat_map_append (line_in plans texts) l.0 l.1
-          ∙ ap (λ (xs : List ℕ). xs ++ flat_map (line_in plans texts) l.1) (lines_are p proper.0 of.0 windows.0 plans number mark l.0 (first_at number p ps at) l.3.each))
+      map (renamed_assignment (text_in texts)) (map assignment_of l.0),
+      flat_map (line_in plans texts) l.1,
+      new_renamed (text_in texts) (HasText texts) apart (chronicle p) of.0 proper.0.named windows.0 now now was was h g known known_was (map assignment_of l.0) l.3.listed,
+      answer_text ps (suc number) l.1 (next_from number p ps at) proper.1 of.1 windows.1 l.4,
+      ap (flat_map (line_in plans texts)) l.2 ∙ flat_map_append (line_in plans texts) l.0 l.1
+          ∙ ap (λ (xs : List ℕ). xs ++ flat_map (line_in plans texts) l.1) (lines_are p proper.0 of.0 windows.0 plans number mark l.0 (first_at number p ps at) l.3.each),
+    )

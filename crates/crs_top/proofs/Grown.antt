@@ -46,13 +46,15 @@ texts_grow texts (t ∷ ts) =
 
 one_more_there : (xs ys : List LogEntry) (e : LogEntry) → HaveSameMembers xs ys → (y : LogEntry) → IsIn y (xs ++ e ∷ []) → IsIn y (ys ++ e ∷ [])
 one_more_there xs ys e m y i = elim (in_append xs (e ∷ []) y i) [
-    inl k ↦ in_append_left ys (e ∷ []) y (m.there y k)
-  | inr k ↦ in_append_right ys (e ∷ []) y k ]
+  | inl k ↦ in_append_left ys (e ∷ []) y (m.there y k)
+  | inr k ↦ in_append_right ys (e ∷ []) y k
+]
 
 one_more_back : (xs ys : List LogEntry) (e : LogEntry) → HaveSameMembers xs ys → (y : LogEntry) → IsIn y (ys ++ e ∷ []) → IsIn y (xs ++ e ∷ [])
 one_more_back xs ys e m y i = elim (in_append ys (e ∷ []) y i) [
-    inl k ↦ in_append_left xs (e ∷ []) y (m.back y k)
-  | inr k ↦ in_append_right xs (e ∷ []) y k ]
+  | inl k ↦ in_append_left xs (e ∷ []) y (m.back y k)
+  | inr k ↦ in_append_right xs (e ∷ []) y k
+]
 
 module _ (texts more : List (List ℕ)) where
   abbrev grown : List (List ℕ)
@@ -93,31 +95,33 @@ module _ (texts more : List (List ℕ)) where
   -- the models are the same by the grown table
   pub models_grown : (f : Frame) (plans : Plans) (limit : ℕ) → HasModels f plans (record { texts = texts; limit = limit }) → AreDistinct grown → HasModels f plans (record { texts = grown; limit = limit })
   models_grown f plans limit m distinct = record {
-      proper = m.proper;
-      windowless = m.windowless;
-      names = m.names ∙ names_same plans.names m.names_in;
-      arities = m.arities;
-      names_in = names_more plans.names m.names_in;
-      names_few = m.names_few;
-      chronicles = m.chronicles ∙ all_same (chronicle_in texts) (chronicle_in grown) (λ p. IsChronicleOf (HasText texts) (chronicle p)) (plans_of plans)
+    proper = m.proper;
+    windowless = m.windowless;
+    names = m.names ∙ names_same plans.names m.names_in;
+    arities = m.arities;
+    names_in = names_more plans.names m.names_in;
+    names_few = m.names_few;
+    chronicles = m.chronicles ∙ all_same (chronicle_in texts) (chronicle_in grown) (λ p. IsChronicleOf (HasText texts) (chronicle p)) (plans_of plans)
         (λ p h. same_chronicle (text_in texts) (text_in grown) (HasText texts) same_text (chronicle p) h) m.chronicles_in;
-      chronicles_in = chronicles_more (plans_of plans) m.chronicles_in;
-      distinct = distinct;
-      limit = m.limit;
-    }
+    chronicles_in = chronicles_more (plans_of plans) m.chronicles_in;
+    distinct = distinct;
+    limit = m.limit;
+  }
 
   arrivals_last : (accepted : List LogEntry) (e : LogEntry) → AllByRecursion (λ x. x.arrival < length accepted) accepted → e.arrival ≡ length accepted
       → Ordered (λ d e. d.arrival ≢ e.arrival) accepted → Ordered (λ d e. d.arrival ≢ e.arrival) (accepted ++ e ∷ [])
   arrivals_last accepted e below at distinct = ordered_append (λ d e. d.arrival ≢ e.arrival) accepted (e ∷ []) distinct (tt, tt)
       (λ x y i j. elim j [
-          inl q ↦ (λ m. let b = in_from_each (λ x. x.arrival < length accepted) accepted below x i in let k : y.arrival ≡ e.arrival = ap (λ z. z.arrival) q in omega arith)
-        | inr k ↦ absurd k ])
+        | inl q ↦ (λ m. let b = in_from_each (λ x. x.arrival < length accepted) accepted below x i in let k : y.arrival ≡ e.arrival = ap (λ z. z.arrival) q in omega arith)
+        | inr k ↦ absurd k
+      ])
 
   below_more : (accepted : List LogEntry) (e : LogEntry) → AllByRecursion (λ x. x.arrival < length accepted) accepted → e.arrival ≡ length accepted
       → AllByRecursion (λ x. x.arrival < length (accepted ++ e ∷ [])) (accepted ++ e ∷ [])
   below_more accepted e below at = each_from_in (λ x. x.arrival < length (accepted ++ e ∷ [])) (accepted ++ e ∷ []) (λ x i. elim (in_append accepted (e ∷ []) x i) [
-      inl k ↦ (let b = in_from_each (λ x. x.arrival < length accepted) accepted below x k in omega (arith, length-append accepted (e ∷ [])))
-    | inr k ↦ (elim k [ inl q ↦ (let m : x.arrival ≡ e.arrival = ap (λ z. z.arrival) q in omega (arith, length-append accepted (e ∷ []))) | inr n ↦ absurd n ]) ])
+    | inl k ↦ (let b = in_from_each (λ x. x.arrival < length accepted) accepted below x k in omega (arith, length-append accepted (e ∷ [])))
+    | inr k ↦ (elim k [ inl q ↦ (let m : x.arrival ≡ e.arrival = ap (λ z. z.arrival) q in omega (arith, length-append accepted (e ∷ []))) | inr n ↦ absurd n ])
+  ])
 
   module _ (old new : EngineState) (accepted : List LogEntry) (n : HasEntries old texts accepted) (x : Entry Sym) (e : LogEntry)
       (is : renamed_entry (text_in grown) x ≡ e) (at : e.arrival ≡ length accepted) (known : IsEntryOf (HasText grown) x)
@@ -130,7 +134,7 @@ module _ (texts more : List (List ℕ)) where
         let p = same_renamed grown (n.settled ++ put_in_order x n.waiting) ((n.settled ++ n.waiting) ++ x ∷ []) (put_members x n.settled n.waiting) in
         let m = subst (λ (es : List LogEntry). HaveSameMembers es accepted) before_is n.members in
         let apart : entries_in grown ((n.settled ++ n.waiting) ++ x ∷ []) ≡ entries_in grown (n.settled ++ n.waiting) ++ e ∷ [] =
-            map-append (renamed_entry (text_in grown)) (n.settled ++ n.waiting) (x ∷ []) ∙ ap (λ (z : LogEntry). entries_in grown (n.settled ++ n.waiting) ++ z ∷ []) is in
+        map-append (renamed_entry (text_in grown)) (n.settled ++ n.waiting) (x ∷ []) ∙ ap (λ (z : LogEntry). entries_in grown (n.settled ++ n.waiting) ++ z ∷ []) is in
         record {
           there = λ y i. one_more_there (entries_in grown (n.settled ++ n.waiting)) accepted e m y (subst (IsIn y) apart (p.there y i));
           back = λ y i. p.back y (subst (IsIn y) (sym apart) (one_more_back (entries_in grown (n.settled ++ n.waiting)) accepted e m y i));
@@ -142,19 +146,20 @@ module _ (texts more : List (List ℕ)) where
     known_now : AllByRecursion (IsEntryOf (HasText grown)) (n.settled ++ put_in_order x n.waiting)
     known_now = each_from_in (IsEntryOf (HasText grown)) (n.settled ++ put_in_order x n.waiting) (λ y i.
         elim (in_append (n.settled ++ n.waiting) (x ∷ []) y ((put_members x n.settled n.waiting).there y i)) [
-            inl k ↦ in_from_each (IsEntryOf (HasText grown)) (n.settled ++ n.waiting) known_before y k
-          | inr k ↦ (elim k [ inl q ↦ subst (IsEntryOf (HasText grown)) (sym q) known | inr m ↦ absurd m ]) ])
+          | inl k ↦ in_from_each (IsEntryOf (HasText grown)) (n.settled ++ n.waiting) known_before y k
+          | inr k ↦ (elim k [ inl q ↦ subst (IsEntryOf (HasText grown)) (sym q) known | inr m ↦ absurd m ])
+        ])
 
     pub entries_grown : HasEntries new grown (accepted ++ e ∷ [])
     entries_grown = record {
-        settled = n.settled;
-        waiting = put_in_order x n.waiting;
-        stands = st;
-        members = members_now;
-        known = known_now;
-        distinct = arrivals_last accepted e n.below at n.distinct;
-        below = below_more accepted e n.below at;
-      }
+      settled = n.settled;
+      waiting = put_in_order x n.waiting;
+      stands = st;
+      members = members_now;
+      known = known_now;
+      distinct = arrivals_last accepted e n.below at n.distinct;
+      below = below_more accepted e n.below at;
+    }
 
 -- what a session stands for once the entry of an event is accepted
 pub accepted : (f : Frame) (x : Session) (s : State) (r : Represents f x s) → x.met ≡ true → length s.accepted < f.entries → (e : Event) (new : EngineState) (table : Table) (en : CodeEntry)
@@ -167,10 +172,10 @@ accepted f x s r was_met room e new table en a running texts limit distinct seen
     let now : table.texts ≡ x.symbols.texts ++ g.0 = texts ∙ g.1 in
     let is : entry_seen (x.symbols.texts ++ g.0) en ≡ entry_of_event (length s.accepted) e = ap (λ (t : List (List ℕ)). entry_seen t en) (sym now) ∙ seen ∙ ap (λ n. entry_of_event n e) (sym r.count) in
     let models : HasModels f x.engine.plans (record { texts = x.symbols.texts ++ g.0; limit = x.symbols.limit }) =
-        models_grown x.symbols.texts g.0 f x.engine.plans x.symbols.limit r.models (subst AreDistinct now distinct) in
+    models_grown x.symbols.texts g.0 f x.engine.plans x.symbols.limit r.models (subst AreDistinct now distinct) in
     let entries : HasEntries new (x.symbols.texts ++ g.0) (s.accepted ++ entry_of_event (length s.accepted) e ∷ []) =
-        entries_grown x.symbols.texts g.0 x.engine new s.accepted r.entries (entry_of en) (entry_of_event (length s.accepted) e) is refl
-          (subst (λ (t : List (List ℕ)). IsEntryIn t en) now known) st in
+    entries_grown x.symbols.texts g.0 x.engine new s.accepted r.entries (entry_of en) (entry_of_event (length s.accepted) e) is refl
+    (subst (λ (t : List (List ℕ)). IsEntryIn t en) now known) st in
     let table_is : record { texts = x.symbols.texts ++ g.0; limit = x.symbols.limit } ≡ table = (λ i. record { texts = sym now i; limit = sym limit i }) in
     record {
       models = subst (λ (p : Plans). HasModels f p table) (sym a.same_plans) (subst (HasModels f x.engine.plans) table_is models);

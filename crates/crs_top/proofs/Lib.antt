@@ -12,3 +12,4 @@ pub mod Recognising
 pub mod Completing
 pub mod Preparing
 pub mod OneText
+pub mod Stays

@@ -51,7 +51,7 @@ whole_of : (f : Frame) (t : ℕ) (bytes : List ℕ) (x : Session) (lines : Reade
 whole_of f t bytes x lines told text a k =
     let is : told ≡ given_lines 4096 0 (whole_lines bytes) = told_whole 4096 bytes told lines a.given a.none.1 in
     given_text f 0 (at_start f.texts) (whole_lines bytes) text (subst (λ (z : List ℕ). IsGivenText f (at_start f.texts) (given_lines 4096 0 (whole_lines bytes)) z) (sym k.written)
-      (subst (λ (gs : List Given). IsGivenText f (at_start f.texts) gs k.text) is k.says))
+    (subst (λ (gs : List Given). IsGivenText f (at_start f.texts) gs k.text) is k.says))
 
 -- what is written so far is the text of the whole lines
 appends : (f : Frame) (old : Told) (i t : ℕ) (x : Session) (lines : Reader) (now : Told) → Reading f old i t x lines now → Appends (IsWholeText f (take t (stream_at old.left i).rest)) old.written now.written
@@ -134,12 +134,12 @@ module _ (f : Frame) (old : Told) (i : ℕ) (lt : i < length old.left) (z : (str
   -- the reader behind the next piece
   at_more : (t n : ℕ) (lines now : Reader) (told : List Given) (bytes piece : List ℕ) (x y : Session) (text : List ℕ) → length piece ≡ n → IsAt t bytes lines told → (p : TakesPiece lines now x y piece text) → IsAt (t + n) (bytes ++ piece) now (told ++ p.told)
   at_more t n lines now told bytes piece x y text len a p = record {
-      limit = p.limit ∙ a.limit;
-      open_still = p.finished ∙ a.open_still;
-      fed = p.fed ∙ (λ j. a.fed j + len j);
-      none = p.none;
-      given = λ m. ap (given 4096 0) (append_assoc bytes piece m) ∙ a.given (piece ++ m) ∙ ap (λ (gs : List Given). told ++ gs) (p.ahead_is m) ∙ sym (append_assoc told p.told (ahead now m));
-    }
+    limit = p.limit ∙ a.limit;
+    open_still = p.finished ∙ a.open_still;
+    fed = p.fed ∙ (λ j. a.fed j + len j);
+    none = p.none;
+    given = λ m. ap (given 4096 0) (append_assoc bytes piece m) ∙ a.given (piece ++ m) ∙ ap (λ (gs : List Given). told ++ gs) (p.ahead_is m) ∙ sym (append_assoc told p.told (ahead now m));
+  }
 
   pub reading_more : (mid new last : Told) (t n : ℕ) (x y : Session) (lines now : Reader) (buf text : List ℕ)
       → (h : Reading f old i t x lines mid) → Reads mid i (Ok n) buf new → n ≤ length buf → 0 < n → TakesPiece lines now x y (take n buf) text → Wrote new text (length text) last → Reading f old i (t + n) y now last
@@ -210,19 +210,27 @@ module _ (f : Frame) (old : Told) (i : ℕ) (lt : i < length old.left) (z : (str
   stop_write mid new last limit t n x y lines now buf text stop either h r few pos p k w =
       let piece = piece_is mid new t n x lines buf h r in
       let at : IsAt (t + n) (take (t + n) log) now (h.told ++ p.told) =
-          subst (λ (bs : List ℕ). IsAt (t + n) bs now (h.told ++ p.told)) (sym piece) (at_more t n lines now h.told (take t log) (take n buf) x y text (length-take-le n buf few) h.at p) in
+      subst (λ (bs : List ℕ). IsAt (t + n) bs now (h.told ++ p.told)) (sym piece) (at_more t n lines now h.told (take t log) (take n buf) x y text (length-take-le n buf few) h.at p) in
       let takes = takes_append f x y (at_start f.texts) h.told p.told h.text text h.takes (p.takes f (after_all (setting_of f) (at_start f.texts) h.told) h.takes.state) in
       cut_short mid new last limit t n x y lines buf text stop either h r pos k w
-        (inl (t + n, omega arith, (h.text ++ text, length h.text + k, whole_of f (t + n) (take (t + n) log) y now (h.told ++ p.told) (h.text ++ text) at takes,
-          w.written ∙ rw (r.written, h.written, append_assoc) (ap (λ (y : List ℕ). old.written ++ y) (sym (take-append-add h.text text k))))))
+      (inl (
+        t + n,
+        omega arith,
+        (
+          h.text ++ text,
+          length h.text + k,
+          whole_of f (t + n) (take (t + n) log) y now (h.told ++ p.told) (h.text ++ text) at takes,
+          w.written ∙ rw (r.written, h.written, append_assoc) (ap (λ (y : List ℕ). old.written ++ y) (sym (take-append-add h.text text k))),
+        ),
+      ))
 
   -- memory was wanting before the piece's text was made
   pub stop_piece : (mid new : Told) (limit t n : ℕ) (x : Session) (lines : Reader) (buf : List ℕ) → (h : Reading f old i t x lines mid) → Reads mid i (Ok n) buf new → 0 < n → HasReadLog f old i limit (Err stops.Memory) new
   stop_piece mid new limit t n x lines buf h r pos =
       let a = appends f old i t x lines mid h in
       cut_short mid new new limit t n x x lines buf [] stops.Memory (inr refl) h r pos 0
-        (record { files = refl; opened = refl; left = refl; turns = refl; within = omega arith; written = sym (append-nil new.written) })
-        (inl (t, omega arith, (a.0, length a.0, a.1, r.written ∙ a.2 ∙ rw take-length refl)))
+      (record { files = refl; opened = refl; left = refl; turns = refl; within = omega arith; written = sym (append-nil new.written) })
+      (inl (t, omega arith, (a.0, length a.0, a.1, r.written ∙ a.2 ∙ rw take-length refl)))
 
   -- where the end was met
   module _ (mid new : Told) (limit t : ℕ) (x : Session) (lines : Reader) (buf : List ℕ) (h : Reading f old i t x lines mid) (r : Reads mid i (Ok 0) buf new) where
@@ -238,10 +246,20 @@ module _ (f : Frame) (old : Told) (i : ℕ) (lt : i < length old.left) (z : (str
     at_end : (last : Told) (k : ℕ) (text : List ℕ) (result : Result Bool Stop) → Wrote new text k last → Ended f old.written log limit t result last.written → HasReadLog f old i limit result last
     at_end last k text result w ended =
         let b : Base f old i t (h.more ++ turn_of mid i ∷ []) new = rw add-zero at (base_read mid new t 0 x lines buf h r) in
-        let c = base_write new last t k (h.more ++ turn_of mid i ∷ []) text b w in
-        (t, h.more ++ turn_of mid i ∷ [], record {
-          files = c.files; opened = c.opened; left = c.left; within = c.within; turns = c.turns; rises = rises_turn mid t x lines h; prompt = c.prompt; ended = ended;
-        })
+        let c = base_write new last t k (h.more ++ turn_of mid i ∷ []) text b w in (
+          t,
+          h.more ++ turn_of mid i ∷ [],
+          record {
+            files = c.files;
+            opened = c.opened;
+            left = c.left;
+            within = c.within;
+            turns = c.turns;
+            rises = rises_turn mid t x lines h;
+            prompt = c.prompt;
+            ended = ended;
+          },
+        )
 
     -- the text of the log
     module _ (y : Session) (text : List ℕ) (p : TakesRest lines x y text) where
@@ -255,7 +273,7 @@ module _ (f : Frame) (old : Told) (i : ℕ) (lt : i < length old.left) (z : (str
       log_text : IsLogText f log (h.text ++ text)
       log_text = given_text f 0 (at_start f.texts) (lines_of log) (h.text ++ text)
           (subst (λ (z : List ℕ). IsGivenText f (at_start f.texts) (given_lines 4096 0 (lines_of log)) z) (sym all_takes.written)
-            (subst (λ (gs : List Given). IsGivenText f (at_start f.texts) gs all_takes.text) (sym all_told) all_takes.says))
+          (subst (λ (gs : List Given). IsGivenText f (at_start f.texts) gs all_takes.text) (sym all_told) all_takes.says))
 
       log_refused : y.refused ≡ some_refused f log
       log_refused = all_takes.noted ∙ ap (refuses_some (setting_of f) (at_start f.texts)) (sym all_told) ∙ given_refused (setting_of f) 0 (at_start f.texts) (lines_of log)
@@ -280,14 +298,24 @@ module _ (f : Frame) (old : Told) (i : ℕ) (lt : i < length old.left) (z : (str
     end_refused =
         let a = appends f old i t x lines mid h in
         at_end new 0 [] (Err stops.Memory) (record { files = refl; opened = refl; left = refl; turns = refl; within = omega arith; written = sym (append-nil new.written) })
-          (inl (t, omega arith, (a.0, length a.0, a.1, r.written ∙ a.2 ∙ rw take-length refl)))
+        (inl (t, omega arith, (a.0, length a.0, a.1, r.written ∙ a.2 ∙ rw take-length refl)))
 
 -- nothing was read
 pub stop_before : (f : Frame) (t : Told) (i limit : ℕ) → HasReadLog f t i limit (Err stops.Memory) t
-stop_before f t i limit = (0, [], record {
-    files = refl; opened = refl; left = (took_none t i).left; within = omega arith; turns = sym (append-nil t.turns); rises = omega arith; prompt = tt;
+stop_before f t i limit = (
+  0,
+  [],
+  record {
+    files = refl;
+    opened = refl;
+    left = (took_none t i).left;
+    within = omega arith;
+    turns = sym (append-nil t.turns);
+    rises = omega arith;
+    prompt = tt;
     ended = inl (0, omega arith, ([], 0, refl, sym (append-nil t.written)));
-  })
+  },
+)
 
 -- where the rest was taken and written, or the write or the memory failed
 pub end_by : (f : Frame) (old mid new last : Told) (i limit t n : ℕ) (x : Session) (lines : Reader) (buf : List ℕ) (result : Result Bool Stop) → i < length old.left → (stream_at old.left i).taken ≡ 0 → Reading f old i t x lines mid

@@ -61,7 +61,7 @@ module _ (f : Frame) (x : Session) (s : State) (r : Represents f x s) (new : Eng
       let m' : HasMoved x.engine new t (t - s.delay) = subst (λ (d : ℕ). HasMoved x.engine new t (t - d)) (sym r.delay) m in
       let now : State = record s { last = t; horizon = t - s.delay } in
       let is : (now, Marked (AtClock t)) ≡ after_ordered (setting_of f) s (items.Clock t) =
-          (λ i. cond (sym (ap (nat_lt t) r.last ∙ fine) i) (s, run.Refused (run.Back t s.last)) (now, Marked (AtClock t))) in
+      (λ i. cond (sym (ap (nat_lt t) r.last ∙ fine) i) (s, run.Refused (run.Back t s.last)) (now, Marked (AtClock t))) in
       subst (λ (a : State × Outcome). Brings f x.refused (record x { engine = new }) n (settled s) s.horizon a out more) is (record {
         state = marked f x s r new (Clock t) answer (t - s.delay) m'.same_plans m'.moved (clock_rises t open_ fine) after t x.ended s.ended r.ended m' going (reached_met t (t - s.delay) s.ended (λ q. refl) (λ q. small));
         text = flat_map (line_in new.plans x.symbols.texts) answer;
@@ -75,9 +75,9 @@ module _ (f : Frame) (x : Session) (s : State) (r : Represents f x s) (new : Eng
       → AfterMark x.engine new Finish r.entries.settled r.entries.waiting answer → more ≡ out ++ flat_map (line_in new.plans x.symbols.texts) answer
       → Brings f x.refused (record x { engine = new; ended = true }) n (settled s) s.horizon (after_ordered (setting_of f) s items.Finish) out more
   end_brings n out more open_ m after written = record {
-      state = marked f x s r new Finish answer (2 ^ 42) m.same_plans m.moved (end_rises open_) after (2 ^ 42) true true refl m going (reached_met (2 ^ 42) (2 ^ 42) true (λ q. absurd (true≢false q)) (λ q. absurd (true≢false q)));
-      text = flat_map (line_in new.plans x.symbols.texts) answer;
-      says = mark_text f x s r new Finish answer (2 ^ 42) m.same_plans m.moved (end_rises open_) after;
-      written = written;
-      noted = or_false x.refused;
-    }
+    state = marked f x s r new Finish answer (2 ^ 42) m.same_plans m.moved (end_rises open_) after (2 ^ 42) true true refl m going (reached_met (2 ^ 42) (2 ^ 42) true (λ q. absurd (true≢false q)) (λ q. absurd (true≢false q)));
+    text = flat_map (line_in new.plans x.symbols.texts) answer;
+    says = mark_text f x s r new Finish answer (2 ^ 42) m.same_plans m.moved (end_rises open_) after;
+    written = written;
+    noted = or_false x.refused;
+  }

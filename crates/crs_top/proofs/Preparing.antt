@@ -48,21 +48,21 @@ module _ {S : Type 0} where
 
   proper_chronicle : (names : List (Name S)) (c : Chronicle S) → parsed.IsProperChronicle names c → compiled.IsProperChronicle c
   proper_chronicle names c h = record {
-      events_some = h.events_some;
-      events_few = h.events_few;
-      points_few = h.points_few;
-      variables_few = h.variables_few;
-      within = h.within;
-      named = h.named;
-      below = all_from (parsed.IsProperEvent names c) (λ v. PatternIsBelow (length c.variables) v.pattern) c.events (λ v k. k.below) h.events;
-      sets = h.sets;
-      differs = h.differs;
-      windows = all_from (parsed.IsProperWindow names c) (compiled.IsProperWindow (length c.events) (length c.variables)) c.windows (λ w k. record {
-          from = record { event = k.from.event; not_large = k.from.not_large; not_small = k.from.not_small };
-          to = record { event = k.to.event; not_large = k.to.not_large; not_small = k.to.not_small };
-          body = proper_body names (length c.variables) w.body k.body;
-        }) h.windows;
-    }
+    events_some = h.events_some;
+    events_few = h.events_few;
+    points_few = h.points_few;
+    variables_few = h.variables_few;
+    within = h.within;
+    named = h.named;
+    below = all_from (parsed.IsProperEvent names c) (λ v. PatternIsBelow (length c.variables) v.pattern) c.events (λ v k. k.below) h.events;
+    sets = h.sets;
+    differs = h.differs;
+    windows = all_from (parsed.IsProperWindow names c) (compiled.IsProperWindow (length c.events) (length c.variables)) c.windows (λ w k. record {
+      from = record { event = k.from.event; not_large = k.from.not_large; not_small = k.from.not_small };
+      to = record { event = k.to.event; not_large = k.to.not_large; not_small = k.to.not_small };
+      body = proper_body names (length c.variables) w.body k.body;
+    }) h.windows;
+  }
 
   pub proper_models : (m : Models S) → parsed.AreProper m → compiled.AreProper m
   proper_models m h = all_from (parsed.IsProperChronicle m.names) compiled.IsProperChronicle m.chronicles (proper_chronicle m.names) h.chronicles
@@ -156,43 +156,43 @@ module _ (symbols entries : ℕ) (text : List ℕ) (m : CodeModels) (table : Tab
 
     pub accepted : IsAccepted symbols entries text frame
     accepted = record {
-        read = read;
-        consistent = consistent;
-        windowless = subst (AllByRecursion (λ c. c.windows ≡ [])) (sym chronicles_are) (windowless_by table.texts (plans_of plans) windowless);
-        symbols_are = refl;
-        entries_are = refl;
-      }
+      read = read;
+      consistent = consistent;
+      windowless = subst (AllByRecursion (λ c. c.windows ≡ [])) (sym chronicles_are) (windowless_by table.texts (plans_of plans) windowless);
+      symbols_are = refl;
+      entries_are = refl;
+    }
 
     has_models : AreDistinct table.texts → table.limit ≡ symbols → HasModels frame plans table
     has_models distinct limit = record {
-        proper = plans_proper (plans_of plans) made;
-        windowless = windowless;
-        names = names_by table.texts m.names ∙ ap (map (name_seen table.texts)) (sym names);
-        names_in = subst (AreNamesIn table.texts) (sym names) numbered.names;
-        names_few = let a : length plans.names ≡ length m.names = ap length names in omega (arith, a, length-map m.names name_of, proper.names_few);
-        arities = subst (AllByRecursion (λ n. n.arity ≤ 8)) (sym names) (arities_by m.names proper.arities);
-        chronicles = chronicles_are;
-        chronicles_in = known_by table.texts (plans_of plans) (subst (λ (cs : List CodeChronicle). AllByRecursion (IsChronicleOf (HasText table.texts)) (map chronicle_of cs)) (sym chronicles) numbered.chronicles);
-        distinct = distinct;
-        limit = limit;
-      }
+      proper = plans_proper (plans_of plans) made;
+      windowless = windowless;
+      names = names_by table.texts m.names ∙ ap (map (name_seen table.texts)) (sym names);
+      names_in = subst (AreNamesIn table.texts) (sym names) numbered.names;
+      names_few = let a : length plans.names ≡ length m.names = ap length names in omega (arith, a, length-map m.names name_of, proper.names_few);
+      arities = subst (AllByRecursion (λ n. n.arity ≤ 8)) (sym names) (arities_by m.names proper.arities);
+      chronicles = chronicles_are;
+      chronicles_in = known_by table.texts (plans_of plans) (subst (λ (cs : List CodeChronicle). AllByRecursion (IsChronicleOf (HasText table.texts)) (map chronicle_of cs)) (sym chronicles) numbered.chronicles);
+      distinct = distinct;
+      limit = limit;
+    }
 
     -- the session at the start
     pub represented : (e : EngineState) → AreDistinct table.texts → table.limit ≡ symbols → e.plans ≡ plans → e.delay ≡ 0 → e.last ≡ 0 → e.horizon ≡ 0 → e.accepted ≡ 0 → e.limit ≡ entries → e.stopped ≡ false → StandsFor e [] []
         → Represents frame (record { engine = e; symbols = table; entries = entries; met = false; ended = false; refused = false }) (at_start table.texts)
     represented e distinct limit p delay last horizon count most running stands = record {
-        models = subst (λ (q : Plans). HasModels frame q table) (sym p) (has_models distinct limit);
-        entries = record { settled = []; waiting = []; stands = stands; members = record { there = λ x i. absurd i; back = λ x i. absurd i }; known = tt; distinct = tt; below = tt };
-        reached = record { fresh = λ _. (refl, refl, refl); open_horizon = λ _. omega arith; open_last = λ _. omega arith };
-        running = running;
-        texts = refl;
-        delay = sym delay;
-        last = sym last;
-        horizon = sym horizon;
-        count = sym count;
-        most = most;
-        few = omega arith;
-        most_here = refl;
-        met = refl;
-        ended = refl;
-      }
+      models = subst (λ (q : Plans). HasModels frame q table) (sym p) (has_models distinct limit);
+      entries = record { settled = []; waiting = []; stands = stands; members = record { there = λ x i. absurd i; back = λ x i. absurd i }; known = tt; distinct = tt; below = tt };
+      reached = record { fresh = λ _. (refl, refl, refl); open_horizon = λ _. omega arith; open_last = λ _. omega arith };
+      running = running;
+      texts = refl;
+      delay = sym delay;
+      last = sym last;
+      horizon = sym horizon;
+      count = sym count;
+      most = most;
+      few = omega arith;
+      most_here = refl;
+      met = refl;
+      ended = refl;
+    }

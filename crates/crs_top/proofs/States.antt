@@ -34,18 +34,40 @@ use Rattle.crs_top.proofs.Answered.{all_printable, answer_text}
 -- a refused line is noted
 pub noted : (f : Frame) (x : Session) (s : State) (b : Bool) → Represents f x s → Represents f (record x { refused = b }) s
 noted f x s b r = record {
-    models = r.models; entries = r.entries; reached = r.reached; running = r.running; texts = r.texts; delay = r.delay; last = r.last; horizon = r.horizon;
-    count = r.count; most = r.most; few = r.few; most_here = r.most_here; met = r.met; ended = r.ended;
-  }
+  models = r.models;
+  entries = r.entries;
+  reached = r.reached;
+  running = r.running;
+  texts = r.texts;
+  delay = r.delay;
+  last = r.last;
+  horizon = r.horizon;
+  count = r.count;
+  most = r.most;
+  few = r.few;
+  most_here = r.most_here;
+  met = r.met;
+  ended = r.ended;
+}
 
 -- an item was met
 pub met : (f : Frame) (x : Session) (s : State) → Represents f x s → Represents f (record x { met = true }) (is_met s)
 met f x s r = record {
-    models = r.models; entries = r.entries;
-    reached = record { fresh = λ e. absurd (true≢false e); open_horizon = r.reached.open_horizon; open_last = r.reached.open_last };
-    running = r.running; texts = r.texts; delay = r.delay; last = r.last; horizon = r.horizon;
-    count = r.count; most = r.most; few = r.few; most_here = r.most_here; met = refl; ended = r.ended;
-  }
+  models = r.models;
+  entries = r.entries;
+  reached = record { fresh = λ e. absurd (true≢false e); open_horizon = r.reached.open_horizon; open_last = r.reached.open_last };
+  running = r.running;
+  texts = r.texts;
+  delay = r.delay;
+  last = r.last;
+  horizon = r.horizon;
+  count = r.count;
+  most = r.most;
+  few = r.few;
+  most_here = r.most_here;
+  met = refl;
+  ended = r.ended;
+}
 
 stands_delayed : (e : EngineState) (d : ℕ) (settled waiting : List (Entry Sym)) → StandsFor e settled waiting → StandsFor (record e { delay = d }) settled waiting
 stands_delayed e d settled waiting h = record { settled_before = h.settled_before; waiting_after = h.waiting_after; in_order = h.in_order; numbered = h.numbered; held = h.held; stores = h.stores }
@@ -53,26 +75,35 @@ stands_delayed e d settled waiting h = record { settled_before = h.settled_befor
 -- the delay is set, where nothing was accepted and no clock was taken
 pub delayed : (f : Frame) (x : Session) (s : State) (d : ℕ) → IsUnused x.engine → Represents f x s → Represents f (record x { engine = record x.engine { delay = d } }) (record s { delay = d })
 delayed f x s d u r = record {
-    models = r.models;
-    entries = record {
-      settled = r.entries.settled;
-      waiting = r.entries.waiting;
-      stands = stands_delayed x.engine d r.entries.settled r.entries.waiting r.entries.stands;
-      members = r.entries.members;
-      known = r.entries.known;
-      distinct = r.entries.distinct;
-      below = r.entries.below;
-    };
-    reached = record { fresh = r.reached.fresh; open_horizon = λ q. omega (arith, r.horizon, r.last, u.start, u.horizon); open_last = r.reached.open_last };
-    running = r.running; texts = r.texts; delay = refl; last = r.last; horizon = r.horizon;
-    count = r.count; most = r.most; few = r.few; most_here = r.most_here; met = r.met; ended = r.ended;
-  }
+  models = r.models;
+  entries = record {
+    settled = r.entries.settled;
+    waiting = r.entries.waiting;
+    stands = stands_delayed x.engine d r.entries.settled r.entries.waiting r.entries.stands;
+    members = r.entries.members;
+    known = r.entries.known;
+    distinct = r.entries.distinct;
+    below = r.entries.below;
+  };
+  reached = record { fresh = r.reached.fresh; open_horizon = λ q. omega (arith, r.horizon, r.last, u.start, u.horizon); open_last = r.reached.open_last };
+  running = r.running;
+  texts = r.texts;
+  delay = refl;
+  last = r.last;
+  horizon = r.horizon;
+  count = r.count;
+  most = r.most;
+  few = r.few;
+  most_here = r.most_here;
+  met = r.met;
+  ended = r.ended;
+}
 
 pub same_renamed : (texts : List (List ℕ)) (xs ys : List (Entry Sym)) → HaveSameMembers xs ys → HaveSameMembers (entries_in texts xs) (entries_in texts ys)
 same_renamed texts xs ys s = record {
-    there = λ x i. let m = in_map_back (renamed_entry (text_in texts)) xs x i in subst (λ z. IsIn z (entries_in texts ys)) (sym m.2) (in_map (renamed_entry (text_in texts)) ys m.0 (s.there m.0 m.1));
-    back = λ x i. let m = in_map_back (renamed_entry (text_in texts)) ys x i in subst (λ z. IsIn z (entries_in texts xs)) (sym m.2) (in_map (renamed_entry (text_in texts)) xs m.0 (s.back m.0 m.1));
-  }
+  there = λ x i. let m = in_map_back (renamed_entry (text_in texts)) xs x i in subst (λ z. IsIn z (entries_in texts ys)) (sym m.2) (in_map (renamed_entry (text_in texts)) ys m.0 (s.there m.0 m.1));
+  back = λ x i. let m = in_map_back (renamed_entry (text_in texts)) ys x i in subst (λ z. IsIn z (entries_in texts xs)) (sym m.2) (in_map (renamed_entry (text_in texts)) xs m.0 (s.back m.0 m.1));
+}
 
 module _ (e : EngineState) (texts : List (List ℕ)) (accepted : List LogEntry) (n : HasEntries e texts accepted) where
   ascending : Ordered (λ a b. entry_cmp a b ≡ Less) (entries_in texts (n.settled ++ n.waiting))
@@ -105,16 +136,16 @@ module _ (e : EngineState) (texts : List (List ℕ)) (accepted : List LogEntry) 
   -- the entries after a mark
   pub parted : (new : EngineState) (h : ℕ) → new.horizon ≡ h → StandsFor new (n.settled ++ before new.horizon n.waiting) (since new.horizon n.waiting) → HasEntries new texts accepted
   parted new h q st = record {
-      settled = n.settled ++ before new.horizon n.waiting;
-      waiting = since new.horizon n.waiting;
-      stands = st;
-      members =
+    settled = n.settled ++ before new.horizon n.waiting;
+    waiting = since new.horizon n.waiting;
+    stands = st;
+    members =
         let p = same_renamed texts ((n.settled ++ before new.horizon n.waiting) ++ since new.horizon n.waiting) (n.settled ++ n.waiting) (parted_members new.horizon n.settled n.waiting) in
         record { there = λ x i. n.members.there x (p.there x i); back = λ x i. p.back x (n.members.back x i) };
-      known = known_parted new.horizon;
-      distinct = n.distinct;
-      below = n.below;
-    }
+    known = known_parted new.horizon;
+    distinct = n.distinct;
+    below = n.below;
+  }
 
 at_place : (rs : List (Rc Plan Global)) (k : ℕ) → option_map (λ (p : Rc Plan Global). chronicle_of p.value.chronicle) (slice_get rs k) ≡ option_map chronicle (slice_get (map (λ (r : Rc Plan Global). r.value) rs) k)
 at_place [] k = refl
@@ -135,18 +166,18 @@ module _ (f : Frame) (x : Session) (s : State) (r : Represents f x s) (new : Eng
   pub answer_printable : ArePrintable new.plans x.symbols.texts answer
   answer_printable = subst (λ (p : Plans). ArePrintable p x.symbols.texts answer) (sym kept)
       (all_printable x.symbols.texts r.models.distinct x.engine.plans mark r.entries.settled now x.engine.horizon new.horizon
-        (known_then x.engine x.symbols.texts s.accepted r.entries new.horizon) (known_settled x.engine x.symbols.texts s.accepted r.entries)
-        (plans_of x.engine.plans) 0 answer (stand_from x.engine.plans) r.models.proper r.models.chronicles_in r.models.windowless after.answers)
+      (known_then x.engine x.symbols.texts s.accepted r.entries new.horizon) (known_settled x.engine x.symbols.texts s.accepted r.entries)
+      (plans_of x.engine.plans) 0 answer (stand_from x.engine.plans) r.models.proper r.models.chronicles_in r.models.windowless after.answers)
 
   -- its lines are the text of the mark
   pub mark_text : IsMarkText f.models.chronicles mark (dated_before s.horizon s.accepted) s.horizon (dated_before h s.accepted) h (flat_map (line_in new.plans x.symbols.texts) answer)
   mark_text =
       let raw = answer_text x.symbols.texts r.models.distinct x.engine.plans mark r.entries.settled now x.engine.horizon new.horizon
-        (known_then x.engine x.symbols.texts s.accepted r.entries new.horizon) (known_settled x.engine x.symbols.texts s.accepted r.entries)
-        (plans_of x.engine.plans) 0 answer (stand_from x.engine.plans) r.models.proper r.models.chronicles_in r.models.windowless after.answers in
+      (known_then x.engine x.symbols.texts s.accepted r.entries new.horizon) (known_settled x.engine x.symbols.texts s.accepted r.entries)
+      (plans_of x.engine.plans) 0 answer (stand_from x.engine.plans) r.models.proper r.models.chronicles_in r.models.windowless after.answers in
       let was : entries_in x.symbols.texts r.entries.settled ≡ dated_before s.horizon s.accepted = settled_now x.engine x.symbols.texts s.accepted r.entries s.horizon r.horizon in
       let then : entries_in x.symbols.texts now ≡ dated_before h s.accepted =
-          ap (λ (k : ℕ). entries_in x.symbols.texts (r.entries.settled ++ before k r.entries.waiting)) horizon ∙ settled_then x.engine x.symbols.texts s.accepted r.entries h rises in
+      ap (λ (k : ℕ). entries_in x.symbols.texts (r.entries.settled ++ before k r.entries.waiting)) horizon ∙ settled_then x.engine x.symbols.texts s.accepted r.entries h rises in
       let a = subst (λ (cs : List (Chronicle (List ℕ))). IsMarkText cs mark (entries_in x.symbols.texts r.entries.settled) x.engine.horizon (entries_in x.symbols.texts now) new.horizon (flat_map (line_in x.engine.plans x.symbols.texts) answer)) (sym r.models.chronicles) raw in
       let b = subst (λ (was : List LogEntry). IsMarkText f.models.chronicles mark was x.engine.horizon (entries_in x.symbols.texts now) new.horizon (flat_map (line_in x.engine.plans x.symbols.texts) answer)) was a in
       let c = subst (λ (g : ℕ). IsMarkText f.models.chronicles mark (dated_before s.horizon s.accepted) g (entries_in x.symbols.texts now) new.horizon (flat_map (line_in x.engine.plans x.symbols.texts) answer)) (sym r.horizon) b in
@@ -158,18 +189,18 @@ module _ (f : Frame) (x : Session) (s : State) (r : Represents f x s) (new : Eng
   pub marked : (t : ℕ) (here there : Bool) → there ≡ here → HasMoved x.engine new t h → new.stopped ≡ false → IsReached (record s { last = t; horizon = h; ended = there })
       → Represents f (record x { engine = new; ended = here }) (record s { last = t; horizon = h; ended = there })
   marked t here there same m running reached = record {
-      models = subst (λ (p : Plans). HasModels f p x.symbols) (sym kept) r.models;
-      entries = parted x.engine x.symbols.texts s.accepted r.entries new h horizon after.stands;
-      reached = reached;
-      running = running;
-      texts = r.texts;
-      delay = r.delay ∙ sym m.same_delay;
-      last = sym m.clock;
-      horizon = sym m.moved;
-      count = r.count ∙ sym m.same_count;
-      most = m.same_limit ∙ r.most;
-      few = r.few;
-      most_here = r.most_here;
-      met = r.met;
-      ended = same;
-    }
+    models = subst (λ (p : Plans). HasModels f p x.symbols) (sym kept) r.models;
+    entries = parted x.engine x.symbols.texts s.accepted r.entries new h horizon after.stands;
+    reached = reached;
+    running = running;
+    texts = r.texts;
+    delay = r.delay ∙ sym m.same_delay;
+    last = sym m.clock;
+    horizon = sym m.moved;
+    count = r.count ∙ sym m.same_count;
+    most = m.same_limit ∙ r.most;
+    few = r.few;
+    most_here = r.most_here;
+    met = r.met;
+    ended = same;
+  }

@@ -92,8 +92,8 @@ takes_more f refused x new s gs g out mid more t brings =
       says = text_more f s gs g t.text b.text t.says b.says;
       written = b.written ∙ ap (λ (xs : List ℕ). xs ++ b.text) t.written ∙ append_assoc out t.text b.text;
       noted = b.noted ∙ ap (λ c. c || is_refused (after_given (setting_of f) (after_all (setting_of f) s gs) g).1) t.noted
-        ∙ or_assoc refused (refuses_some (setting_of f) s gs) (is_refused (after_given (setting_of f) (after_all (setting_of f) s gs) g).1)
-        ∙ ap (λ c. refused || c) (sym (refuses_more (setting_of f) s gs g));
+          ∙ or_assoc refused (refuses_some (setting_of f) s gs) (is_refused (after_given (setting_of f) (after_all (setting_of f) s gs) g).1)
+          ∙ ap (λ c. refused || c) (sym (refuses_more (setting_of f) s gs g));
     }
 
 no_rest : (b : Bool) (rest : List ℕ) → b ≡ true → (if b then [] else rest) ≡ rest → rest ≡ []
@@ -129,9 +129,9 @@ given_text f n s (l ∷ ls) text h =
     let same : after_given c s g ≡ run.after_line c s l = line_is c s (n + 1) l in
     let number : number_of g ≡ n + 1 = number_by (n + 1) l (is_longer line_limit l) in
     let rest : IsTextFrom c f.models.chronicles (n + 1 + 1) (run.after_line c s l).0 ls h.1 =
-        subst (λ (z : State). IsTextFrom c f.models.chronicles (n + 1 + 1) z ls h.1) (ap (λ a. a.0) same) (given_text f (n + 1) (after_given c s g).0 ls h.1 h.3) in
+    subst (λ (z : State). IsTextFrom c f.models.chronicles (n + 1 + 1) z ls h.1) (ap (λ a. a.0) same) (given_text f (n + 1) (after_given c s g).0 ls h.1 h.3) in
     let first : IsLineText f.models.chronicles (n + 1) s (run.after_line c s l) h.0 =
-        subst (λ (a : State × Outcome). IsLineText f.models.chronicles (n + 1) s a h.0) same (subst (λ (k : ℕ). IsLineText f.models.chronicles k s (after_given c s g) h.0) number h.2) in
+    subst (λ (a : State × Outcome). IsLineText f.models.chronicles (n + 1) s a h.0) same (subst (λ (k : ℕ). IsLineText f.models.chronicles k s (after_given c s g) h.0) number h.2) in
     (h.0, h.1, first, rest, h.4)
 
 pub given_refused : (c : Setting) (n : ℕ) (s : State) (ls : List Line) → refuses_some c s (given_lines line_limit n ls) ≡ list_any is_refused (run.outcomes c s ls)
@@ -160,9 +160,9 @@ text_append f s (x ∷ xs) ys a b h k = (h.0, h.1 ++ b, h.2, text_append f (afte
 pub takes_append : (f : Frame) (x new : Session) (s : State) (xs ys : List Given) (a text : List ℕ) → Takes f false x s xs [] a
     → Takes f x.refused new (after_all (setting_of f) s xs) ys [] text → Takes f false new s (xs ++ ys) [] (a ++ text)
 takes_append f x new s xs ys a text t u = record {
-    state = subst (λ (z : State). Represents f new z) (sym (after_append (setting_of f) s xs ys)) u.state;
-    text = a ++ text;
-    says = text_append f s xs ys a text (subst (IsGivenText f s xs) (sym t.written) t.says) (subst (IsGivenText f (after_all (setting_of f) s xs) ys) (sym u.written) u.says);
-    written = refl;
-    noted = u.noted ∙ ap (λ b. b || refuses_some (setting_of f) (after_all (setting_of f) s xs) ys) t.noted ∙ sym (refuses_append (setting_of f) s xs ys);
-  }
+  state = subst (λ (z : State). Represents f new z) (sym (after_append (setting_of f) s xs ys)) u.state;
+  text = a ++ text;
+  says = text_append f s xs ys a text (subst (IsGivenText f s xs) (sym t.written) t.says) (subst (IsGivenText f (after_all (setting_of f) s xs) ys) (sym u.written) u.says);
+  written = refl;
+  noted = u.noted ∙ ap (λ b. b || refuses_some (setting_of f) (after_all (setting_of f) s xs) ys) t.noted ∙ sym (refuses_append (setting_of f) s xs ys);
+}

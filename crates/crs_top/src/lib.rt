@@ -11,12 +11,11 @@ mod run;
 mod session;
 mod status;
 mod step;
-mod words;
-
 #[cfg(test)]
 mod tests;
+mod words;
 
-pub use laws::log_text_is_one;
+pub use laws::{log_text_is_one, recognised_stays};
 pub use limits::{Limits, STANDARD};
 pub use run::{run_program, run_with};
 pub use status::Status;

@@ -62,11 +62,7 @@ fn take_piece(
 }
 
 /// The text of a last line that has no line feed.
-fn take_rest(
-    alloc: Global,
-    session: &mut Session,
-    lines: &mut Lines,
-) -> Result<Vec<u8>, AllocError>
+fn take_rest(alloc: Global, session: &mut Session, lines: &mut Lines) -> Result<Vec<u8>, AllocError>
     requires ready { IsReady session.old }
     requires limit { lines.old.limit ≡ 4096 }
     ensures { IfOk result (λ v. TakesRest lines.old session.old session.new v.items) }

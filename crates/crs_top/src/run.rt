@@ -130,13 +130,7 @@ fn refuse<D: Desk>(alloc: Global, desk: &mut D, line: u32, word: ModelWord) -> S
 }
 
 /// Opens a log and reads it to its end.
-fn follow<D: Desk>(
-    alloc: Global,
-    desk: &mut D,
-    log: &str,
-    limit: u64,
-    session: Session,
-) -> Status
+fn follow<D: Desk>(alloc: Global, desk: &mut D, log: &str, limit: u64, session: Session) -> Status
     requires inputs { D.inputs desk.old < 2 ^ 32 - 1 }
     requires ready { IsReady session }
     requires unrefused { session.refused ≡ false }

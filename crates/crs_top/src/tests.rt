@@ -6,7 +6,8 @@ use crs_desk::MemoryDesk;
 use std::alloc::{AllocError, Global};
 use std::test::Fail;
 
-const MODELS: &str = "message a 0\nmessage b 0\nchronicle c {\n  event(a, t1)\n  event(b, t2)\n  t2 - t1 in [1, 5]\n}\n";
+const MODELS: &str =
+    "message a 0\nmessage b 0\nchronicle c {\n  event(a, t1)\n  event(b, t2)\n  t2 - t1 in [1, 5]\n}\n";
 
 fn words_of(alloc: Global) -> Result<Vec<String>, AllocError> {
     let mut words = Vec::new(alloc);
@@ -31,18 +32,48 @@ fn worked_logs(rt: HostRuntime) -> Result<(), Fail> {
     let words = words_of(alloc)?;
     for (models, log, status, output) in [
         (MODELS, "", Status::Done, ""),
-        (MODELS, "10 a\n12 b\nclock 13\n", Status::Done, "c at 13 t1=10 t2=12\n"),
-        (MODELS, "10 a\n12 b\nclock 13", Status::Done, "c at 13 t1=10 t2=12\n"),
-        (MODELS, "delay 2\n12 b\n10 a\nclock 14\nclock 15\n", Status::Done, "c at 15 t1=10 t2=12\n"),
+        (
+            MODELS,
+            "10 a\n12 b\nclock 13\n",
+            Status::Done,
+            "c at 13 t1=10 t2=12\n",
+        ),
+        (
+            MODELS,
+            "10 a\n12 b\nclock 13",
+            Status::Done,
+            "c at 13 t1=10 t2=12\n",
+        ),
+        (
+            MODELS,
+            "delay 2\n12 b\n10 a\nclock 14\nclock 15\n",
+            Status::Done,
+            "c at 15 t1=10 t2=12\n",
+        ),
         (
             MODELS,
             "delay 2\n10 a\n12 b\nclock 14\nclock 15\n12 b\n13 b\nclock 16\n",
             Status::Refusals,
             "c at 15 t1=10 t2=12\nline 6 late 12 13\nc at 16 t1=10 t2=13\n",
         ),
-        (MODELS, "clock 20\nclock 19\nclock 20\n", Status::Refusals, "line 2 back 19 20\n"),
-        (MODELS, "1 a\ndelay 2\nend\n2 a\n", Status::Refusals, "line 2 order\nline 4 order\n"),
-        (MODELS, "1 a\n3 b\nend\n", Status::Done, "c at end t1=1 t2=3\n"),
+        (
+            MODELS,
+            "clock 20\nclock 19\nclock 20\n",
+            Status::Refusals,
+            "line 2 back 19 20\n",
+        ),
+        (
+            MODELS,
+            "1 a\ndelay 2\nend\n2 a\n",
+            Status::Refusals,
+            "line 2 order\nline 4 order\n",
+        ),
+        (
+            MODELS,
+            "1 a\n3 b\nend\n",
+            Status::Done,
+            "c at end t1=1 t2=3\n",
+        ),
         (
             "message a 0\nchronicle twin {\n  event(a, t1)\n  event(a, t2)\n  t2 - t1 in [0, 5]\n}\n",
             "5 a\n5 a\nclock 6\n",
@@ -61,12 +92,20 @@ fn worked_logs(rt: HostRuntime) -> Result<(), Fail> {
             Status::Rejected,
             "model line 6 form\n",
         ),
-        ("message a 0\nmessage a 1\n", "", Status::Rejected, "model line 2 twice\n"),
+        (
+            "message a 0\nmessage a 1\n",
+            "",
+            Status::Rejected,
+            "model line 2 twice\n",
+        ),
     ] {
         for piece in [1, 4096] {
             let mut desk = desk_of(alloc, models, log)?;
             desk.set_piece(piece);
-            assert_eq!(rt; run_with(alloc, words.as_slice(), STANDARD, &mut desk), status);
+            assert_eq!(rt;
+                run_with(alloc, words.as_slice(), STANDARD, &mut desk),
+                status
+            );
             assert!(rt; desk.written() == output.as_bytes(), "in pieces of {piece}");
         }
     }
@@ -79,12 +118,52 @@ fn small_limits(rt: HostRuntime) -> Result<(), Fail> {
     let words = words_of(alloc)?;
     let lone = "message a 1\nchronicle c {\nevent(a[?x], t1)\n}\n";
     for (models, log, symbols, entries, bytes, status, output) in [
-        (MODELS, "1 a\n3 b\nclock 4\n", 9, 1, 99, Status::Refusals, "line 2 full 1\n"),
-        (lone, "1 a[p]\n1 a[c]\nclock 2\n", 4, 9, 99, Status::Refusals, "line 1 values 4\nc at 2 t1=1 ?x=c\n"),
-        (MODELS, "1 a\n3 b\nclock 4\n", 9, 9, 17, Status::Done, "c at 4 t1=1 t2=3\n"),
-        (MODELS, "1 a\n3 b\nclock 4\n", 9, 9, 16, Status::TooLong, "c at 4 t1=1 t2=3\n"),
+        (
+            MODELS,
+            "1 a\n3 b\nclock 4\n",
+            9,
+            1,
+            99,
+            Status::Refusals,
+            "line 2 full 1\n",
+        ),
+        (
+            lone,
+            "1 a[p]\n1 a[c]\nclock 2\n",
+            4,
+            9,
+            99,
+            Status::Refusals,
+            "line 1 values 4\nc at 2 t1=1 ?x=c\n",
+        ),
+        (
+            MODELS,
+            "1 a\n3 b\nclock 4\n",
+            9,
+            9,
+            17,
+            Status::Done,
+            "c at 4 t1=1 t2=3\n",
+        ),
+        (
+            MODELS,
+            "1 a\n3 b\nclock 4\n",
+            9,
+            9,
+            16,
+            Status::TooLong,
+            "c at 4 t1=1 t2=3\n",
+        ),
         (MODELS, "1 a\n3 b\nclock 4\n", 9, 9, 12, Status::TooLong, ""),
-        (MODELS, "1 a\n", 4, 9, 99, Status::Rejected, "model line 5 limit\n"),
+        (
+            MODELS,
+            "1 a\n",
+            4,
+            9,
+            99,
+            Status::Rejected,
+            "model line 5 limit\n",
+        ),
     ] {
         let limits = Limits {
             symbols,
@@ -92,7 +171,10 @@ fn small_limits(rt: HostRuntime) -> Result<(), Fail> {
             bytes,
         };
         let mut desk = desk_of(alloc, models, log)?;
-        assert_eq!(rt; run_with(alloc, words.as_slice(), limits, &mut desk), status);
+        assert_eq!(rt;
+            run_with(alloc, words.as_slice(), limits, &mut desk),
+            status
+        );
         assert!(rt; desk.written() == output.as_bytes());
     }
     Ok(())
@@ -116,12 +198,21 @@ fn failing_calls(rt: HostRuntime) -> Result<(), Fail> {
         desk.fail_open(open)?;
         desk.fail_read("l", read)?;
         desk.fail_write(write)?;
-        assert_eq!(rt; run_with(alloc, words.as_slice(), STANDARD, &mut desk), status);
+        assert_eq!(rt;
+            run_with(alloc, words.as_slice(), STANDARD, &mut desk),
+            status
+        );
         assert!(rt; desk.written() == lines.as_bytes());
     }
     let mut desk = MemoryDesk::new(alloc);
-    assert_eq!(rt; run_with(alloc, words.as_slice(), STANDARD, &mut desk), Status::ReadFault);
-    assert_eq!(rt; run_with(alloc, &words[..2], STANDARD, &mut desk), Status::Words);
+    assert_eq!(rt;
+        run_with(alloc, words.as_slice(), STANDARD, &mut desk),
+        Status::ReadFault
+    );
+    assert_eq!(rt;
+        run_with(alloc, &words[..2], STANDARD, &mut desk),
+        Status::Words
+    );
     assert!(rt; desk.written().is_empty());
     Ok(())
 }

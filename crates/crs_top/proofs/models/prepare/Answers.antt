@@ -16,7 +16,7 @@ returns-in-Err-compile-clause-refused c =
 pub returns-in-Some-clause-refused : goal.returns-in-Some-clause-refused
 returns-in-Some-clause-refused c =
     rejected_windowed c.args.limits.symbols c.args.limits.entries c.args.text.now c.in-Ok-read_models.models c.read_models.new.symbols c.in-Ok-compile.plans (rw c.in-Ok.ensures.ok at c.in-Ok-read_models.ensures.ok) c.in-Ok-read_models.ensures.numbered c.in-Ok-read_models.ensures.proper
-      c.in-Ok-compile.ensures.names c.in-Ok-compile.ensures.chronicles c.in-Ok-compile.ensures.plans c.in-Some.line (rw c.as_slice.ensures at c.in-Some.ensures)
+    c.in-Ok-compile.ensures.names c.in-Ok-compile.ensures.chronicles c.in-Ok-compile.ensures.plans c.in-Some.line (rw c.as_slice.ensures at c.in-Some.ensures)
 
 pub new-requires-2-clause-proper : goal.new-requires-2-clause-proper
 new-requires-2-clause-proper c = by_value IsProper c.in-Ok-compile.plans.plans (plans_proper (plans_of c.in-Ok-compile.plans) c.in-Ok-compile.ensures.plans)
@@ -24,7 +24,7 @@ new-requires-2-clause-proper c = by_value IsProper c.in-Ok-compile.plans.plans (
 pub new-requires-2-clause-windowless : goal.new-requires-2-clause-windowless
 new-requires-2-clause-windowless c =
     by_value (λ p. (chronicle p).windows ≡ []) c.in-Ok-compile.plans.plans (plans_windowless c.args.limits.symbols c.args.limits.entries c.args.text.now c.in-Ok-read_models.models c.read_models.new.symbols c.in-Ok-compile.plans (rw c.in-Ok.ensures.ok at c.in-Ok-read_models.ensures.ok) c.in-Ok-read_models.ensures.numbered c.in-Ok-read_models.ensures.proper
-      c.in-Ok-compile.ensures.names c.in-Ok-compile.ensures.chronicles c.in-Ok-compile.ensures.plans (rw (c.as_slice.ensures, c.in_default-first_windowed.is) at c.first_windowed.ensures))
+    c.in-Ok-compile.ensures.names c.in-Ok-compile.ensures.chronicles c.in-Ok-compile.ensures.plans (rw (c.as_slice.ensures, c.in_default-first_windowed.is) at c.first_windowed.ensures))
 
 pub returns-clause-ok : goal.returns-clause-ok
 returns-clause-ok c =
@@ -40,6 +40,6 @@ returns-clause-ok c =
       frame = frame c.args.limits.symbols c.args.limits.entries c.args.text.now m table plans read r.numbered r.proper e.names e.chronicles e.plans;
       accepted = accepted c.args.limits.symbols c.args.limits.entries c.args.text.now m table plans read r.numbered r.proper e.names e.chronicles e.plans none;
       represents =
-        represented c.args.limits.symbols c.args.limits.entries c.args.text.now m table plans read r.numbered r.proper e.names e.chronicles e.plans none c.in-Ok-new.engine c.len.ensures.distinct (r.limit ∙ ap (λ t. t.limit) c.in-Ok.ensures.ok) n.new.same_plans n.new.no_delay n.new.no_clock n.new.at_start n.new.none_accepted n.new.same_limit n.new.running n.stands;
+          represented c.args.limits.symbols c.args.limits.entries c.args.text.now m table plans read r.numbered r.proper e.names e.chronicles e.plans none c.in-Ok-new.engine c.len.ensures.distinct (r.limit ∙ ap (λ t. t.limit) c.in-Ok.ensures.ok) n.new.same_plans n.new.no_delay n.new.no_clock n.new.at_start n.new.none_accepted n.new.same_limit n.new.running n.stands;
       unrefused = refl;
     }

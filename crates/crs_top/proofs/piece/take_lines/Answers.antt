@@ -10,7 +10,7 @@ use Rattle.crs_top.proofs.piece.take_lines.Goals as goal
 pub take_line-requires-clause-short : goal.take_line-requires-clause-short
 take_line-requires-clause-short c =
     given_short c.loop-line.lines c.next_line.follows.lender-at-none (seen c.in-Some.line) (c.loop-line.invariant.limit ∙ c.requires.limit)
-      (rw c.in-Some.is at c.next_line.follows.holds-at-none)
+    (rw c.in-Some.is at c.next_line.follows.holds-at-none)
 
 pub loop-line-preserved : goal.loop-line-preserved
 loop-line-preserved c =

@@ -35,11 +35,11 @@ returns-in-Err-Values c =
     let limit = c.in-Err-Values.limit in
     let why = rw c.in-Err-Values.field-0-is at c.in-Err-Values.ensures.err in
     both_ok c.refuse-in-Err-Values.result _ _
-      (BringsAll x c.refuse-in-Err-Values.new.session c.args.number (λ f s. after_named (setting_of f) s e) c.args.out.now.items c.refuse-in-Err-Values.new.out.items)
-      c.refuse-in-Err-Values.ensures.written c.refuse-in-Err-Values.ensures.noted
-      (λ w m f s r. refused_brings f x s r c.args.number (run.Values limit) (after_named (setting_of f) s e) c.refuse-in-Err-Values.new.session c.args.out.now.items c.refuse-in-Err-Values.new.out.items
-        (values_is f x s r e (λ q. not_true c.is_full.result c.if-is_full.false (c.is_full.ensures.1 q)) limit why.0 why.2)
-        (m ∙ ap (λ t. record x { symbols = t; refused = true }) why.1) w)
+    (BringsAll x c.refuse-in-Err-Values.new.session c.args.number (λ f s. after_named (setting_of f) s e) c.args.out.now.items c.refuse-in-Err-Values.new.out.items)
+    c.refuse-in-Err-Values.ensures.written c.refuse-in-Err-Values.ensures.noted
+    (λ w m f s r. refused_brings f x s r c.args.number (run.Values limit) (after_named (setting_of f) s e) c.refuse-in-Err-Values.new.session c.args.out.now.items c.refuse-in-Err-Values.new.out.items
+    (values_is f x s r e (λ q. not_true c.is_full.result c.if-is_full.false (c.is_full.ensures.1 q)) limit why.0 why.2)
+    (m ∙ ap (λ t. record x { symbols = t; refused = true }) why.1) w)
 
 pub returns-in-Ok-accept : goal.returns-in-Ok-accept
 returns-in-Ok-accept c = λ f s r.
@@ -47,7 +47,7 @@ returns-in-Ok-accept c = λ f s r.
     let e = event_seen c.args.line.now c.args.raw.now in
     let arrival : c.accepted-arrival.result ≡ x.engine.accepted = c.accepted-arrival.ensures in
     accept_brings f x s r e (λ q. not_true c.is_full.result c.if-is_full.false (c.is_full.ensures.1 q)) c.requires.met c.args.number c.accept.new.self c.make_entry.new.symbols c.in-Ok.entry c.args.out.now.items
-      c.in-Ok-accept.ensures.accepted (still_running x.engine.stopped c.accept.new.self.stopped tt r.running c.in-Ok-accept.ensures.raised) c.in-Ok.ensures.texts c.in-Ok.ensures.limit c.len.ensures.distinct
-      (omega (arith, c.in-Ok.ensures.room))
-      (c.in-Ok.ensures.entry ∙ ap (λ n. entry_of_event n e) arrival) c.in-Ok.ensures.within
-      (c.in-Ok-accept.ensures.stands r.entries.settled r.entries.waiting r.entries.stands)
+    c.in-Ok-accept.ensures.accepted (still_running x.engine.stopped c.accept.new.self.stopped tt r.running c.in-Ok-accept.ensures.raised) c.in-Ok.ensures.texts c.in-Ok.ensures.limit c.len.ensures.distinct
+    (omega (arith, c.in-Ok.ensures.room))
+    (c.in-Ok.ensures.entry ∙ ap (λ n. entry_of_event n e) arrival) c.in-Ok.ensures.within
+    (c.in-Ok-accept.ensures.stands r.entries.settled r.entries.waiting r.entries.stands)

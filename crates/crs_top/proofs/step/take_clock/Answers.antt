@@ -22,22 +22,22 @@ push_answer-requires c =
     let m : HasMoved x.engine new c.args.t (c.args.t - s.delay) = subst (λ (d : ℕ). HasMoved x.engine new c.args.t (c.args.t - d)) (sym r.delay) c.in-Ok.ensures.moved in
     let fine = clock_fine x.engine c.args.t c.in-Ok.answer r.running c.in-Ok.ensures.refused in
     let p = answer_printable f x s r new _ c.in-Ok.answer (c.args.t - s.delay) m.same_plans m.moved
-      (clock_rises f x s r new c.in-Ok.answer c.requires.met (still_running x.engine.stopped new.stopped c.in-Ok.answer r.running c.in-Ok.ensures.raised) c.args.t c.requires.open fine)
-      (c.in-Ok.ensures.marked r.entries.settled r.entries.waiting r.entries.stands) in
+    (clock_rises f x s r new c.in-Ok.answer c.requires.met (still_running x.engine.stopped new.stopped c.in-Ok.answer r.running c.in-Ok.ensures.raised) c.args.t c.requires.open fine)
+    (c.in-Ok.ensures.marked r.entries.settled r.entries.waiting r.entries.stands) in
     subst (λ (q : Plans). ArePrintable q x.symbols.texts c.as_slice.result.now) (sym c.plans.ensures)
-      (subst (λ (a : List Recognition). ArePrintable new.plans x.symbols.texts a) (sym c.as_slice.ensures) p)
+    (subst (λ (a : List Recognition). ArePrintable new.plans x.symbols.texts a) (sym c.as_slice.ensures) p)
 
 pub returns-in-Ok : goal.returns-in-Ok
 returns-in-Ok c =
     let x = c.args.session.now in
     let new = c.clock.new.self in
     IfOk-weaker c.push_answer.result
-      (λ _. c.push_answer.new.out.items ≡ c.args.out.now.items ++ flat_map (line_in c.plans.result.now x.symbols.texts) c.as_slice.result.now)
-      (λ _. BringsAll x (record x { engine = new }) c.args.number (λ f s. after_ordered (setting_of f) s (Clock c.args.t)) c.args.out.now.items c.push_answer.new.out.items)
-      (λ _ h f s r.
-        let w : c.push_answer.new.out.items ≡ c.args.out.now.items ++ flat_map (line_in new.plans x.symbols.texts) c.in-Ok.answer =
-            h ∙ (λ i. c.args.out.now.items ++ flat_map (line_in (c.plans.ensures i) x.symbols.texts) (c.as_slice.ensures i)) in
-        clock_brings f x s r new c.in-Ok.answer c.requires.met (still_running x.engine.stopped new.stopped c.in-Ok.answer r.running c.in-Ok.ensures.raised) c.args.t c.args.number c.args.out.now.items c.push_answer.new.out.items c.requires.open c.requires.date
-          (clock_fine x.engine c.args.t c.in-Ok.answer r.running c.in-Ok.ensures.refused) c.in-Ok.ensures.moved
-          (c.in-Ok.ensures.marked r.entries.settled r.entries.waiting r.entries.stands) w)
-      c.push_answer.ensures
+    (λ _. c.push_answer.new.out.items ≡ c.args.out.now.items ++ flat_map (line_in c.plans.result.now x.symbols.texts) c.as_slice.result.now)
+    (λ _. BringsAll x (record x { engine = new }) c.args.number (λ f s. after_ordered (setting_of f) s (Clock c.args.t)) c.args.out.now.items c.push_answer.new.out.items)
+    (λ _ h f s r.
+    let w : c.push_answer.new.out.items ≡ c.args.out.now.items ++ flat_map (line_in new.plans x.symbols.texts) c.in-Ok.answer =
+    h ∙ (λ i. c.args.out.now.items ++ flat_map (line_in (c.plans.ensures i) x.symbols.texts) (c.as_slice.ensures i)) in
+    clock_brings f x s r new c.in-Ok.answer c.requires.met (still_running x.engine.stopped new.stopped c.in-Ok.answer r.running c.in-Ok.ensures.raised) c.args.t c.args.number c.args.out.now.items c.push_answer.new.out.items c.requires.open c.requires.date
+    (clock_fine x.engine c.args.t c.in-Ok.answer r.running c.in-Ok.ensures.refused) c.in-Ok.ensures.moved
+    (c.in-Ok.ensures.marked r.entries.settled r.entries.waiting r.entries.stands) w)
+    c.push_answer.ensures
