@@ -1,8 +1,9 @@
-ghost use Rattle.std.specs.Prelude.{◌≡◌, ℕ, ◌<◌, ◌≤◌, ◌-◌, ◌^◌, List, [], ◌∷◌, ◌++◌, length, IfOk, OnErr, OnOk, IsErrOf, IsTrue, position, bytes_eq, option_map, false, true, is_some, IfSome, IfErr, IsOk, IsErr, ◌+◌};
+ghost use Rattle.std.specs.Prelude.{◌≡◌, ℕ, ◌<◌, ◌≤◌, ◌-◌, ◌^◌, List, [], ◌∷◌, ◌++◌, length, IfOk, OnErr, OnOk, IsErrOf, IsTrue, position, bytes_eq, option_map, false, true, is_some, IfSome, IfErr, IsOk, Err, ◌+◌};
 ghost use Rattle.std.specs.List.{position_or_len, IsDistinct, list_all};
 ghost use Rattle.crs_base.specs.Symbols.{is_symbol, is_symbol_byte, is_known, with_text, text_at, AreDistinct};
 ghost use Rattle.crs_base.specs.TextSet.{texts_of};
 ghost use Rattle.crs_base.specs.Refusals.{IsRefusal};
+ghost use Rattle.crs_base.specs.declared.symbols.SymRefused.TheVariants.{Values};
 
 use indexmap::IndexSet;
 use std::alloc::{AllocError, Global};
@@ -142,7 +143,7 @@ impl Symbols {
         ensures limit { self.new.limit ≡ self.old.limit }
         ensures err { OnErr result (self.new ≡ self.old) }
         ensures refused { IfErr result (IsRefusal self.old text.now) }
-        ensures room { is_known self.old.texts text.now ≡ false → length self.old.texts ≡ self.old.limit → IsErr result }
+        ensures room { is_known self.old.texts text.now ≡ false → length self.old.texts ≡ self.old.limit → result ≡ Err (Values self.old.limit) }
         ensures known { is_known self.old.texts text.now ≡ true → IsOk result }
     {
         if let Some(s) = self.find(text) {

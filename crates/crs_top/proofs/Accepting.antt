@@ -1,7 +1,6 @@
 -- What a refused line and an accepted event bring.
 use Rattle.std.proofs.Common.{◌≡◌, ◌≢◌, ◌<◌, ◌≤◌, ℕ, ◌+◌, Bool, true, false, cond, List, [], ◌++◌, length, nat_lt, nat_le, refl, sym, ap, subst, ◌∙◌, arith, append-nil, lt-ltb}
-use Rattle.std.specs.Prelude.{◌||◌, IsTrue, ◌↔◌}
-use Rattle.std.proofs.lemmas.Bool.{leb-true}
+use Rattle.std.specs.Prelude.{◌||◌}
 use Rattle.crs_base.specs.declared.entry.Entry.{Entry as CodeEntry}
 use Rattle.crs_base.specs.Seen.{entry_of}
 use Rattle.crs_base.specs.Symbols.{Table, AreDistinct}

@@ -1,6 +1,6 @@
 -- What is written for the answer of a clock mark is the mark's text.
-use Rattle.std.proofs.Common.{◌≡◌, ◌<◌, ◌≤◌, ℕ, ◌+◌, zero, suc, List, [], ◌∷◌, ◌++◌, map, length, refl, sym, ap, subst, ◌∙◌, arith, append_assoc, inl, inr}
-use Rattle.std.specs.Prelude.{Option, Some, None, IfSome, IsSomeAnd, slice_get, option_map, flat_map}
+use Rattle.std.proofs.Common.{◌≡◌, ℕ, ◌+◌, suc, List, [], ◌∷◌, ◌++◌, map, length, refl, sym, ap, subst, ◌∙◌, arith, append_assoc, inl, inr}
+use Rattle.std.specs.Prelude.{Option, Some, IsSomeAnd, slice_get, option_map, flat_map}
 use Rattle.std.specs.Option.{option_map_or}
 use Rattle.std.specs.List.{AllByRecursion}
 use Rattle.std.proofs.lemmas.List.{length-map}
@@ -8,25 +8,23 @@ use Rattle.crs_base.specs.declared.symbols.Sym.{Sym}
 use Rattle.crs_base.specs.Entry.{Entry}
 use Rattle.crs_base.specs.Symbols.{AreDistinct}
 use Rattle.crs_base.specs.Words.{IsIn}
-use Rattle.crs_base.proofs.Words.{each_from_in, in_from_each, in_map}
+use Rattle.crs_base.proofs.Words.{in_from_each, in_map}
 use Rattle.crs_model.specs.declared.plan.Plan.{Plan}
 use Rattle.crs_model.specs.declared.plan.Plans.{Plans}
 use Rattle.crs_model.specs.declared.recognition.Mark.{Mark}
 use Rattle.crs_model.specs.declared.recognition.Recognition.{Recognition}
-use Rattle.crs_model.specs.Models.{Chronicle, EventDef}
-use Rattle.crs_model.specs.Matching.{Assignment}
+use Rattle.crs_model.specs.Models.{EventDef}
 use Rattle.crs_model.specs.Open.{IsRecognised}
-use Rattle.crs_model.specs.Order.{Lists, assignment_cmp}
 use Rattle.crs_model.specs.Plans.{chronicle, IsProper}
 use Rattle.crs_model.specs.Seen.{assignment_of, given}
-use Rattle.crs_model.specs.Renaming.{text_in, AreKnown, renamed_chronicle, renamed_entry, renamed_assignment, IsChronicleOf, IsEntryOf}
+use Rattle.crs_model.specs.Renaming.{text_in, AreKnown, renamed_assignment, IsChronicleOf, IsEntryOf}
 use Rattle.crs_model.proofs.Renamed.{known_values, new_renamed}
 use Rattle.crs_store.specs.Answers.{IsRecognitionOf}
 use Rattle.crs_engine.specs.Marks.{ListsNew, ListsAllNew}
 use Rattle.crs_report.specs.Lines.{recognition_line}
 use Rattle.crs_report.specs.Printed.{chronicle_at, AreBound, IsPrintable, line_seen}
 use Rattle.crs_top.specs.Session.{HasText, chronicle_in, entries_in, line_in, ArePrintable}
-use Rattle.crs_top.specs.Texts.{IsMarkText, IsNew}
+use Rattle.crs_top.specs.Texts.{IsMarkText}
 
 flat_map_append : {A : Type 0} (f : A → List ℕ) (xs ys : List A) → flat_map f (xs ++ ys) ≡ flat_map f xs ++ flat_map f ys
 flat_map_append f [] ys = refl

@@ -1,5 +1,5 @@
 -- A run that meets no fault ends well.
-use Rattle.std.proofs.Common.{◌≡◌, ◌⊎◌, ◌∙◌, sym, refl, subst, ap, inl, inr, ℕ, ◌<◌, List, [], ◌∷◌, length, arith, Ok, Err}
+use Rattle.std.proofs.Common.{◌≡◌, ◌∙◌, sym, refl, subst, ap, inl, inr, ℕ, List, [], ◌∷◌, arith, Ok}
 use Rattle.std.specs.List.{AllByRecursion}
 use Rattle.crs_desk.specs.Desk.{Told}
 use Rattle.crs_stn.specs.Bound.{IsConsistent}

@@ -1,5 +1,5 @@
 -- A log that is opened and read.
-use Rattle.std.proofs.Common.{◌≡◌, ◌⊎◌, ◌∙◌, ap, sym, refl, inl, inr, ℕ, ◌+◌, ◌<◌, ◌≤◌, Bool, true, false, List, [], ◌∷◌, ◌++◌, length, take, arith, append-nil, Ok, Err, Result}
+use Rattle.std.proofs.Common.{◌≡◌, ◌∙◌, ap, sym, refl, inl, inr, ℕ, Bool, true, false, List, [], ◌++◌, length, arith, append-nil, Ok, Err, Result}
 use Rattle.std.proofs.Math.Seq.{get_or-append_seam}
 use Rattle.crs_desk.specs.Desk.{Told, Stream, stream_at, Opens}
 use Rattle.crs_desk.specs.declared.turn.Turn.{Turn}
@@ -8,9 +8,9 @@ use Rattle.crs_top.specs.declared.log.Stop.{Stop}
 use Rattle.crs_top.specs.declared.log.Stop.TheVariants as stops
 use Rattle.crs_top.specs.declared.status.Status.{Status}
 use Rattle.crs_top.specs.declared.status.Status.TheVariants.{Done, Refusals, ReadFault, WriteFault, Memory, TooLong}
-use Rattle.crs_top.specs.Logs.{ReadsLog, HasReadLog, Ended, Appends}
-use Rattle.crs_top.specs.Run.{bytes_of, Followed, Follows, LogOutcome}
-use Rattle.crs_top.specs.Texts.{Frame, IsWholeText}
+use Rattle.crs_top.specs.Logs.{ReadsLog, HasReadLog, Ended}
+use Rattle.crs_top.specs.Run.{bytes_of, Follows, LogOutcome}
+use Rattle.crs_top.specs.Texts.{Frame}
 
 module _ (f : Frame) where
   -- the input that was just opened

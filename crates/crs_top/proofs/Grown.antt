@@ -1,13 +1,13 @@
 -- What a session stands for once an entry is accepted.
-use Rattle.std.proofs.Common.{◌≡◌, ◌≢◌, ◌<◌, ◌≤◌, ℕ, ◌+◌, zero, suc, Bool, true, false, cond, List, [], ◌∷◌, ◌++◌, map, length, refl, sym, ap, subst, ◌∙◌, arith, append-nil, append_assoc, inl, inr, true≢false, get_or, length-append, add-one}
-use Rattle.std.specs.Prelude.{Option, Some, None, IfSome}
+use Rattle.std.proofs.Common.{◌≡◌, ◌≢◌, ◌<◌, ℕ, ◌+◌, zero, suc, Bool, true, false, cond, List, [], ◌∷◌, ◌++◌, map, length, refl, sym, ap, subst, ◌∙◌, arith, append-nil, append_assoc, inl, inr, true≢false, get_or, length-append}
+use Rattle.std.specs.Prelude.{Some, None}
 use Rattle.std.specs.List.{AllByRecursion}
 use Rattle.std.proofs.lemmas.List.{map-append}
 use Rattle.crs_base.specs.declared.symbols.Sym.{Sym}
 use Rattle.crs_base.specs.declared.entry.Entry.{Entry as CodeEntry}
 use Rattle.crs_base.specs.Entry.{Entry}
 use Rattle.crs_base.specs.Seen.{entry_of}
-use Rattle.crs_base.specs.Symbols.{Table, is_known, with_text, text_at, AreDistinct}
+use Rattle.crs_base.specs.Symbols.{Table, is_known, with_text, AreDistinct}
 use Rattle.crs_base.specs.Words.{IsIn, Ordered}
 use Rattle.crs_base.proofs.Words.{each_from_in, in_from_each, ordered_append, in_append, in_append_left, in_append_right}
 use Rattle.crs_model.specs.declared.plan.Plan.{Plan}
@@ -15,20 +15,19 @@ use Rattle.crs_model.specs.declared.plan.Plans.{Plans}
 use Rattle.crs_model.specs.declared.models.Name.{Name as CodeName}
 use Rattle.crs_model.specs.declared.models.Kind.{Kind as CodeKind}
 use Rattle.crs_model.specs.declared.models.Kind.TheVariants.{Message as CodeMessage, Attribute as CodeAttribute}
-use Rattle.crs_model.specs.Seen.{kind_of, name_of}
+use Rattle.crs_model.specs.Seen.{name_of}
 use Rattle.crs_model.specs.Order.{put_in_order, HaveSameMembers}
 use Rattle.crs_model.specs.Plans.{chronicle}
-use Rattle.crs_model.specs.Renaming.{text_in, renamed_entry, renamed_name, IsKindOf, IsNameOf, IsChronicleOf, IsEntryOf}
+use Rattle.crs_model.specs.Renaming.{text_in, renamed_entry, IsChronicleOf, IsEntryOf}
 use Rattle.crs_model.proofs.Agreed.{all_same, same_chronicle, same_name, same_entries, chronicle_more, entries_more}
 use Rattle.crs_model.proofs.Parted.{put_members}
 use Rattle.crs_engine.specs.Engines.{EngineState, StandsFor, HasAccepted, plans_of}
 use Rattle.crs_log.specs.Items.{Event}
 use Rattle.crs_log.specs.Known.{with_texts, texts_of, entry_of_event}
-use Rattle.crs_log.specs.Run as run
 use Rattle.crs_log.specs.Run.{State, with_entry}
 use Rattle.crs_log.specs.SeenNames.{name_seen, IsKindIn, AreNamesIn, IsEntryIn, entry_seen}
 use Rattle.crs_top.specs.declared.session.Session.{Session}
-use Rattle.crs_top.specs.Session.{HasText, chronicle_in, entries_in, HasModels, HasEntries, IsReached, Represents}
+use Rattle.crs_top.specs.Session.{HasText, chronicle_in, entries_in, HasModels, HasEntries, Represents}
 use Rattle.crs_top.specs.Texts.{Frame, LogEntry}
 use Rattle.crs_top.proofs.States.{same_renamed}
 

@@ -1,5 +1,5 @@
 -- A log, read by read.
-use Rattle.std.proofs.Common.{◌≡◌, ◌⊎◌, ◌∙◌, ap, sym, refl, subst, inl, inr, ℕ, ◌+◌, ◌-◌, ◌<◌, ◌≤◌, Bool, true, false, List, [], ◌∷◌, ◌++◌, length, take, drop, arith, rules, add-zero, append-nil, append_assoc, length-append, length-take-le, Ok, Err, Result}
+use Rattle.std.proofs.Common.{◌≡◌, ◌⊎◌, ◌∙◌, ap, sym, refl, subst, inl, inr, ℕ, ◌+◌, ◌<◌, ◌≤◌, Bool, false, List, [], ◌∷◌, ◌++◌, length, take, drop, arith, add-zero, append-nil, append_assoc, length-append, length-take-le, Ok, Err, Result}
 use Rattle.std.proofs.lemmas.List.{length-drop, take-append-le}
 use Rattle.std.proofs.Math.Seq.{take-add, take-length, take-append-add}
 use Rattle.crs_base.specs.Lines.{lines_of}
@@ -8,15 +8,15 @@ use Rattle.crs_desk.specs.declared.turn.Turn.{Turn}
 use Rattle.crs_desk.specs.declared.desk.DeskError.TheVariants as errors
 use Rattle.crs_desk.proofs.Calls.{took_none, stream_after, advanced_twice, rises_push, rises_weaker}
 use Rattle.crs_log.specs.Reading.{Reader, Given, HasGiven, HasNoLine, given, given_lines, ahead, whole_lines}
-use Rattle.crs_log.specs.Run.{State, at_start}
+use Rattle.crs_log.specs.Run.{at_start}
 use Rattle.crs_log.proofs.Prompt.{told_whole}
 use Rattle.crs_top.specs.declared.log.Stop.TheVariants as stops
 use Rattle.crs_top.specs.declared.log.Stop.{Stop}
 use Rattle.crs_top.specs.declared.session.Session.{Session}
-use Rattle.crs_top.specs.Session.{Represents, IsReady}
+use Rattle.crs_top.specs.Session.{Represents}
 use Rattle.crs_top.specs.Taking.{after_all, refuses_some, Takes, IsGivenText}
 use Rattle.crs_top.specs.Texts.{Frame, setting_of, IsWholeText, IsLogText, some_refused}
-use Rattle.crs_top.specs.Logs.{Appends, AppendsFront, IsPrompt, IsPromptAt, IsCutShort, Ended, ReadsLog, HasReadLog, TakesPiece, TakesRest, Finishes}
+use Rattle.crs_top.specs.Logs.{Appends, IsPrompt, IsPromptAt, IsCutShort, Ended, HasReadLog, TakesPiece, TakesRest, Finishes}
 use Rattle.crs_top.proofs.Taken.{takes_none, takes_append, given_text, given_refused}
 
 -- the lines of the first t bytes were given, and the reader stands behind them

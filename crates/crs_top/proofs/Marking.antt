@@ -1,6 +1,6 @@
 -- What an accepted `clock` and an accepted `end` bring.
-use Rattle.std.proofs.Common.{◌≡◌, ◌<◌, ◌≤◌, ◌^◌, ◌-◌, ℕ, ◌+◌, Bool, true, false, cond, List, ◌++◌, nat_lt, refl, sym, ap, subst, ◌∙◌, arith, Ok, Err, Result, ltb-true, lt-ltb, true≢false}
-use Rattle.std.specs.Prelude.{Option, Some, None, flat_map, ◌||◌, IsTrue, ◌↔◌, ◌⊎◌}
+use Rattle.std.proofs.Common.{◌≡◌, ◌<◌, ◌≤◌, ◌^◌, ◌-◌, ℕ, Bool, true, false, cond, List, ◌++◌, nat_lt, refl, sym, ap, subst, ◌∙◌, arith, Ok, Err, true≢false}
+use Rattle.std.specs.Prelude.{Some, None, flat_map, ◌||◌, IsTrue, ◌↔◌, ◌⊎◌}
 use Rattle.std.proofs.Common.{inl, inr}
 use Rattle.crs_model.specs.declared.recognition.Recognition.{Recognition}
 use Rattle.crs_model.specs.declared.recognition.Mark.TheVariants.{Clock, Finish}
@@ -15,9 +15,9 @@ use Rattle.crs_log.specs.Items as items
 use Rattle.crs_log.specs.Run as run
 use Rattle.crs_log.specs.Run.{State, Outcome, Marked, AtClock, AtEnd, after_ordered, settled, horizon_at, end_date}
 use Rattle.crs_top.specs.declared.session.Session.{Session}
-use Rattle.crs_top.specs.Session.{IsReached, Represents, Brings, line_in, ArePrintable}
-use Rattle.crs_top.specs.Texts.{Frame, setting_of, is_refused}
-use Rattle.crs_top.proofs.States.{answer_printable, mark_text, marked}
+use Rattle.crs_top.specs.Session.{IsReached, Represents, Brings, line_in}
+use Rattle.crs_top.specs.Texts.{Frame, setting_of}
+use Rattle.crs_top.proofs.States.{mark_text, marked}
 
 pub or_false : (b : Bool) → b ≡ (b || false)
 or_false true = refl

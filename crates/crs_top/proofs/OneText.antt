@@ -1,5 +1,5 @@
 -- The text of a log is decided.
-use Rattle.std.proofs.Common.{◌≡◌, ℕ, ◌+◌, List, [], ◌∷◌, ◌++◌, sym, subst, ap, ◌∙◌}
+use Rattle.std.proofs.Common.{◌≡◌, ℕ, ◌+◌, List, [], ◌∷◌, ◌++◌, sym, ◌∙◌}
 use Rattle.std.specs.Prelude.{flat_map}
 use Rattle.std.specs.Cmp.{IsTotalOrder}
 use Rattle.std.specs.declared.cmp.Ordering.{Ordering}
@@ -9,7 +9,6 @@ use Rattle.crs_base.proofs.KeyOrder.{entry_total}
 use Rattle.crs_base.proofs.Words.{in_from_each}
 use Rattle.crs_model.specs.declared.recognition.Mark.{Mark}
 use Rattle.crs_model.specs.Models.{Chronicle}
-use Rattle.crs_model.specs.Matching.{Assignment}
 use Rattle.crs_model.specs.Order.{Lists, assignment_cmp}
 use Rattle.crs_model.proofs.Unique.{same_members}
 use Rattle.crs_log.specs.Run as run

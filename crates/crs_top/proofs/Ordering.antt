@@ -1,13 +1,12 @@
 -- What an item brings, by whether it stands in order.
-use Rattle.std.proofs.Common.{◌≡◌, Bool, true, false, cond, List, ℕ, length, refl, sym, ap, subst, ◌∙◌, true≢false, arith, append-nil, []}
+use Rattle.std.proofs.Common.{◌≡◌, Bool, true, false, cond, List, ℕ, length, refl, sym, ap, ◌∙◌, true≢false, append-nil, []}
 use Rattle.std.specs.Prelude.{◌||◌, ◌&&◌}
 use Rattle.std.specs.Prelude.{Option, Some, None}
-use Rattle.crs_base.specs.Lines.{is_passed_over}
 use Rattle.crs_log.specs.declared.items.Item.{Item}
 use Rattle.crs_log.specs.declared.items.Item.TheVariants.{Blank, Delay as DelayItem, Clock as ClockItem, Finish as FinishItem, Event as EventItem}
 use Rattle.crs_log.specs.Reading.{Plain}
 use Rattle.crs_log.specs.SeenItems.{what_seen, IsFaulty}
-use Rattle.crs_log.specs.ItemOf.{What, Empty, Is, Faulty, what_is, what_of, item_of}
+use Rattle.crs_log.specs.ItemOf.{What, Empty, Is, Faulty, what_is, item_of}
 use Rattle.crs_log.proofs.ItemLaw.{item_sound}
 use Rattle.crs_log.specs.Items.{Delay}
 use Rattle.crs_log.specs.Run as run

@@ -1,6 +1,6 @@
 -- What a text that is accepted prepares.
-use Rattle.std.proofs.Common.{◌≡◌, ◌⊎◌, ◌∙◌, ap, sym, refl, subst, inl, inr, ℕ, ◌<◌, ◌≤◌, List, [], ◌∷◌, ◌++◌, map, length, Ok, Err, arith, false, true≢false}
-use Rattle.std.specs.Prelude.{Option, Some, None}
+use Rattle.std.proofs.Common.{◌≡◌, ◌∙◌, ap, sym, refl, subst, inl, inr, ℕ, ◌≤◌, List, [], ◌∷◌, map, length, Ok, arith, false}
+use Rattle.std.specs.Prelude.{Some, None}
 use Rattle.std.specs.List.{AllByRecursion}
 use Rattle.std.specs.declared.rc.Rc.{Rc}
 use Rattle.std.proofs.Common.{Global}
@@ -11,26 +11,24 @@ use Rattle.crs_stn.specs.Bound.{IsConsistent}
 use Rattle.crs_model.specs.declared.chronicle.Chronicle.{Chronicle as CodeChronicle}
 use Rattle.crs_model.specs.declared.models.Models.{Models as CodeModels}
 use Rattle.crs_model.specs.declared.models.Name.{Name as CodeName}
-use Rattle.crs_model.specs.declared.models.ModelWord.{ModelWord}
-use Rattle.crs_model.specs.declared.models.ModelWord.TheVariants.{Form, Inconsistent}
+use Rattle.crs_model.specs.declared.models.ModelWord.TheVariants.{Form}
 use Rattle.crs_model.specs.declared.models.ModelRefused.{ModelRefused}
 use Rattle.crs_model.specs.declared.models.ModelRefused.TheVariants.{At, Memory}
 use Rattle.crs_model.specs.declared.plan.Plan.{Plan}
 use Rattle.crs_model.specs.declared.plan.Plans.{Plans}
-use Rattle.crs_model.specs.Models.{Chronicle, Models, Body, NoEvent, Occurs, Hold, EventDef, Window, Name}
+use Rattle.crs_model.specs.Models.{Chronicle, Models, Body, NoEvent, Occurs, Hold, Window, Name}
 use Rattle.crs_model.specs.Bindings.{PatternIsBelow}
 use Rattle.crs_model.specs.Plans.{chronicle, IsProper}
 use Rattle.crs_model.specs.Renaming.{text_in, renamed_chronicle, renamed_window, renamed_name, renamed_models, AreModelsOf, IsChronicleOf}
 use Rattle.crs_model.specs.Seen.{chronicle_of, name_of, models_of}
-use Rattle.crs_log.specs.Run.{at_start, horizon_at}
+use Rattle.crs_log.specs.Run.{at_start}
 use Rattle.crs_log.specs.SeenNames.{name_seen, AreNamesIn}
 use Rattle.crs_parse.specs.Proper as parsed
 use Rattle.crs_parse.specs.Meant.{models_read}
 use Rattle.crs_compile.specs.Proper as compiled
-use Rattle.crs_compile.specs.Compiled.{IsPlan, chronicles_in, plans_in, ClosesFirst, IsRefusal}
+use Rattle.crs_compile.specs.Compiled.{IsPlan, chronicles_in, ClosesFirst, IsRefusal}
 use Rattle.crs_engine.specs.Engines.{EngineState, StandsFor, plans_of}
-use Rattle.crs_top.specs.declared.session.Session.{Session}
-use Rattle.crs_top.specs.Session.{HasText, chronicle_in, HasModels, HasEntries, Represents}
+use Rattle.crs_top.specs.Session.{HasText, chronicle_in, HasModels, Represents}
 use Rattle.crs_top.specs.Models.{IsAccepted, IsRejected, ClosesInconsistent, ClosesWindowed}
 use Rattle.crs_top.specs.Prepared.{IsRefusedText, FirstWindowed}
 use Rattle.crs_top.specs.Texts.{Frame}

@@ -1,20 +1,20 @@
 -- The whole of a run, by its parts.
-use Rattle.std.proofs.Common.{◌≡◌, ◌⊎◌, ◌∙◌, ap, sym, refl, subst, inl, inr, ℕ, ◌+◌, ◌<◌, ◌≤◌, ◌^◌, true, false, cond, nat_lt, lt-ltb, List, [], ◌∷◌, ◌++◌, length, take, arith, append-nil, append_assoc, add-one, Ok, Err}
+use Rattle.std.proofs.Common.{◌≡◌, ◌⊎◌, ◌∙◌, ap, sym, refl, inl, inr, ℕ, ◌+◌, ◌<◌, ◌^◌, cond, lt-ltb, List, [], ◌∷◌, ◌++◌, length, arith, append-nil, append_assoc, add-one, Err}
 use Rattle.std.specs.Option.{unwrap_or}
 use Rattle.std.proofs.Math.Seq.{take-length}
 use Rattle.std.proofs.lemmas.List.{take-append-le}
-use Rattle.crs_desk.specs.Desk.{Told, file_of, Wrote}
+use Rattle.crs_desk.specs.Desk.{Told, file_of}
 use Rattle.crs_desk.specs.declared.turn.Turn.{Turn}
 use Rattle.crs_model.specs.declared.models.ModelWord.{ModelWord}
 use Rattle.crs_model.specs.declared.models.ModelWord.TheVariants.{Size}
-use Rattle.crs_parse.specs.Meant.{models_read, read_of}
-use Rattle.crs_parse.specs.Faults.{reading_of, after_lines, nothing_read}
+use Rattle.crs_parse.specs.Meant.{read_of}
+use Rattle.crs_parse.specs.Faults.{after_lines, nothing_read}
 use Rattle.crs_base.specs.Lines.{lines_of}
 use Rattle.crs_report.specs.Lines.{model_line}
 use Rattle.crs_top.specs.declared.status.Status.{Status}
 use Rattle.crs_top.specs.declared.status.Status.TheVariants.{Done, Refusals, Words, Rejected, ReadFault, WriteFault, Memory, TooLong}
 use Rattle.crs_top.specs.Models.{IsAccepted, IsRejected}
-use Rattle.crs_top.specs.Run.{Most, bytes_of, Outcome, DidRun, Runs, Opened, NotOpened, Refuses, LogOutcome, Followed}
+use Rattle.crs_top.specs.Run.{Most, bytes_of, Outcome, Runs, Opened, NotOpened, Refuses, LogOutcome, Followed}
 use Rattle.crs_top.specs.Texts.{Frame}
 
 -- a text of more than 2^20 bytes is refused by its size

@@ -1,5 +1,5 @@
 -- Facts that hold where a call succeeded.
-use Rattle.std.proofs.Common.{◌≡◌, Result, Ok, Err, Bool, true, false, true≢false, sym, ◌∙◌, subst}
+use Rattle.std.proofs.Common.{◌≡◌, Result, Ok, Err, Bool, true, false, true≢false, sym}
 use Rattle.std.specs.Prelude.{OnOk, IsTrue}
 
 pub both_ok : {A E : Type 0} (r : Result A E) (P Q R : Type 0) → OnOk r P → OnOk r Q → (P → Q → R) → OnOk r R

@@ -1,9 +1,7 @@
 -- What a session stands for after each kind of item.
-use Rattle.std.proofs.Common.{◌≡◌, ◌≢◌, ◌<◌, ◌≤◌, ◌^◌, ◌-◌, ℕ, ◌+◌, zero, suc, Bool, true, false, List, [], ◌∷◌, ◌++◌, map, length, refl, sym, ap, subst, ◌∙◌, arith, append-nil, append_assoc, inl, inr, true≢false, zero-add, Less}
-use Rattle.std.specs.Prelude.{Option, Some, None, slice_get, option_map, flat_map}
+use Rattle.std.proofs.Common.{◌≡◌, ◌≤◌, ℕ, ◌+◌, zero, suc, Bool, true, false, List, [], ◌∷◌, ◌++◌, map, refl, sym, ap, subst, ◌∙◌, arith, append-nil, true≢false, zero-add, Less}
+use Rattle.std.specs.Prelude.{slice_get, option_map, flat_map}
 use Rattle.std.specs.List.{AllByRecursion}
-use Rattle.std.proofs.lemmas.List.{map-append, length-map}
-use Rattle.std.proofs.lemmas.Option.{slice_get-map}
 use Rattle.std.specs.declared.rc.Rc.{Rc}
 use Rattle.std.proofs.Common.{Global}
 use Rattle.crs_model.specs.Models.{Chronicle}
@@ -11,7 +9,7 @@ use Rattle.crs_model.specs.Seen.{chronicle_of}
 use Rattle.crs_base.specs.declared.symbols.Sym.{Sym}
 use Rattle.crs_base.specs.Entry.{Entry, entry_cmp}
 use Rattle.crs_base.specs.Words.{IsIn, Ordered}
-use Rattle.crs_base.proofs.Words.{each_from_in, in_from_each, in_map, in_map_back, ordered_map, in_append, in_append_left, in_append_right}
+use Rattle.crs_base.proofs.Words.{each_from_in, in_from_each, in_map, in_map_back, ordered_map, in_append_left}
 use Rattle.crs_model.specs.declared.plan.Plan.{Plan}
 use Rattle.crs_model.specs.declared.plan.Plans.{Plans}
 use Rattle.crs_model.specs.declared.recognition.Mark.{Mark}
@@ -23,11 +21,10 @@ use Rattle.crs_model.specs.Renaming.{text_in, renamed_entry, IsEntryOf}
 use Rattle.crs_model.proofs.Parted.{before_more, before_all, parted_members, settled_is, before_renamed}
 use Rattle.crs_engine.specs.Engines.{EngineState, StandsFor, HasMoved, plans_of, since}
 use Rattle.crs_engine.specs.Marks.{AfterMark}
-use Rattle.crs_log.specs.Run as run
 use Rattle.crs_log.specs.Run.{State, is_met, settled}
 use Rattle.crs_report.specs.Printed.{chronicle_at}
 use Rattle.crs_top.specs.declared.session.Session.{Session}
-use Rattle.crs_top.specs.Session.{HasText, chronicle_in, entries_in, HasModels, HasEntries, IsReached, IsUnused, Represents, line_in, ArePrintable}
+use Rattle.crs_top.specs.Session.{HasText, entries_in, HasModels, HasEntries, IsReached, IsUnused, Represents, line_in, ArePrintable}
 use Rattle.crs_top.specs.Texts.{Frame, LogEntry, IsMarkText}
 use Rattle.crs_top.proofs.Answered.{all_printable, answer_text}
 

@@ -1,5 +1,5 @@
 -- A recognised assignment stays recognised.
-use Rattle.std.proofs.Common.{◌≡◌, ℕ, ◌≤◌, List, ◌++◌}
+use Rattle.std.proofs.Common.{ℕ, ◌≤◌, List, ◌++◌}
 use Rattle.std.specs.Prelude.{slice_get}
 use Rattle.crs_base.specs.Words.{IsIn}
 use Rattle.crs_base.proofs.Words.{each_from_in, in_from_each, in_append_left}

@@ -1,5 +1,5 @@
 -- One more line, and the lines that were taken.
-use Rattle.std.proofs.Common.{◌≡◌, ◌≤◌, ◌<◌, ℕ, ◌+◌, Bool, true, false, cond, List, [], ◌∷◌, ◌++◌, length, nat_lt, refl, sym, ap, subst, ◌∙◌, arith, append-nil, append_assoc, eqb, get_or, take, ◌-◌, length-take-le}
+use Rattle.std.proofs.Common.{◌≡◌, ◌≤◌, ℕ, ◌+◌, Bool, true, false, cond, List, [], ◌∷◌, ◌++◌, length, refl, sym, ap, subst, ◌∙◌, arith, append-nil, append_assoc, eqb, get_or, take, ◌-◌, length-take-le}
 use Rattle.std.specs.Prelude.{◌||◌, if◌then◌else◌}
 use Rattle.std.specs.Str.Lines.{strip_carriage_return}
 use Rattle.std.proofs.lemmas.Bool.{ltb-false}
@@ -10,7 +10,7 @@ use Rattle.crs_log.specs.Run as run
 use Rattle.crs_log.specs.Reading.{Reader, Given, Plain, Long, Gives, HasNoLine, given_line, given_lines, ahead}
 use Rattle.crs_log.specs.Run.{Setting, State, Outcome, after_given, after_what}
 use Rattle.crs_top.specs.declared.session.Session.{Session}
-use Rattle.crs_top.specs.Session.{Represents, Brings, BringsAll, IsReady, IsShort, number_of}
+use Rattle.crs_top.specs.Session.{Represents, BringsAll, IsShort, number_of}
 use Rattle.crs_top.specs.Taking.{after_all, refuses_some, IsGivenText, Takes}
 use Rattle.crs_top.specs.Texts.{Frame, setting_of, IsLineText, IsTextFrom, is_refused}
 

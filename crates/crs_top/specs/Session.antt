@@ -1,5 +1,5 @@
 -- What a session stands for, and what one line does to it.
-use Rattle.std.specs.Prelude.{◌≡◌, ◌<◌, ◌≤◌, ◌^◌, ◌||◌, ℕ, ◌+◌, Bool, false, true, cond, List, [], ◌++◌, length, map, IsSomeAnd}
+use Rattle.std.specs.Prelude.{◌≡◌, ◌<◌, ◌≤◌, ◌^◌, ◌||◌, ℕ, Bool, false, true, List, [], ◌++◌, length, map, IsSomeAnd}
 use Rattle.std.specs.List.{AllByRecursion}
 use Rattle.crs_base.specs.declared.symbols.Sym.{Sym}
 use Rattle.crs_base.specs.Entry.{Entry}

@@ -1,8 +1,7 @@
-use Rattle.std.proofs.Common.{rules, ◌≡◌, ◌⊎◌, ◌<◌, ◌≤◌, ◌+◌, [], true, ℕ, refl, ◌∙◌, ap, sym, arith, length, take, length-take-le}
+use Rattle.std.proofs.Common.{rules, ◌+◌, refl, ◌∙◌, ap, arith, length-take-le}
 use Rattle.std.proofs.lemmas.Grind.{common_steps}
 use Rattle.std.proofs.lemmas.List.{take-append-le}
 use Rattle.std.proofs.lemmas.Result.{err_from_is_err_and}
-use Rattle.crs_desk.specs.Desk.{stream_at}
 use Rattle.crs_top.proofs.LogReading.{reading_none, reading_more, stop_before, stop_failed, stop_refused, stop_long, stop_write, stop_piece, end_by}
 use Rattle.crs_top.proofs.log.read_log.Goals as goal
 

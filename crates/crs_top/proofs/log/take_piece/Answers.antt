@@ -1,4 +1,4 @@
-use Rattle.std.proofs.Common.{◌≡◌, ◌∙◌, ap, sym, subst, true≢false, List, ℕ}
+use Rattle.std.proofs.Common.{◌∙◌, ap, sym, subst, true≢false, List, ℕ}
 use Rattle.crs_top.specs.Taking.{Takes}
 use Rattle.crs_top.proofs.log.take_piece.Goals as goal
 

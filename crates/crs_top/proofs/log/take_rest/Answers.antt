@@ -1,4 +1,4 @@
-use Rattle.std.proofs.Common.{◌≡◌, ◌∙◌, ap, sym, subst, List, ℕ, [], refl}
+use Rattle.std.proofs.Common.{subst, List, ℕ, [], refl}
 use Rattle.crs_top.specs.Taking.{Takes}
 use Rattle.crs_top.proofs.Taken.{all_given}
 use Rattle.crs_top.proofs.log.take_rest.Goals as goal

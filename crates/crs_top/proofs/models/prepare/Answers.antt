@@ -1,9 +1,8 @@
-use Rattle.std.proofs.Common.{rules, ◌≡◌, ◌∙◌, ap, sym, refl, []}
+use Rattle.std.proofs.Common.{◌≡◌, ◌∙◌, ap, refl, []}
 use Rattle.crs_model.specs.Plans.{IsProper, chronicle}
-use Rattle.crs_compile.specs.Compiled.{IsPlan}
 use Rattle.crs_engine.specs.Engines.{plans_of}
 use Rattle.crs_model.specs.Seen.{models_of}
-use Rattle.crs_top.proofs.Preparing.{by_value, proper_models, compile_refused, plans_few, plans_proper, plans_windowless, rejected_windowed, accepted, represented, frame}
+use Rattle.crs_top.proofs.Preparing.{by_value, proper_models, compile_refused, plans_proper, plans_windowless, rejected_windowed, accepted, represented, frame}
 use Rattle.crs_top.proofs.models.prepare.Goals as goal
 
 pub compile-requires : goal.compile-requires

@@ -1,4 +1,4 @@
-use Rattle.std.proofs.Common.{◌≡◌, ◌++◌, [], ◌∷◌, ◌∙◌, ap, sym, refl, append-nil, append_assoc, List}
+use Rattle.std.proofs.Common.{◌++◌, [], ◌∷◌, ◌∙◌, ap, sym, refl, append-nil, append_assoc, List}
 use Rattle.crs_log.specs.Given.{seen}
 use Rattle.crs_log.specs.Reading.{Given, Gives, ahead}
 use Rattle.crs_top.specs.Texts.{setting_of}

@@ -1,4 +1,4 @@
-use Rattle.std.proofs.Common.{rules, ◌≡◌, true, sym, refl}
+use Rattle.std.proofs.Common.{sym}
 use Rattle.crs_top.proofs.Following.{follow_failed, follow_refused, follow_done, follow_refusals, follow_stopped, follow_long, follow_write, follow_memory}
 use Rattle.crs_top.proofs.run.follow.Goals as goal
 

@@ -1,5 +1,4 @@
-use Rattle.std.proofs.Common.{rules, ◌≡◌, true, sym, refl, ap, subst, ◌∙◌, inr}
-use Rattle.crs_top.specs.Run.{bytes_of}
+use Rattle.std.proofs.Common.{inr}
 use Rattle.crs_top.proofs.Recognising.{run_refused, run_failed, run_memory, run_followed, long_is_rejected}
 use Rattle.crs_top.proofs.run.recognise.Goals as goal
 

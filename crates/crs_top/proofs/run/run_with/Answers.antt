@@ -1,8 +1,5 @@
-use Rattle.std.proofs.Common.{rules, ◌≡◌, ◌⊎◌, sym, refl, inl, inr, ap, ◌∙◌}
-use Rattle.std.specs.Prelude.{IfSome}
+use Rattle.std.proofs.Common.{◌⊎◌, sym, inl, inr}
 use Rattle.crs_desk.specs.Desk.{Rose}
-use Rattle.crs_top.specs.Words.{command_of}
-use Rattle.crs_top.specs.Run.{Completes}
 use Rattle.crs_top.proofs.Completing.{completes}
 use Rattle.crs_top.proofs.run.run_with.Goals as goal
 

@@ -1,11 +1,8 @@
-use Rattle.std.proofs.Common.{◌≡◌, ◌++◌, ◌∙◌, ap, sym, subst, length, map, arith, List, ℕ, true}
+use Rattle.std.proofs.Common.{◌≡◌, ◌∙◌, ap, arith, true}
 use Rattle.std.proofs.lemmas.List.{length-map}
-use Rattle.std.proofs.lemmas.Result.{IfOk-weaker}
 use Rattle.crs_log.proofs.Numbered.{named_fits}
 use Rattle.crs_log.specs.Run.{after_named}
 use Rattle.crs_log.specs.SeenItems.{event_seen, text_of}
-use Rattle.crs_report.specs.Lines.{refusal_line}
-use Rattle.crs_report.specs.declared.refusals.Fault.TheVariants.{Values}
 use Rattle.crs_top.specs.Session.{BringsAll}
 use Rattle.crs_top.specs.Texts.{setting_of}
 use Rattle.crs_top.proofs.Accepting.{refused_brings, values_is, accept_brings}

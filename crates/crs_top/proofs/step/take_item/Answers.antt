@@ -1,10 +1,10 @@
-use Rattle.std.proofs.Common.{◌≡◌, Bool, false, subst, sym, ◌∙◌}
+use Rattle.std.proofs.Common.{◌≡◌, false, subst, sym, ◌∙◌}
 use Rattle.std.specs.Prelude.{◌||◌, ◌&&◌}
 use Rattle.std.proofs.lemmas.Result.{IfOk-weaker}
 use Rattle.crs_log.specs.Run.{State, Outcome, is_met, settled}
 use Rattle.crs_log.specs.SeenItems.{what_seen}
 use Rattle.crs_log.specs.Run.{after_what}
-use Rattle.crs_top.specs.Session.{Brings, BringsAll, ordered_what, is_delay_what}
+use Rattle.crs_top.specs.Session.{Brings, BringsAll, is_delay_what}
 use Rattle.crs_top.specs.Texts.{setting_of}
 use Rattle.crs_top.proofs.Ordering.{in_order, not_ended, not_met, unused, not_faulty}
 use Rattle.crs_top.proofs.States.{met}

@@ -1,4 +1,4 @@
-use Rattle.std.proofs.Common.{◌≡◌, ap}
+use Rattle.std.proofs.Common.{ap}
 use Rattle.crs_log.specs.SeenItems.{what_seen}
 use Rattle.crs_top.specs.Session.{is_delay_what}
 use Rattle.crs_top.proofs.Ordering.{delay_brings}
