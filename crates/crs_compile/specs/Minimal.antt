@@ -2,10 +2,10 @@
 use Rattle.std.specs.Prelude.{◌≡◌, ℕ, ◌+◌, ◌<◌, ℤ, pos, List, [], ◌∷◌, ◌++◌, length, map, zip, flat_map, codes, Option, Some, None, slice_index_or}
 use Rattle.std.specs.List.{AllByRecursion}
 use Rattle.std.specs.Fmt.{signed_decimal}
-use Rattle.crs_base.specs.Symbols.{text_at}
 use Rattle.crs_base.specs.declared.symbols.Sym.{Sym}
 use Rattle.crs_stn.specs.Network.{IsMinimal, IsEarliest, negated}
 use Rattle.crs_model.specs.Models.{Chronicle}
+use Rattle.crs_model.specs.Renaming.{AreKnown}
 use Rattle.crs_compile.specs.Reach.{IsReachOf}
 
 -- a number, or the word for an infinite one
@@ -65,14 +65,6 @@ module _ {S : Type 0} (text_of : S → List ℕ) where
   abbrev pub IsMinimalText : List (Chronicle S) → List ℕ → Type 0
   IsMinimalText [] text = text ≡ []
   IsMinimalText (c ∷ cs) text = (first rest : List ℕ) × IsChronicleText c first × IsMinimalText cs rest × (text ≡ first ++ rest)
-
--- a symbol's text
-abbrev pub text_in : List (List ℕ) → Sym → List ℕ
-text_in texts s = text_at texts s.0
-
--- each symbol has a text
-abbrev pub AreKnown : List (List ℕ) → List Sym → Type 0
-AreKnown texts symbols = AllByRecursion (λ s. s.0 < length texts) symbols
 
 -- the chronicle's name and its points have texts
 pub record IsPrintable (texts : List (List ℕ)) (c : Chronicle Sym) : Type 0 where

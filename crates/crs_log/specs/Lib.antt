@@ -7,4 +7,3 @@ pub mod Known
 pub mod SeenNames
 pub mod Told
 pub mod Run
-pub mod New

@@ -17,3 +17,4 @@ pub mod Unique
 pub mod InOrder
 pub mod Settled
 pub mod Parted
+pub mod Stays

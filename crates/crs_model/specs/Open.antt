@@ -28,6 +28,10 @@ module _ {S : Type 0} where
     pub bounds : MeetsInPart c.bounds (dates_of (whole b))
     pub windows : (w : Window S) → IsIn w c.windows → IsMet (slice_get b.values) (whole b) entries h w
 
+  -- recognised over the entries settled now at h, and not over those settled before at g
+  abbrev pub IsNewly : Chronicle S → List (Entry S) → ℕ → List (Entry S) → ℕ → Assignment S → Type 0
+  IsNewly c was g now h b = IsRecognised c now now h b × (IsRecognised c was was g b → ⊥)
+
   -- the partial assignment that binds each event as a recognised one does
   abbrev pub IsRecognisedWhole : Chronicle S → List (Entry S) → List (Entry S) → ℕ → Partial S → Type 0
   IsRecognisedWhole c pool entries h a = (b : Assignment S) × (a ≡ whole b) × IsRecognised c pool entries h b

@@ -4,7 +4,8 @@ use Rattle.std.proofs.lemmas.Int.{to_z-of_z}
 use Rattle.std.proofs.lemmas.Result.{IfOk-weaker}
 use mir.Syntax.{w64}
 use mir.Val.{SFits}
-use Rattle.crs_compile.specs.Minimal.{date_text, text_in}
+use Rattle.crs_model.specs.Renaming.{text_in}
+use Rattle.crs_compile.specs.Minimal.{date_text}
 use Rattle.crs_compile.proofs.Dates.{dates_step}
 use Rattle.crs_compile.proofs.minimal.+push_dates.Goals as goal
 

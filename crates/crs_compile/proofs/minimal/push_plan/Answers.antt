@@ -1,7 +1,8 @@
 use Rattle.std.proofs.Common.{◌≡◌, ◌++◌, map, ◌∙◌}
 use Rattle.std.proofs.lemmas.Result.{IfOk-weaker}
 use Rattle.crs_model.specs.Plans.{chronicle}
-use Rattle.crs_compile.specs.Minimal.{earliest_text, text_in, IsChronicleText, Appends}
+use Rattle.crs_model.specs.Renaming.{text_in}
+use Rattle.crs_compile.specs.Minimal.{earliest_text, IsChronicleText, Appends}
 use Rattle.crs_compile.proofs.Written.{plan_step}
 use Rattle.crs_compile.proofs.minimal.push_plan.Goals as goal
 

@@ -1,0 +1,5 @@
+use Rattle.crs_model.proofs.Stays.{stays}
+use Rattle.crs_model.proofs.laws.recognised_stays.Goals as goal
+
+pub returns : goal.returns
+returns c = stays
