@@ -8,9 +8,11 @@ use Rattle.crs_model.specs.declared.models.ModelWord.{ModelWord}
 use Rattle.crs_parse.specs.Meant.{models_read}
 use Rattle.crs_top.specs.declared.status.Status.{Status}
 use Rattle.crs_top.specs.declared.status.Status.TheVariants.{Done, Refusals, Words, Rejected, ReadFault, WriteFault, Memory, TooLong}
-use Rattle.crs_top.specs.Models.{IsAccepted, IsRejected, ClosesInconsistent, ClosesWindowed}
+use Rattle.crs_top.specs.Models.{AreModelsIn, IsAccepted, IsFaulty, IsRejected, ClosesInconsistent, ClosesWindowed}
 use Rattle.crs_top.specs.Run.{Most, bytes_of, Runs, Completes}
 use Rattle.crs_top.specs.Texts.{Frame}
+use Rattle.crs_top.specs.declared.words.Listing.{Listing}
+use Rattle.crs_top.specs.Listings.{Prints, CompletesPrint}
 
 none_inconsistent : (cs : List (Chronicle (List ℕ))) (line : ℕ) → AllByRecursion (λ c. IsConsistent c.bounds) cs → ClosesInconsistent cs line → ⊥
 none_inconsistent [] line h k = k
@@ -22,18 +24,19 @@ none_windowed [] line h k = k
 none_windowed (c ∷ cs) line h (inl k) = k.0 h.0
 none_windowed (c ∷ cs) line h (inr k) = none_windowed cs line h.1 k.1
 
-same_chronicles : (f : Frame) (m : Models (List ℕ)) (texts : List (List ℕ)) (symbols : ℕ) (text : List ℕ) → models_read symbols [] text ≡ Ok (f.models, f.texts) → models_read symbols [] text ≡ Ok (m, texts) → f.models.chronicles ≡ m.chronicles
-same_chronicles f m texts symbols text a b =
-    let pair : (f.models, f.texts) ≡ (m, texts) = cc in
-    ap (λ (p : Models (List ℕ) × List (List ℕ)). p.0.chronicles) pair
+-- a text that breaks no rule of models has no fault
+pub not_faulty : (symbols : ℕ) (text : List ℕ) (m : Models (List ℕ)) (line : ℕ) (word : ModelWord) → AreModelsIn symbols text m → IsFaulty symbols text line word → ⊥
+not_faulty symbols text m line word a (inl e) = let k = sym a.read ∙ e in cc
+not_faulty symbols text m line word a (inr h) =
+    let pair : (m, a.texts) ≡ (h.0, h.1) = (let r = a.read in let e = h.2 in cc) in
+    none_inconsistent h.0.chronicles line (subst (AllByRecursion (λ c. IsConsistent c.bounds)) (ap (λ (p : Models (List ℕ) × List (List ℕ)). p.0.chronicles) pair) a.consistent) h.4
 
 -- a text that is accepted isn't refused
 pub not_both : (symbols entries : ℕ) (text : List ℕ) (f : Frame) (line : ℕ) (word : ModelWord) → IsAccepted symbols entries text f → IsRejected symbols text line word → ⊥
-not_both symbols entries text f line word a (inl e) = let k = sym a.read ∙ e in cc
-not_both symbols entries text f line word a (inr (inl h)) =
-    none_inconsistent h.0.chronicles line (subst (AllByRecursion (λ c. IsConsistent c.bounds)) (same_chronicles f h.0 h.1 symbols text a.read h.2) a.consistent) h.4
-not_both symbols entries text f line word a (inr (inr h)) =
-    none_windowed h.0.chronicles line (subst (AllByRecursion (λ c. c.windows ≡ [])) (same_chronicles f h.0 h.1 symbols text a.read h.2) a.windowless) h.5
+not_both symbols entries text f line word a (inl h) = not_faulty symbols text f.models line word (record { texts = f.texts; read = a.read; consistent = a.consistent }) h
+not_both symbols entries text f line word a (inr h) =
+    let pair : (f.models, f.texts) ≡ (h.0, h.1) = (let r = a.read in let e = h.2 in cc) in
+    none_windowed h.0.chronicles line (subst (AllByRecursion (λ c. c.windows ≡ [])) (ap (λ (p : Models (List ℕ) × List (List ℕ)). p.0.chronicles) pair) a.windowless) h.5
 
 pub completes : (base : ℕ) (most : Most) (old new : Told) (models log : List ℕ) (fault : Type 0) (status : Status) → Runs base most old models log status new → (status ≡ ReadFault → fault) → (status ≡ WriteFault → fault) → Completes most old models log fault status
 completes base most old new models log fault Done r rf wf = λ f a l n. inl refl
@@ -44,3 +47,20 @@ completes base most old new models log fault Rejected r rf wf = λ f a l n. absu
 completes base most old new models log fault ReadFault r rf wf = λ f a l n. absurd (n (rf refl))
 completes base most old new models log fault WriteFault r rf wf = λ f a l n. absurd (n (wf refl))
 completes base most old new models log fault TooLong r rf wf = λ f a l n. absurd (omega (arith, r.4.within, r.4.outcome.1))
+
+pub completes_print : (base symbols : ℕ) (listing : Listing) (old new : Told) (models : List ℕ) (fault : Type 0) (status : Status) → Prints base symbols listing old models status new → (status ≡ ReadFault → fault) → (status ≡ WriteFault → fault)
+    → CompletesPrint symbols old models fault status
+completes_print base symbols listing old new models fault Done p rf wf = record {
+  accepted = λ m a n. inl refl;
+  refused = λ line word h n. absurd (not_faulty symbols (bytes_of old models) p.2.outcome.1.1.0 line word p.2.outcome.1.1.1 h);
+}
+completes_print base symbols listing old new models fault Memory p rf wf = record { accepted = λ m a n. inr refl; refused = λ line word h n. inr refl }
+completes_print base symbols listing old new models fault Rejected p rf wf = record {
+  accepted = λ m a n. absurd (not_faulty symbols (bytes_of old models) m p.2.outcome.1.0 p.2.outcome.1.1 a p.2.outcome.1.2);
+  refused = λ line word h n. inl refl;
+}
+completes_print base symbols listing old new models fault ReadFault p rf wf = record { accepted = λ m a n. absurd (n (rf refl)); refused = λ line word h n. absurd (n (rf refl)) }
+completes_print base symbols listing old new models fault WriteFault p rf wf = record { accepted = λ m a n. absurd (n (wf refl)); refused = λ line word h n. absurd (n (wf refl)) }
+completes_print base symbols listing old new models fault Words p rf wf = record { accepted = λ m a n. absurd p.2.outcome; refused = λ line word h n. absurd p.2.outcome }
+completes_print base symbols listing old new models fault Refusals p rf wf = record { accepted = λ m a n. absurd p.2.outcome; refused = λ line word h n. absurd p.2.outcome }
+completes_print base symbols listing old new models fault TooLong p rf wf = record { accepted = λ m a n. absurd p.2.outcome; refused = λ line word h n. absurd p.2.outcome }

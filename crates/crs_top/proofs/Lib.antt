@@ -13,3 +13,6 @@ pub mod Completing
 pub mod Preparing
 pub mod OneText
 pub mod Stays
+pub mod Prints
+pub mod Listed
+mod Rows

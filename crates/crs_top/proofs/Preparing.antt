@@ -31,6 +31,8 @@ use Rattle.crs_engine.specs.Engines.{EngineState, StandsFor, plans_of}
 use Rattle.crs_top.specs.Session.{HasText, chronicle_in, HasModels, Represents}
 use Rattle.crs_top.specs.Models.{IsAccepted, IsRejected, ClosesInconsistent, ClosesWindowed}
 use Rattle.crs_top.specs.Prepared.{IsRefusedText, FirstWindowed}
+use Rattle.crs_top.specs.Listings.{IsFaultyText}
+use Rattle.crs_parse.specs.Steps.{HaltsWith}
 use Rattle.crs_top.specs.Texts.{Frame}
 
 all_from : {A : Type 0} (F G : A → Type 0) (xs : List A) → ((x : A) → F x → G x) → AllByRecursion F xs → AllByRecursion G xs
@@ -84,10 +86,20 @@ none_windowed : (ps : List Plan) → FirstWindowed ps None → AllByRecursion (�
 none_windowed [] h = tt
 none_windowed (p ∷ ps) h = (h.0, none_windowed ps h.1)
 
-pub compile_refused : (symbols : ℕ) (text : List ℕ) (m : CodeModels) (texts : List (List ℕ)) → models_read symbols [] text ≡ Ok (renamed_models (text_in texts) (models_of m), texts) → (e : ModelRefused) → IsRefusal m.chronicles e
-    → IsRefusedText symbols text e
-compile_refused symbols text m texts read (At line word) h = inr (inl (renamed_models (text_in texts) (models_of m), texts, read, h.0, closes_inconsistent texts m.chronicles line h.1))
-compile_refused symbols text m texts read Memory h = tt
+pub compile_faulty : (symbols : ℕ) (text : List ℕ) (m : CodeModels) (texts : List (List ℕ)) → models_read symbols [] text ≡ Ok (renamed_models (text_in texts) (models_of m), texts) → (e : ModelRefused) → IsRefusal m.chronicles e
+    → IsFaultyText symbols text e
+compile_faulty symbols text m texts read (At line word) h = inr (renamed_models (text_in texts) (models_of m), texts, read, h.0, closes_inconsistent texts m.chronicles line h.1)
+compile_faulty symbols text m texts read Memory h = tt
+
+-- what breaks a rule of models is refused by a run
+pub faulty_is_refused : (symbols : ℕ) (text : List ℕ) (e : ModelRefused) → IsFaultyText symbols text e → IsRefusedText symbols text e
+faulty_is_refused symbols text (At line word) h = inl h
+faulty_is_refused symbols text Memory h = tt
+
+-- a text with a fault
+pub read_faulty : (symbols : ℕ) (text : List ℕ) (e : ModelRefused) → HaltsWith e (models_read symbols [] text) → IsFaultyText symbols text e
+read_faulty symbols text (At line word) h = inl h
+read_faulty symbols text Memory h = tt
 
 -- chronicles by their plans
 chronicles_by : (texts : List (List ℕ)) (ps : List Plan) → map (chronicle_in texts) ps ≡ map (renamed_chronicle (text_in texts)) (map chronicle_of (map (λ p. p.chronicle) ps))
@@ -109,6 +121,12 @@ arities_by (n ∷ ns) h = (h.0, arities_by ns h.1)
 consistent_by : (texts : List (List ℕ)) (ps : List Plan) → AllByRecursion IsPlan ps → AllByRecursion (λ c. IsConsistent c.bounds) (map (chronicle_in texts) ps)
 consistent_by texts [] h = tt
 consistent_by texts (p ∷ ps) h = (h.0.proper.consistent, consistent_by texts ps h.1)
+
+-- whole dates meet the bounds of models that were compiled
+pub consistent_models : (texts : List (List ℕ)) (m : CodeModels) (plans : List (Rc Plan Global)) → chronicles_in plans ≡ m.chronicles → AllByRecursion IsPlan (map (λ r. r.value) plans)
+    → AllByRecursion (λ c. IsConsistent c.bounds) (map (renamed_chronicle (text_in texts)) (map chronicle_of m.chronicles))
+consistent_models texts m plans e made =
+    subst (λ (cs : List CodeChronicle). AllByRecursion (λ c. IsConsistent c.bounds) (map (renamed_chronicle (text_in texts)) (map chronicle_of cs))) e (subst (AllByRecursion (λ c. IsConsistent c.bounds)) (chronicles_by texts (map (λ r. r.value) plans)) (consistent_by texts (map (λ r. r.value) plans) made))
 
 windowless_by : (texts : List (List ℕ)) (ps : List Plan) → AllByRecursion (λ p. (chronicle p).windows ≡ []) ps → AllByRecursion (λ c. c.windows ≡ []) (map (chronicle_in texts) ps)
 windowless_by texts [] h = tt
@@ -133,7 +151,7 @@ module _ (symbols entries : ℕ) (text : List ℕ) (m : CodeModels) (table : Tab
   chronicles_are = ap (λ (cs : List CodeChronicle). map (renamed_chronicle (text_in table.texts)) (map chronicle_of cs)) (sym chronicles) ∙ sym (chronicles_by table.texts (plans_of plans))
 
   consistent : AllByRecursion (λ c. IsConsistent c.bounds) frame.models.chronicles
-  consistent = subst (AllByRecursion (λ c. IsConsistent c.bounds)) (sym chronicles_are) (consistent_by table.texts (plans_of plans) made)
+  consistent = consistent_models table.texts m plans.plans chronicles made
 
   -- how many plans there are
   pub plans_few : length plans.plans ≤ 64
@@ -143,7 +161,7 @@ module _ (symbols entries : ℕ) (text : List ℕ) (m : CodeModels) (table : Tab
 
   -- a chronicle has a window
   pub rejected_windowed : (line : ℕ) → FirstWindowed (plans_of plans) (Some line) → IsRejected symbols text line Form
-  rejected_windowed line h = inr (inr (frame.models, table.texts, read, consistent, refl, subst (λ (cs : List (Chronicle (List ℕ))). ClosesWindowed cs line) (sym chronicles_are) (closes_windowed table.texts (plans_of plans) line h)))
+  rejected_windowed line h = inr (frame.models, table.texts, read, consistent, refl, subst (λ (cs : List (Chronicle (List ℕ))). ClosesWindowed cs line) (sym chronicles_are) (closes_windowed table.texts (plans_of plans) line h))
 
   module _ (none : FirstWindowed (plans_of plans) None) where
     windowless : AllByRecursion (λ p. (chronicle p).windows ≡ []) (plans_of plans)

@@ -13,13 +13,13 @@ use Rattle.crs_base.specs.Lines.{lines_of}
 use Rattle.crs_report.specs.Lines.{model_line}
 use Rattle.crs_top.specs.declared.status.Status.{Status}
 use Rattle.crs_top.specs.declared.status.Status.TheVariants.{Done, Refusals, Words, Rejected, ReadFault, WriteFault, Memory, TooLong}
-use Rattle.crs_top.specs.Models.{IsAccepted, IsRejected}
+use Rattle.crs_top.specs.Models.{IsAccepted, IsFaulty, IsRejected}
 use Rattle.crs_top.specs.Run.{Most, bytes_of, Outcome, Runs, Opened, NotOpened, Refuses, LogOutcome, Followed}
 use Rattle.crs_top.specs.Texts.{Frame}
 
 -- a text of more than 2^20 bytes is refused by its size
-pub long_is_rejected : (symbols : ℕ) (models : List ℕ) → 2 ^ 20 < length models → IsRejected symbols models 0 Size
-long_is_rejected symbols models h =
+pub long_is_faulty : (symbols : ℕ) (models : List ℕ) → 2 ^ 20 < length models → IsFaulty symbols models 0 Size
+long_is_faulty symbols models h =
     inl (λ i. read_of (cond (lt-ltb 1048576 (length models) h i) (Err (0, Size)) (after_lines symbols 1 (nothing_read []) (lines_of models))))
 
 -- a run that stops once the models' input is opened
@@ -55,7 +55,7 @@ refused most old mid new models log line word Refusals e h r = absurd r
 refused most old mid new models log line word ReadFault e h r = absurd r
 refused most old mid new models log line word TooLong e h r = absurd r
 
-same_files : (mid new : Told) (text : List ℕ) (status : Status) → Refuses mid text status new → (new.files ≡ mid.files) × (new.opened ≡ mid.opened) × (new.turns ≡ mid.turns)
+pub same_files : (mid new : Told) (text : List ℕ) (status : Status) → Refuses mid text status new → (new.files ≡ mid.files) × (new.opened ≡ mid.opened) × (new.turns ≡ mid.turns)
 same_files mid new text Rejected r = (r.files, r.opened, r.turns)
 same_files mid new text WriteFault r = (r.1.files, r.1.opened, r.1.turns)
 same_files mid new text Memory r = (r.1.files, r.1.opened, r.1.turns)

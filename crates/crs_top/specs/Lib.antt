@@ -7,3 +7,5 @@ pub mod Logs
 pub mod Models
 pub mod Prepared
 pub mod Run
+pub mod Listings
+pub mod Commands

@@ -16,6 +16,12 @@ pub record IsAccepted (symbols entries : ℕ) (text : List ℕ) (f : Frame) : Ty
   pub symbols_are : f.symbols ≡ symbols
   pub entries_are : f.entries ≡ entries
 
+-- The text means these models by the rules of models: it has no fault, and whole dates meet each chronicle's bounds.
+pub record AreModelsIn (symbols : ℕ) (text : List ℕ) (m : Models (List ℕ)) : Type 0 where
+  pub texts : List (List ℕ)
+  pub read : models_read symbols [] text ≡ Ok (m, texts)
+  pub consistent : AllByRecursion (λ c. IsConsistent c.bounds) m.chronicles
+
 -- the line closes the first chronicle whose bounds no whole dates meet
 abbrev pub ClosesInconsistent : List (Chronicle (List ℕ)) → ℕ → Type 0
 ClosesInconsistent [] line = ⊥
@@ -26,10 +32,14 @@ abbrev pub ClosesWindowed : List (Chronicle (List ℕ)) → ℕ → Type 0
 ClosesWindowed [] line = ⊥
 ClosesWindowed (c ∷ cs) line = ((c.windows ≡ [] → ⊥) × (line ≡ c.line)) ⊎ ((c.windows ≡ []) × ClosesWindowed cs line)
 
--- The text is refused at this line with this word: by its first fault; or, where it has none, by the first chronicle whose bounds can't be met;
--- or, where there is none either, by the first that has a window, which isn't served yet.
-abbrev pub IsRejected : ℕ → List ℕ → ℕ → ModelWord → Type 0
-IsRejected symbols text line word =
+-- The text is refused at this line with this word by the rules of models: by its first fault; or, where it has none, by the first chronicle whose bounds can't be met.
+abbrev pub IsFaulty : ℕ → List ℕ → ℕ → ModelWord → Type 0
+IsFaulty symbols text line word =
     (models_read symbols [] text ≡ Err (line, word))
     ⊎ ((m : Models (List ℕ)) × (texts : List (List ℕ)) × (models_read symbols [] text ≡ Ok (m, texts)) × (word ≡ Inconsistent) × ClosesInconsistent m.chronicles line)
+
+-- The text is refused by a run: by the rules of models; or, where it breaks none, by the first chronicle that has a window, which isn't served yet.
+abbrev pub IsRejected : ℕ → List ℕ → ℕ → ModelWord → Type 0
+IsRejected symbols text line word =
+    IsFaulty symbols text line word
     ⊎ ((m : Models (List ℕ)) × (texts : List (List ℕ)) × (models_read symbols [] text ≡ Ok (m, texts)) × AllByRecursion (λ c. IsConsistent c.bounds) m.chronicles × (word ≡ Form) × ClosesWindowed m.chronicles line)

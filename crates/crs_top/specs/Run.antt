@@ -28,9 +28,9 @@ bytes_of t name = unwrap_or (file_of t.files name) []
 abbrev pub WithModels : Most → List ℕ → (Frame → Type 0) → Type 0
 WithModels most models P = (f : Frame) × IsAccepted most.symbols most.entries models f × P f
 
--- the models are refused, and a front of their line, of this length at most, is written
-abbrev pub IsRefusalFront : Most → List ℕ → List ℕ → List ℕ → Type 0
-IsRefusalFront most models old new = (line : ℕ) × (word : ModelWord) × (k : ℕ) × IsRejected most.symbols models line word × (new ≡ old ++ take k (model_line line word))
+-- the models are refused at a line with a word, and a front of that line of output, of this length at most, is written
+abbrev pub IsRefusalFront : (ℕ → ModelWord → Type 0) → List ℕ → List ℕ → Type 0
+IsRefusalFront Refused old new = (line : ℕ) × (word : ModelWord) × (k : ℕ) × Refused line word × (new ≡ old ++ take k (model_line line word))
 
 -- What holds at each status of the models, the log, how many of the two names were handed to open (n), how much of the log was read (t), and what was written.
 abbrev pub Outcome : Most → List ℕ → List ℕ → ℕ → ℕ → List ℕ → Status → List ℕ → Type 0
@@ -40,8 +40,8 @@ Outcome most models log n t old Words new = ⊥
 Outcome most models log n t old Rejected new = (n ≡ 1) × ((line : ℕ) × (word : ModelWord) × IsRejected most.symbols models line word × (new ≡ old ++ model_line line word))
 Outcome most models log n t old ReadFault new = ((n < 2) × (new ≡ old)) ⊎ ((n ≡ 2) × WithModels most models (λ f. Appends (IsWholeText f (take t log)) old new))
 Outcome most models log n t old TooLong new = (n ≡ 2) × (t ≡ most.bytes) × WithModels most models (λ f. Appends (IsWholeText f (take t log)) old new)
-Outcome most models log n t old WriteFault new = ((n ≡ 2) × WithModels most models (λ f. IsCutShort f log t old new)) ⊎ ((n ≡ 1) × IsRefusalFront most models old new)
-Outcome most models log n t old Memory new = (new ≡ old) ⊎ ((n ≡ 2) × WithModels most models (λ f. IsCutShort f log t old new)) ⊎ ((n ≡ 1) × IsRefusalFront most models old new)
+Outcome most models log n t old WriteFault new = ((n ≡ 2) × WithModels most models (λ f. IsCutShort f log t old new)) ⊎ ((n ≡ 1) × IsRefusalFront (IsRejected most.symbols models) old new)
+Outcome most models log n t old Memory new = (new ≡ old) ⊎ ((n ≡ 2) × WithModels most models (λ f. IsCutShort f log t old new)) ⊎ ((n ≡ 1) × IsRefusalFront (IsRejected most.symbols models) old new)
 
 -- n of the two names were handed to open, the log only where the models are accepted, and t bytes of the log were read;
 -- the turns are first of the models' input and then of the log's, in each with rising counts, and the log's are prompt

@@ -4,9 +4,12 @@
 mod answer;
 mod laws;
 mod limits;
+mod listing;
+mod loading;
 mod log;
 mod models;
 mod piece;
+mod printing;
 mod run;
 mod session;
 mod status;

@@ -1,5 +1,5 @@
-use Rattle.std.proofs.Common.{inr}
-use Rattle.crs_top.proofs.Recognising.{run_refused, run_failed, run_memory, run_followed, long_is_rejected}
+use Rattle.std.proofs.Common.{inl, inr}
+use Rattle.crs_top.proofs.Recognising.{run_refused, run_failed, run_memory, run_followed, long_is_faulty}
 use Rattle.crs_top.proofs.run.recognise.Goals as goal
 
 pub returns-in-Err-Failed-clause-told : goal.returns-in-Err-Failed-clause-told
@@ -11,7 +11,7 @@ returns-in-Err-Memory-clause-told g c = λ t. run_memory _ _ _ _ _ _ (rw c.in-Er
 pub returns-in-Err-Long-clause-told : goal.returns-in-Err-Long-clause-told
 returns-in-Err-Long-clause-told g c = λ t.
     let h = rw c.in-Err-Long.field-0-is at (c.in-Err-Long.ensures.told t) in
-    run_refused _ _ _ (g.D.Desk.told c.load.new.desk) _ _ _ _ _ _ _ _ h.2 (long_is_rejected _ _ h.3) (c.refuse.ensures.told t)
+    run_refused _ _ _ (g.D.Desk.told c.load.new.desk) _ _ _ _ _ _ _ _ h.2 (inl (long_is_faulty _ _ h.3)) (c.refuse.ensures.told t)
 
 pub returns-in-Ok-prepare-clause-told : goal.returns-in-Ok-prepare-clause-told
 returns-in-Ok-prepare-clause-told g c = λ t.

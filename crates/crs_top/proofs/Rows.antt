@@ -1,0 +1,127 @@
+-- A log worked by hand, down to its settled entries, its recognitions and its text.
+use Rattle.std.proofs.Common.{◌≡◌, ◌⊎◌, ◌∙◌, ap, sym, refl, inl, inr, ℕ, ◌+◌, ℤ, pos, negsuc, zero, suc, ◌+ℤ◌, ◌≤ℤ◌, List, [], ◌∷◌, ◌++◌, length, None, Some, arith, ints}
+use Rattle.std.specs.Prelude.{codes, IfSome}
+use Rattle.std.specs.List.{AllByRecursion, AllZip}
+use Rattle.crs_base.specs.Lines.{lines_of}
+use Rattle.crs_base.specs.Words.{IsIn}
+use Rattle.crs_stn.specs.declared.bound.Bound.{Bound}
+use Rattle.crs_stn.specs.Bound.{Keeps, Meets, Agrees}
+use Rattle.std.proofs.lemmas.List.Elements.{All-from_recursion}
+use Rattle.crs_model.specs.declared.recognition.Mark.TheVariants.{Clock}
+use Rattle.crs_model.specs.Models.{EventDef, Chronicle, Message}
+use Rattle.crs_model.specs.Matching.{Binding, Assignment, PatternIs}
+use Rattle.crs_model.specs.Open.{IsRecognised, whole}
+use Rattle.crs_model.specs.Partial.{dates_of}
+use Rattle.crs_model.specs.Order.{Lists, assignment_cmp}
+use Rattle.crs_log.specs.Run.{State, at_start, after_lines, settled}
+use Rattle.crs_top.specs.Texts.{LogEntry, Frame, setting_of, IsNew, IsMarkText, IsLogText}
+
+abbrev plain : List ℕ → List ℕ → EventDef (List ℕ)
+plain name point = record { pattern = record { name = name; terms = []; change = None }; point = point; level = 0 }
+
+-- b comes 1 to 5 ticks after a
+abbrev model : Chronicle (List ℕ)
+model = record {
+  name = codes "c";
+  line = 7;
+  events = plain (codes "a") (codes "t1") ∷ plain (codes "b") (codes "t2") ∷ [];
+  free = [];
+  bounds = record { from = 0; to = 1; most = Some (pos 5) } ∷ record { from = 1; to = 0; most = Some (negsuc 0) } ∷ [];
+  variables = [];
+  sets = [];
+  differs = [];
+  windows = [];
+}
+
+abbrev frame : Frame
+frame = record {
+  models = record { names = record { name = codes "a"; arity = 0; kind = Message } ∷ record { name = codes "b"; arity = 0; kind = Message } ∷ []; chronicles = model ∷ [] };
+  texts = codes "a" ∷ codes "b" ∷ codes "c" ∷ codes "t1" ∷ codes "t2" ∷ [];
+  symbols = 100;
+  entries = 100;
+}
+
+abbrev lf : List ℕ
+lf = 10 ∷ []
+
+abbrev log : List ℕ
+log = codes "10 a" ++ lf ++ codes "12 b" ++ lf ++ codes "clock 13" ++ lf
+
+abbrev after : List ℕ → State
+after bytes = after_lines (setting_of frame) (at_start frame.texts) (lines_of bytes)
+
+abbrev entry : ℕ → ℕ → List ℕ → LogEntry
+entry arrival date name = record { arrival = arrival; date = date; name = name; args = []; change = None; text = name }
+
+abbrev first : LogEntry
+first = entry 0 10 (codes "a")
+
+abbrev second : LogEntry
+second = entry 1 12 (codes "b")
+
+-- what is dated before the horizon is settled
+settled_before : settled (after log) ≡ first ∷ second ∷ []
+settled_before = refl
+
+-- what is dated at the horizon isn't
+not_at_the_horizon : settled (after (codes "10 a" ++ lf ++ codes "13 b" ++ lf ++ codes "clock 13")) ≡ first ∷ []
+not_at_the_horizon = refl
+
+-- settled entries stand in the order of their dates, and of one date in that of their texts
+in_key_order : settled (after (codes "delay 5" ++ lf ++ codes "12 b" ++ lf ++ codes "10 b" ++ lf ++ codes "10 a" ++ lf ++ codes "clock 20")) ≡ entry 2 10 (codes "a") ∷ entry 1 10 (codes "b") ∷ entry 0 12 (codes "b") ∷ []
+in_key_order = refl
+
+abbrev both : List LogEntry
+both = first ∷ second ∷ []
+
+abbrev assignment : Assignment (List ℕ)
+assignment = record { entries = both; values = [] }
+
+abbrev dates : ℕ → ℤ
+dates zero = pos 10
+dates (suc p) = pos 12
+
+agree : Agrees (dates_of (whole assignment)) dates
+agree zero = refl
+agree (suc zero) = refl
+agree (suc (suc p)) = tt
+
+meet : Meets model.bounds dates
+meet = All-from_recursion (Keeps dates) model.bounds (omega (arith, ints), (omega (arith, ints), tt))
+
+recognised : IsRecognised model both both 13 assignment
+recognised = record {
+  assignment = record {
+    given = (inl refl, (inr (inl refl), tt));
+    distinct = (((λ (e : 0 ≡ 1). omega arith), tt), (tt, tt));
+    bound = refl;
+    equal = (record { name = refl; terms = tt; change = tt }, (record { name = refl; terms = tt; change = tt }, tt));
+    allowed = record { sets = tt; differs = tt };
+  };
+  bounds = (dates, agree, meet);
+  windows = λ w i. absurd i;
+}
+
+-- the other way round the bound isn't met
+not_recognised : (values : List (List ℕ)) → IsRecognised model both both 13 (record { entries = entry 0 12 (codes "a") ∷ entry 1 10 (codes "b") ∷ []; values = values }) → ⊥
+not_recognised values r = ?
+
+-- no other assignment is recognised
+only : (look : Binding (List ℕ)) (es : List LogEntry) → AllZip (λ v e. PatternIs look v.pattern e) model.events es → AllByRecursion (λ e. IsIn e both) es → es ≡ both
+only look [] h g = absurd h
+only look (x ∷ []) h g = absurd h.1
+only look (x ∷ (y ∷ [])) h g = both_are x y h.0.name h.1.0.name g.0 g.1.0
+only look (x ∷ (y ∷ (z ∷ zs))) h g = absurd h.1.1
+
+new : Lists assignment_cmp (IsNew model [] 0 both 13) (assignment ∷ [])
+new = record {
+  ascending = (tt, tt);
+  each = ((recognised, λ r. r.assignment.given.0), tt);
+  all = ?;
+}
+
+text_of_a_mark : IsMarkText (model ∷ []) (Clock 13) [] 0 both 13 (codes "c at 13 t1=10 t2=12" ++ lf)
+text_of_a_mark = (assignment ∷ [], [], new, refl, refl)
+
+text_of_a_log : IsLogText frame log (codes "c at 13 t1=10 t2=12" ++ lf)
+text_of_a_log = ([], _, refl, ([], _, refl, (_, [], text_of_a_mark, refl, refl), refl), refl)

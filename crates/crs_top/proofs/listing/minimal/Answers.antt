@@ -1,0 +1,30 @@
+use Rattle.std.proofs.Common.{ap, subst, List, map}
+use Rattle.std.specs.List.{AllByRecursion}
+use Rattle.crs_model.specs.Renaming.{text_in, renamed_models}
+use Rattle.crs_model.specs.Seen.{models_of, chronicle_of}
+use Rattle.crs_compile.specs.Minimal.{IsPrintable}
+use Rattle.crs_top.proofs.Preparing.{proper_models, compile_faulty, read_faulty, consistent_models}
+use Rattle.crs_top.proofs.Listed.{printables, minimal_named}
+use Rattle.crs_top.proofs.listing.minimal.Goals as goal
+
+pub compile-requires : goal.compile-requires
+compile-requires c = proper_models (models_of c.in-Ok-read_models.models) c.in-Ok-read_models.ensures.proper
+
+pub returns-in-Err-clause-refused : goal.returns-in-Err-clause-refused
+returns-in-Err-clause-refused c = read_faulty c.args.limit c.args.text.now c.in-Err.refused (rw c.in-Ok.ensures.ok at c.in-Err.ensures.refused)
+
+pub returns-in-Err-compile-clause-refused : goal.returns-in-Err-compile-clause-refused
+returns-in-Err-compile-clause-refused c =
+    compile_faulty c.args.limit c.args.text.now c.in-Ok-read_models.models c.read_models.new.symbols.texts (rw c.in-Ok.ensures.ok at c.in-Ok-read_models.ensures.ok) c.in-Err-compile.refused c.in-Err-compile.ensures.refused
+
+pub minimal_text-requires-clause-known : goal.minimal_text-requires-clause-known
+minimal_text-requires-clause-known c =
+    rw c.in-Ok-compile.ensures.chronicles (printables c.read_models.new.symbols.texts (models_of c.in-Ok-read_models.models).chronicles c.in-Ok-read_models.ensures.numbered.chronicles)
+
+pub returns-in-Ok-minimal_text-clause-ok : goal.returns-in-Ok-minimal_text-clause-ok
+returns-in-Ok-minimal_text-clause-ok c =
+    let texts = c.read_models.new.symbols.texts in (
+      renamed_models (text_in texts) (models_of c.in-Ok-read_models.models),
+      record { texts = texts; read = rw c.in-Ok.ensures.ok at c.in-Ok-read_models.ensures.ok; consistent = consistent_models texts c.in-Ok-read_models.models _ c.in-Ok-compile.ensures.chronicles c.in-Ok-compile.ensures.plans },
+      minimal_named (text_in texts) (models_of c.in-Ok-read_models.models).chronicles _ (rw c.in-Ok-compile.ensures.chronicles at c.in-Ok-minimal_text.ensures),
+    )
