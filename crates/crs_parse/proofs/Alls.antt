@@ -5,7 +5,7 @@ use Rattle.std.proofs.lemmas.List.Folds.{list_any-append}
 use Rattle.std.specs.Prelude.{bytes_eq}
 use Rattle.crs_base.specs.Symbols.{is_known, with_text}
 use Rattle.crs_parse.specs.Faults.{with_texts}
-use Rattle.crs_parse.proofs.Places.{same_bytes}
+use Rattle.crs_grammar.proofs.Decided.{same_bytes}
 
 module _ {A : Type 0} (P : A → Type 0) where
   pub all_append : (xs ys : List A) → AllByRecursion P xs → AllByRecursion P ys → AllByRecursion P (xs ++ ys)

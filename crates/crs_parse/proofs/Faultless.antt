@@ -1,21 +1,17 @@
 -- What holds of a statement to which no word applies.
-use Rattle.std.proofs.Common.{◌≡◌, ℕ, ℤ, pos, ◌<◌, ◌≤◌, Bool, true, false, cond, ◌||◌, ◌&&◌, not, nat_le, nat_lt, List, [], ◌∷◌, Option, Some, None, refl, arith}
+use Rattle.std.proofs.Common.{◌≡◌, ℕ, ℤ, pos, ◌<◌, ◌≤◌, Bool, true, false, cond, ◌||◌, not, nat_le, nat_lt, List, [], ◌∷◌, Option, Some, None, refl, arith}
 use Rattle.std.specs.Prelude.{int_lt, neg_ℤ, IfSome}
 use Rattle.std.specs.List.{AllByRecursion}
 use Rattle.std.proofs.lemmas.Bool.{ltb-false, leb-false}
 use Rattle.std.proofs.lemmas.Int.{ints}
 use Rattle.crs_model.specs.declared.models.ModelWord.{ModelWord}
-use Rattle.crs_parse.specs.Statements.{Statement}
+use Rattle.crs_grammar.specs.Statements.{Statement}
 use Rattle.crs_parse.specs.Faults.{Name, Written, first_of, faults_of, is_twice, has_no_name, has_wrong_arity, has_wrong_value, has_no_variable, has_no_point, is_out_of_bounds, has_any, passes_count, lacks_events, is_unbound, is_above, is_far}
 use Rattle.crs_parse.specs.Held.{IsNear}
 
 pub or_false : (a b : Bool) → (a || b) ≡ false → (a ≡ false) × (b ≡ false)
 or_false true b e = cc
 or_false false b e = (refl, e)
-
-pub and_true : (a b : Bool) → (a && b) ≡ true → (a ≡ true) × (b ≡ true)
-and_true true b e = (refl, e)
-and_true false b e = cc
 
 pub not_false : (a : Bool) → not a ≡ false → a ≡ true
 not_false true e = refl

@@ -1,7 +1,7 @@
 -- The parts of a statement whose symbols are held.
 use Rattle.std.proofs.Common.{◌≡◌, ℕ, ◌+◌, ◌≤◌, ◌<◌, Bool, false, ◌||◌, nat_le, nat_lt, List, [], ◌∷◌, ◌++◌, length, Option, Some, None, arith, length-append}
 use Rattle.std.specs.Prelude.{IfSome}
-use Rattle.crs_parse.specs.Statements.{Term, Value, Variable, Any, Pattern, Event, Body, NoEvent, Occurs, Hold, Window, Distance, Statement, Message, Attribute, Begin, Happens, Point, Between, Among, Differ, Over, Close}
+use Rattle.crs_grammar.specs.Statements.{Term, Value, Variable, Any, Pattern, Event, Body, NoEvent, Occurs, Hold, Window, Distance, Statement, Message, Attribute, Begin, Happens, Point, Between, Among, Differ, Over, Close}
 use Rattle.crs_parse.specs.Faults.{Name, Written, symbols_of, term_symbols, terms_symbols, change_symbols, pattern_symbols, body_symbols, values_symbols, variable_in, variables_in, variables_of, change_terms, with_statement, with_texts, is_full, is_above, is_below, has_wrong_counts, is_out_of_bounds, is_far, are_crossed, shift_size, begun, message_named, attribute_named}
 use Rattle.crs_parse.specs.Meant.{level_of}
 use Rattle.crs_parse.specs.Held.{IsHeld, AreHeld, IsHeldTerm, AreHeldTerms, IsHeldPattern, IsHeldEvent, IsHeldBody, IsHeldWindow, IsHeldSet, AreNear, IsHeldChronicle, IsHeldName}

@@ -1,6 +1,3 @@
-pub mod Grown
-pub mod Shifts
-pub mod Listed
 pub mod ProperBack
 pub mod Properly
 pub mod SoundReading
@@ -20,15 +17,8 @@ pub mod Texts
 pub mod Chains
 pub mod Overfull
 pub mod Folds
-pub mod Gives
-pub mod GivesAnchors
-pub mod GivesStatements
-pub mod Takes
-pub mod TakesStatements
-pub mod CanonTokens
 pub mod Premises
 pub mod Until
 pub mod Grows
 pub mod Parts
 pub mod Rows
-pub mod CanonRows

@@ -2,15 +2,9 @@
 use Rattle.std.proofs.Common.{◌≡◌, ℕ, ◌+◌, ◌<◌, Bool, true, false, cond, not, nat_lt, List, [], ◌∷◌, length, refl, sym, ap, ◌∙◌, suc, one-add, position, Some, None, option_map, true≢false, arith, ◌||◌}
 use Rattle.std.specs.Prelude.{bytes_eq}
 use Rattle.std.specs.List.{position_or_len}
-use Rattle.std.proofs.lemmas.Slice.Eq.{bytes_eq-Decides}
 use Rattle.crs_base.specs.declared.symbols.Sym.{Sym}
 use Rattle.crs_base.specs.Symbols.{text_at, is_known}
-
-pub bytes_same : (t u : List ℕ) → bytes_eq t u ≡ true → t ≡ u
-bytes_same t u h = (bytes_eq-Decides t u).0 h
-
-pub same_bytes : (t : List ℕ) → bytes_eq t t ≡ true
-same_bytes t = (bytes_eq-Decides t t).1 refl
+use Rattle.crs_grammar.proofs.Decided.{bytes_same}
 
 place_step : (b : Bool) (u t : List ℕ) (us : List (List ℕ)) (n : ℕ) → (b ≡ true → t ≡ u) → (b || is_known us t) ≡ true → (is_known us t ≡ true → text_at us n ≡ t)
     → text_at (u ∷ us) (cond (not b) (1 + n) 0) ≡ t

@@ -13,7 +13,7 @@ use Rattle.crs_stn.specs.Bound.{IsBoundBelow}
 use Rattle.crs_model.specs.Models as m
 use Rattle.crs_model.specs.Bindings.{TermIsBelow, PatternIsBelow}
 use Rattle.crs_model.specs.Proper.{term_has, terms_have, change_has, pattern_has, IsNamed}
-use Rattle.crs_parse.specs.Statements.{Term, Value, Variable, Any, Pattern, Event, Shift, Here, Later, Earlier, Anchor, Body, NoEvent, Occurs, Hold, Distance}
+use Rattle.crs_grammar.specs.Statements.{Term, Value, Variable, Any, Pattern, Event, Shift, Here, Later, Earlier, Anchor, Body, NoEvent, Occurs, Hold, Distance}
 use Rattle.crs_parse.specs.Faults.{Kind, OfMessage, OfAttribute, Name, Written, Reading, is_of, suits, is_attribute, is_point, event_points, variable_in, variables_in, variables_of, change_terms, lacks, change_lacks, pattern_lacks, body_lacks, shift_size}
 use Rattle.crs_parse.specs.Meant.{place_in, points_of, term_of, change_of, pattern_of, body_of, event_of, offset_of, anchor_of, window_of, bounds_of, set_of, differ_of, chronicle_of, kind_of, name_of, models_in}
 use Rattle.crs_parse.specs.Held.{IsNear, AreNear, IsHeldEvent, IsHeldWindow, IsHeldChronicle, IsHeldReading}
@@ -21,7 +21,8 @@ use Rattle.crs_parse.specs.Proper as p
 use Rattle.crs_parse.proofs.Alls.{all_left, all_right}
 use Rattle.crs_parse.proofs.Faultless.{or_false, not_false}
 use Rattle.crs_parse.proofs.Numbered.{each_made}
-use Rattle.crs_parse.proofs.Places.{place_within, bytes_same, same_bytes}
+use Rattle.crs_grammar.proofs.Decided.{bytes_same, same_bytes}
+use Rattle.crs_parse.proofs.Places.{place_within}
 use Rattle.crs_parse.proofs.Points.{points_count}
 use Rattle.crs_parse.proofs.Sound.{Declares, IsDeclared, IsDeclaredBody, AreOf, stands_in, Distinct, IsSound, IsWhole}
 use Rattle.crs_parse.proofs.SoundReading.{IsSoundSoFar}

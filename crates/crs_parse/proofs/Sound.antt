@@ -7,11 +7,11 @@ use Rattle.std.proofs.lemmas.List.Folds.{list_any-append}
 use Rattle.crs_base.specs.Words.{IsIn}
 use Rattle.crs_base.specs.Symbols.{is_known, with_text}
 use Rattle.crs_base.proofs.Words.{in_append_left}
-use Rattle.crs_parse.specs.Statements.{Term, Pattern, Event, Body, NoEvent, Occurs, Hold, Statement, Message, Attribute, Begin, Happens, Point, Between, Among, Differ, Over, Close}
+use Rattle.crs_grammar.specs.Statements.{Term, Pattern, Event, Body, NoEvent, Occurs, Hold, Statement, Message, Attribute, Begin, Happens, Point, Between, Among, Differ, Over, Close}
 use Rattle.crs_parse.specs.Faults.{Name, Written, is_of, with_texts, name_of, suits, is_attribute, is_unnamed, is_misfit, is_no_attribute, has_other_arity, is_point, event_points, variables_of, body_lacks, with_statement, begun, body_has_no_name, body_has_wrong_arity}
-use Rattle.crs_parse.proofs.Places.{bytes_same, same_bytes}
+use Rattle.crs_grammar.proofs.Decided.{and_true, bytes_same, same_bytes}
 use Rattle.crs_parse.proofs.Alls.{all_put, all_each, all_with, known_behind, known_put, known_left}
-use Rattle.crs_parse.proofs.Faultless.{IsFaultless, or_false, and_true, not_false, not_le}
+use Rattle.crs_parse.proofs.Faultless.{IsFaultless, or_false, not_false, not_le}
 use Rattle.crs_parse.proofs.HeldParts.{room_of}
 
 found_step : (b : Bool) (n m : Name) (o : Option Name) (t : List ℕ) (ms : List Name) → bytes_eq t m.name ≡ b → cond b (Some m) o ≡ Some n → (o ≡ Some n → IsIn n ms × (n.name ≡ t)) → IsIn n (m ∷ ms) × (n.name ≡ t)

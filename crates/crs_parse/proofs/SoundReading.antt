@@ -3,7 +3,7 @@ use Rattle.std.proofs.Common.{◌≡◌, ℕ, ◌+◌, ◌≤◌, ◌<◌, Bool,
 use Rattle.std.specs.Prelude.{IfSome, option_map}
 use Rattle.std.specs.List.{AllByRecursion}
 use Rattle.crs_base.specs.Lines.{Line}
-use Rattle.crs_parse.specs.Statements.{Statement, Message, Attribute, Begin, Happens, Point, Between, Among, Differ, Over, Close, is_inside}
+use Rattle.crs_grammar.specs.Statements.{Statement, Message, Attribute, Begin, Happens, Point, Between, Among, Differ, Over, Close, is_inside}
 use Rattle.crs_parse.specs.Faults.{Name, Written, Reading, opened, message_named, attribute_named, with_statement, after, after_line, after_lines, nothing_read, is_above}
 use Rattle.crs_parse.proofs.Alls.{all_put, all_each}
 use Rattle.crs_parse.proofs.Faultless.{IsFaultless, or_false, not_le}

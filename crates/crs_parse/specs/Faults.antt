@@ -6,8 +6,8 @@ use Rattle.crs_model.specs.declared.models.ModelWord.{ModelWord}
 use Rattle.crs_model.specs.declared.models.ModelWord.TheVariants.{Form as FormWord, Twice, Name as NameWord, Arity as ArityWord, Value as ValueWord, Variable as VariableWord, Point as PointWord, Bound as BoundWord, Window as WindowWord, Limit as LimitWord, Events as EventsWord, Unbound as UnboundWord, Size as SizeWord}
 use Rattle.crs_base.specs.Lines.{Line, lines_of, bytes_of, is_long, is_passed_over}
 use Rattle.crs_base.specs.Tokens.{tokens_of, is_model_mark}
-use Rattle.crs_parse.specs.Statements.{Term, Value, Variable, Any, Pattern, Event, Shift, Here, Later, Earlier, Body, NoEvent, Occurs, Hold, Window, Distance, Statement, Message, Attribute, Begin, Happens, Point, Between, Among, Differ, Over, Close}
-use Rattle.crs_parse.specs.Reading.{statement_of, ◌>>=◌}
+use Rattle.crs_grammar.specs.Statements.{Term, Value, Variable, Any, Pattern, Event, Shift, Here, Later, Earlier, Body, NoEvent, Occurs, Hold, Window, Distance, Statement, Message, Attribute, Begin, Happens, Point, Between, Among, Differ, Over, Close}
+use Rattle.crs_grammar.specs.Reading.{statement_of, ◌>>=◌}
 
 pub data Kind : Type 0 where
   OfMessage : Kind

@@ -3,7 +3,7 @@ use Rattle.std.specs.Prelude.{◌≡◌, ℕ, List, [], ◌++◌, Option, Some, 
 use Rattle.std.specs.List.{AllByRecursion, flat_map}
 use Rattle.crs_base.specs.Lines.{Line, bytes_of}
 use Rattle.crs_base.specs.Words.{IsIn}
-use Rattle.crs_parse.specs.Statements.{Statement}
+use Rattle.crs_grammar.specs.Statements.{Statement}
 use Rattle.crs_parse.specs.Faults.{symbols_of}
 use Rattle.crs_parse.specs.Steps.{inside_line, outside_line}
 

@@ -2,7 +2,7 @@
 use Rattle.std.specs.Prelude.{◌≡◌, ◌≤◌, ◌≤ℤ◌, ◌+ℤ◌, ◌^◌, ◌+◌, ℕ, ℤ, pos, true, List, length, IfSome}
 use Rattle.std.specs.List.{AllByRecursion}
 use Rattle.crs_base.specs.Symbols.{is_known, is_symbol}
-use Rattle.crs_parse.specs.Statements.{Term, Value, Pattern, Event, Body, NoEvent, Occurs, Hold, Window, Distance}
+use Rattle.crs_grammar.specs.Statements.{Term, Value, Pattern, Event, Body, NoEvent, Occurs, Hold, Window, Distance}
 use Rattle.crs_parse.specs.Faults.{Kind, OfMessage, OfAttribute, Name, Written, Reading, shift_size}
 use Rattle.crs_parse.specs.Meant.{level_of}
 

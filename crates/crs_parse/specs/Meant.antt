@@ -3,7 +3,7 @@ use Rattle.std.specs.Prelude.{ℕ, ℤ, pos, neg_ℤ, List, [], ◌∷◌, ◌++
 use Rattle.std.specs.List.{flat_map, position_or_len}
 use Rattle.crs_stn.specs.declared.bound.Bound.{Bound}
 use Rattle.crs_model.specs.Models.{Term, Value, Var, Any, Pattern, EventDef, VarSet, Anchor, Body, NoEvent, Occurs, Hold, Window, Chronicle, Kind, Message, Attribute, Name, Models}
-use Rattle.crs_parse.specs.Statements as w
+use Rattle.crs_grammar.specs.Statements as w
 use Rattle.crs_parse.specs.Faults as f
 
 -- the number of a text among others

@@ -9,7 +9,7 @@ use Rattle.crs_parse.specs.declared.builder.Written.{Written as CodeWritten}
 use Rattle.crs_parse.specs.declared.builder.Closed.{Closed as CodeClosed}
 use Rattle.crs_parse.specs.declared.builder.Reading.{Reading as CodeReading}
 use Rattle.crs_parse.specs.Faults.{Kind, OfMessage, OfAttribute, Name, Written, Reading}
-use Rattle.crs_parse.specs.SeenStatements.{event_of, distance_of, window_of}
+use Rattle.crs_grammar.specs.SeenStatements.{event_of, distance_of, window_of}
 
 abbrev pub values_of : Option (Vec (Bor (List ℕ)) Global) → Option (List (List ℕ))
 values_of values = option_map (λ vs. map (λ v. v.now) vs.items) values

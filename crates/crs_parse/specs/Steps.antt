@@ -3,8 +3,8 @@ use Rattle.std.specs.Prelude.{◌≡◌, ℕ, nat_lt, Bool, List, [], ◌∷◌,
 use Rattle.std.specs.List.{AllByRecursion}
 use Rattle.crs_base.specs.Symbols.{is_symbol}
 use Rattle.crs_base.specs.Tokens.{Token, tokens_of, is_model_mark}
-use Rattle.crs_parse.specs.Statements.{Statement, Message, Attribute, Begin, Close, is_inside}
-use Rattle.crs_parse.specs.Reading.{◌>>=◌, inside_of, outside_of}
+use Rattle.crs_grammar.specs.Statements.{Statement, Message, Attribute, Begin, Close, is_inside}
+use Rattle.crs_grammar.specs.Reading.{◌>>=◌, inside_of, outside_of}
 use Rattle.crs_parse.specs.Faults.{Name, Written, Reading, own_fault, begun, message_named, attribute_named, with_statement, with_texts, symbols_of}
 use Rattle.crs_model.specs.declared.models.ModelWord.{ModelWord}
 use Rattle.crs_model.specs.declared.models.ModelWord.TheVariants.{Form as FormWord, Limit as LimitWord}

@@ -3,13 +3,13 @@ ghost use Rattle.std.specs.Prelude.{◌≡◌, ◌∷◌, [], ◌++◌, ◌&&◌
 ghost use Rattle.std.specs.List.{list_any};
 ghost use Rattle.crs_parse.specs.Faults as faults;
 ghost use Rattle.crs_parse.specs.SeenReading as see;
-ghost use Rattle.crs_parse.specs.Statements.{Point, Between, Among, Differ, Over, Happens, Close, Message, Attribute, Begin};
+ghost use Rattle.crs_grammar.specs.Statements.{Point, Between, Among, Differ, Over, Happens, Close, Message, Attribute, Begin};
 ghost use Rattle.crs_base.specs.Symbols.{with_text};
 ghost use Rattle.crs_parse.specs.Adds.{Adds};
 ghost use Rattle.crs_parse.specs.declared.builder.Refused.TheVariants.{Memory};
-ghost use Rattle.crs_parse.specs.SeenStatements as seen;
+ghost use Rattle.crs_grammar.specs.SeenStatements as seen;
 
-use crate::statements::{Anchor, Body, Distance, Event, Pattern, Shift, Statement, Term, Window};
+use crs_grammar::{Anchor, Body, Distance, Event, Pattern, Shift, Statement, Term, Window};
 use crs_model::ModelWord;
 use std::alloc::{AllocError, AllocFailed, Global};
 

@@ -8,12 +8,12 @@ ghost use Rattle.crs_model.specs.Renaming as renamed;
 ghost use Rattle.crs_parse.specs.Faults as faults;
 ghost use Rattle.crs_parse.specs.Held as held;
 ghost use Rattle.crs_parse.specs.SeenReading as see;
-ghost use Rattle.crs_parse.specs.SeenStatements as seen;
+ghost use Rattle.crs_grammar.specs.SeenStatements as seen;
 
 use crate::builder::{self, Closed, Reading, VariableSet, Written};
-use crate::statements as written;
-use crate::statements::{Distance, Event, Shift};
 use crs_base::{List, Sym, Symbols};
+use crs_grammar as written;
+use crs_grammar::{Distance, Event, Shift};
 use crs_model::{
     Anchor, Body, Chronicle, EventDef, Kind, Models, Name, Pattern, Term, VarSet, Window,
 };

@@ -4,20 +4,18 @@ ghost use Rattle.std.specs.List.{AllByRecursion};
 ghost use Rattle.crs_base.specs.Symbols.{is_symbol};
 ghost use Rattle.crs_parse.specs.Faults as faults;
 ghost use Rattle.crs_parse.specs.Steps as steps;
-ghost use Rattle.crs_parse.specs.Gives.{Gives};
+ghost use Rattle.crs_grammar.specs.Gives.{Gives};
 ghost use Rattle.crs_parse.specs.Grows.{Grows, AreAmong, read_symbols, line_symbols, lines_symbols};
 ghost use Rattle.crs_parse.specs.Adds.{Adds};
 ghost use Rattle.crs_base.specs.Lines.{lines_of};
 ghost use Rattle.crs_base.specs.SeenLines.{line_seen};
 ghost use Rattle.crs_parse.specs.SeenReading as see;
-ghost use Rattle.crs_parse.specs.SeenStatements as seen;
+ghost use Rattle.crs_grammar.specs.SeenStatements as seen;
 
 use crate::builder::{Closed, Name, Refused, Written, add_attribute, add_message, begin_fault};
-use crate::parsing::{inside, outside};
-use crate::statements::{Declaration, Statement, Unread};
 use crate::symbols::{declared_symbols, intern_all, symbols_of};
-use crate::tokens::tokens;
 use crs_base::{RawLine, SymRefused, Symbols, first_line, is_long, line_bytes, passed_over};
+use crs_grammar::{Declaration, Statement, Unread, inside, outside, tokens};
 use crs_model::{ModelRefused, ModelWord};
 use std::alloc::Global;
 

@@ -3,12 +3,12 @@ ghost use Rattle.std.specs.Prelude.{◌≡◌, ◌++◌, map, OnOk, IfOk, true, 
 ghost use Rattle.std.specs.List.{AllByRecursion};
 ghost use Rattle.crs_base.specs.Symbols.{is_symbol};
 ghost use Rattle.crs_parse.specs.Faults as faults;
-ghost use Rattle.crs_parse.specs.SeenStatements as seen;
+ghost use Rattle.crs_grammar.specs.SeenStatements as seen;
 ghost use Rattle.crs_parse.specs.Grows.{Grows};
 ghost use Rattle.crs_parse.specs.Overfull.{IsOverfull};
 
-use crate::statements::{Body, Declaration, Pattern, Statement, Term};
 use crs_base::{SymRefused, Symbols};
+use crs_grammar::{Body, Declaration, Pattern, Statement, Term};
 use std::alloc::{AllocError, Global};
 
 fn push_term<'a>(out: &mut Vec<&'a [u8]>, term: &Term<'a>) -> Result<(), AllocError>

@@ -6,7 +6,7 @@ use Rattle.crs_model.specs.declared.models.ModelWord.{ModelWord}
 use Rattle.crs_model.specs.declared.models.ModelRefused.{ModelRefused}
 use Rattle.crs_model.specs.declared.models.ModelRefused.TheVariants.{At, Memory as NoMemory}
 use Rattle.crs_model.specs.Models.{Models}
-use Rattle.crs_parse.specs.Printed.{models_text}
+use Rattle.crs_print.specs.Printed.{models_text}
 use Rattle.crs_compile.specs.Minimal.{IsMinimalText}
 use Rattle.crs_report.specs.Lines.{model_line}
 use Rattle.crs_top.specs.declared.status.Status.{Status}

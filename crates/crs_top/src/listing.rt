@@ -7,7 +7,8 @@ use crate::words::Listing;
 use crs_base::{Symbols, Text};
 use crs_compile::{compile, minimal_text};
 use crs_model::ModelRefused;
-use crs_parse::{print_models, read_models};
+use crs_parse::read_models;
+use crs_print::print_models;
 use std::alloc::Global;
 
 /// The listing of the models that the text means. It is refused exactly where the text breaks a

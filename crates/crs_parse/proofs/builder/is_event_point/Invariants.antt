@@ -1,6 +1,6 @@
 use Rattle.std.proofs.Common.{◌≡◌, drop, map}
 use Rattle.crs_parse.specs.Faults as faults
-use Rattle.crs_parse.specs.SeenStatements as seen
+use Rattle.crs_grammar.specs.SeenStatements as seen
 use Rattle.crs_parse.proofs.builder.is_event_point.Given as goal
 
 -- the answer for what is left is the answer for all

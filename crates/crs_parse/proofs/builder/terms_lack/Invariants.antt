@@ -1,7 +1,7 @@
 use Rattle.std.proofs.Common.{◌≡◌, drop, map}
 use Rattle.std.specs.List.{list_any}
 use Rattle.crs_parse.specs.Faults as faults
-use Rattle.crs_parse.specs.SeenStatements as seen
+use Rattle.crs_grammar.specs.SeenStatements as seen
 use Rattle.crs_parse.proofs.builder.terms_lack.Given as goal
 
 -- the answer for what is left is the answer for all

@@ -2,7 +2,7 @@ use Rattle.std.proofs.Common.{◌∙◌, map}
 use Rattle.std.specs.List.{flat_map}
 use Rattle.crs_parse.specs.Meant as meant
 use Rattle.crs_parse.specs.SeenReading as see
-use Rattle.crs_parse.specs.SeenStatements as seen
+use Rattle.crs_grammar.specs.SeenStatements as seen
 use Rattle.crs_parse.proofs.Points.{points_few}
 use Rattle.crs_parse.proofs.numbering.chronicle.Goals as goal
 

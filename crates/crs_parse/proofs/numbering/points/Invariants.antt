@@ -1,5 +1,5 @@
 use Rattle.std.proofs.Common.{◌≡◌, ◌++◌, drop, map}
-use Rattle.crs_parse.specs.SeenStatements as seen
+use Rattle.crs_grammar.specs.SeenStatements as seen
 use Rattle.crs_parse.proofs.numbering.points.Given as goal
 
 -- those so far and those of what is left

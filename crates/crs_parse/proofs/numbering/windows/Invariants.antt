@@ -4,7 +4,7 @@ use Rattle.crs_model.specs.Seen as view
 use Rattle.crs_parse.specs.Meant as meant
 use Rattle.crs_model.specs.Renaming as renamed
 use Rattle.crs_parse.specs.Held as held
-use Rattle.crs_parse.specs.SeenStatements as seen
+use Rattle.crs_grammar.specs.SeenStatements as seen
 use Rattle.crs_parse.proofs.numbering.windows.Given as goal
 
 -- those so far and those of what is left

@@ -1,0 +1,14 @@
+-- What is known where a test answers true.
+use Rattle.std.proofs.Common.{◌≡◌, ℕ, Bool, true, false, ◌&&◌, List, refl}
+use Rattle.std.specs.Prelude.{bytes_eq}
+use Rattle.std.proofs.lemmas.Slice.Eq.{bytes_eq-Decides}
+
+pub and_true : (a b : Bool) → (a && b) ≡ true → (a ≡ true) × (b ≡ true)
+and_true true b e = (refl, e)
+and_true false b e = cc
+
+pub bytes_same : (t u : List ℕ) → bytes_eq t u ≡ true → t ≡ u
+bytes_same t u h = (bytes_eq-Decides t u).0 h
+
+pub same_bytes : (t : List ℕ) → bytes_eq t t ≡ true
+same_bytes t = (bytes_eq-Decides t t).1 refl
