@@ -1,3 +1,16 @@
 pub mod Shifts
 pub mod Listed
 pub mod Grown
+pub mod Again
+pub mod Distinct
+pub mod Good
+pub mod GoodNext
+pub mod GoodReading
+pub mod Law
+pub mod Lines
+pub mod Next
+pub mod Normal
+pub mod Says
+pub mod Steps
+pub mod Tables
+pub mod Written

@@ -1,2 +1,3 @@
 pub mod Printed
 pub mod Said
+pub mod Laws

@@ -1,6 +1,8 @@
 -- A log worked by hand, down to its settled entries, its recognitions and its text.
-use Rattle.std.proofs.Common.{◌≡◌, ◌⊎◌, ◌∙◌, ap, sym, refl, inl, inr, ℕ, ◌+◌, ℤ, pos, negsuc, zero, suc, ◌+ℤ◌, ◌≤ℤ◌, List, [], ◌∷◌, ◌++◌, length, None, Some, arith, ints}
-use Rattle.std.specs.Prelude.{codes, IfSome}
+use Rattle.std.proofs.lemmas.Int.{ints}
+use Rattle.std.proofs.Common.{lit<, get_or, ◌≡◌, ◌⊎◌, ◌∙◌, ap, sym, refl, inl, inr, ℕ, ◌+◌, ℤ, pos, negsuc, zero, suc, ◌+ℤ◌, ◌≤ℤ◌, List, [], ◌∷◌, ◌++◌, length, None, Some, ◌≢◌, arith}
+use Rattle.std.specs.Prelude.{codes, slice_get}
+use Rattle.std.specs.Fmt.{digits}
 use Rattle.std.specs.List.{AllByRecursion, AllZip}
 use Rattle.crs_base.specs.Lines.{lines_of}
 use Rattle.crs_base.specs.Words.{IsIn}
@@ -104,23 +106,49 @@ recognised = record {
 
 -- the other way round the bound isn't met
 not_recognised : (values : List (List ℕ)) → IsRecognised model both both 13 (record { entries = entry 0 12 (codes "a") ∷ entry 1 10 (codes "b") ∷ []; values = values }) → ⊥
-not_recognised values r = ?
+not_recognised values r =
+    let before : r.bounds.0 1 ≡ pos 10 = r.bounds.1 1 in
+    let after : r.bounds.0 0 ≡ pos 12 = r.bounds.1 0 in
+    let least : r.bounds.0 0 ≤ℤ (r.bounds.0 1 +ℤ negsuc 0) = r.bounds.2 1 (record { from = 0; to = 0; most = None }) (lit< tt) in
+    absurd (omega (arith, ints))
+
+-- an entry of the name a is the first, and one of the name b the second
+is_first : (x : LogEntry) → codes "a" ≡ x.name → IsIn x both → x ≡ first
+is_first x e (inl h) = h
+is_first x e (inr (inl h)) = let n : 97 ≡ 98 = ap (λ (t : List ℕ). get_or t 0 0) (e ∙ ap (λ (y : LogEntry). y.name) h) in absurd (omega (arith, n))
+is_first x e (inr (inr h)) = absurd h
+
+is_second : (x : LogEntry) → codes "b" ≡ x.name → IsIn x both → x ≡ second
+is_second x e (inl h) = let n : 98 ≡ 97 = ap (λ (t : List ℕ). get_or t 0 0) (e ∙ ap (λ (y : LogEntry). y.name) h) in absurd (omega (arith, n))
+is_second x e (inr (inl h)) = h
+is_second x e (inr (inr h)) = absurd h
+
+are_both : (x y : LogEntry) → x ≡ first → y ≡ second → (x ∷ y ∷ []) ≡ both
+are_both x y e f = cc
+
+no_values : (vs : List (List ℕ)) → length vs ≡ 0 → vs ≡ []
+no_values [] e = refl
+no_values (v ∷ vs) e = absurd (omega (arith, e))
 
 -- no other assignment is recognised
 only : (look : Binding (List ℕ)) (es : List LogEntry) → AllZip (λ v e. PatternIs look v.pattern e) model.events es → AllByRecursion (λ e. IsIn e both) es → es ≡ both
 only look [] h g = absurd h
 only look (x ∷ []) h g = absurd h.1
-only look (x ∷ (y ∷ [])) h g = both_are x y h.0.name h.1.0.name g.0 g.1.0
+only look (x ∷ (y ∷ [])) h g = are_both x y (is_first x h.0.name g.0) (is_second y h.1.0.name g.1.0)
 only look (x ∷ (y ∷ (z ∷ zs))) h g = absurd h.1.1
+
+same : (es : List LogEntry) (vs : List (List ℕ)) (fs : List LogEntry) (ws : List (List ℕ)) → es ≡ fs → vs ≡ ws → ◌≡◌ {A = Assignment (List ℕ)} (record { entries = es; values = vs }) (record { entries = fs; values = ws })
+same es vs fs ws e f = cc
 
 new : Lists assignment_cmp (IsNew model [] 0 both 13) (assignment ∷ [])
 new = record {
   ascending = (tt, tt);
   each = ((recognised, λ r. r.assignment.given.0), tt);
-  all = ?;
+  all = λ a h. inl (same a.entries a.values both [] (only (slice_get a.values) a.entries h.0.assignment.equal h.0.assignment.given) (no_values a.values h.0.assignment.bound));
 }
 
 text_of_a_mark : IsMarkText (model ∷ []) (Clock 13) [] 0 both 13 (codes "c at 13 t1=10 t2=12" ++ lf)
+unfolding digits
 text_of_a_mark = (assignment ∷ [], [], new, refl, refl)
 
 text_of_a_log : IsLogText frame log (codes "c at 13 t1=10 t2=12" ++ lf)

@@ -9,12 +9,16 @@ use std::test::Fail;
 const MODELS: &str =
     "message a 0\nmessage b 0\nchronicle c {\n  event(a, t1)\n  event(b, t2)\n  t2 - t1 in [1, 5]\n}\n";
 
-fn words_of(alloc: Global) -> Result<Vec<String>, AllocError> {
+fn words_in(alloc: Global, line: &str) -> Result<Vec<String>, AllocError> {
     let mut words = Vec::new(alloc);
-    for word in ["run", "m", "l"] {
+    for word in line.split(' ') {
         words.push(String::from_str(alloc, word)?)?;
     }
     Ok(words)
+}
+
+fn words_of(alloc: Global) -> Result<Vec<String>, AllocError> {
+    words_in(alloc, "run m l")
 }
 
 fn desk_of(alloc: Global, models: &str, log: &str) -> Result<MemoryDesk, AllocError>
@@ -214,5 +218,79 @@ fn failing_calls(rt: HostRuntime) -> Result<(), Fail> {
         Status::Words
     );
     assert!(rt; desk.written().is_empty());
+    Ok(())
+}
+
+#[test]
+fn printed_models(rt: HostRuntime) -> Result<(), Fail> {
+    let alloc = rt.alloc();
+    let free =
+        "message a 0\nmessage b 0\nchronicle f {\nevent(a, t1)\nevent(b, t2)\npoint z\nt1 - z in [0, 3]\nt2 - z in [0, 3]\n}\n";
+    let round =
+        "message a 0\nmessage b 0\nchronicle c {\nevent(a, t1)\nevent(b, t2)\nt2 - t1 in [1, 5]\nt1 - t2 in [0, 9]\n}\n";
+    let quiet =
+        "message a 0\n# quiet\nchronicle q {\nevent(a , t1) level 0\nnoevent( a,(t1 + 1,t1+ 010))\n}";
+    for (words, models, status, output) in [
+        ("model m", MODELS, Status::Done, MODELS),
+        (
+            "model --minimal m",
+            MODELS,
+            Status::Done,
+            "chronicle c reach 5\n  t2 - t1 in [1, 5]\n  earliest t1=0 t2=1\n",
+        ),
+        (
+            "model --minimal m",
+            free,
+            Status::Done,
+            "chronicle f reach 3\n  t2 - t1 in [-3, 3]\n  z - t1 in [-3, 0]\n  z - t2 in [-3, 0]\n  earliest t1=0 t2=0 z=0\n",
+        ),
+        (
+            "model m",
+            quiet,
+            Status::Done,
+            "message a 0\nchronicle q {\n  event(a, t1)\n  noevent(a, (t1 + 1, t1 + 10))\n}\n",
+        ),
+        (
+            "model m",
+            round,
+            Status::Rejected,
+            "model line 8 inconsistent\n",
+        ),
+        (
+            "model --minimal m",
+            round,
+            Status::Rejected,
+            "model line 8 inconsistent\n",
+        ),
+        (
+            "run m l",
+            round,
+            Status::Rejected,
+            "model line 8 inconsistent\n",
+        ),
+        (
+            "model m",
+            "message a 9\n",
+            Status::Rejected,
+            "model line 1 limit\n",
+        ),
+        ("model m", "", Status::Done, ""),
+        ("model l", MODELS, Status::ReadFault, ""),
+        ("model m m", MODELS, Status::Words, ""),
+        ("model --minimal", MODELS, Status::Words, ""),
+        ("model -x", MODELS, Status::Words, ""),
+        ("run m", MODELS, Status::Words, ""),
+        ("run --summary m l", MODELS, Status::Words, ""),
+        ("models m", MODELS, Status::Words, ""),
+    ] {
+        let words = words_in(alloc, words)?;
+        let mut desk = MemoryDesk::new(alloc);
+        desk.add_file("m", models.as_bytes())?;
+        assert_eq!(rt;
+            run_with(alloc, words.as_slice(), STANDARD, &mut desk),
+            status
+        );
+        assert!(rt; desk.written() == output.as_bytes());
+    }
     Ok(())
 }
