@@ -23,10 +23,6 @@ keyword_gives k (Word w ∷ ts) back rest e h =
     let p = cond_passed (bytes_eq w k) (Some ts) back e in
     (bytes_same w k p.0, subst (AreWritten rest) (sym (some_inj ts back p.1)) h)
 
--- a window's range and its end
-span_shape : (b f t : List Part) → (b ++ Sign 44 ∷ Gap ∷ Sign 40 ∷ (f ++ Sign 44 ∷ Gap ∷ (t ++ Sign 41 ∷ Sign 41 ∷ []))) ≡ b ++ (Sign 44 ∷ Gap ∷ Sign 40 ∷ f ++ Sign 44 ∷ Gap ∷ t ++ Sign 41 ∷ Sign 41 ∷ [])
-span_shape b f t = simp append_assoc
-
 -- what a body's form and a range write
 abbrev SpanOf : Body → Statement → List Token → Type 0
 SpanOf body s ts = (from : Anchor) × (to : Anchor) × (s ≡ Over (record { body = body; from = from; to = to })) × AreWritten (span_form from to) ts

@@ -4,7 +4,6 @@ pub mod SoundReading
 pub mod Sound
 pub mod Numbered
 pub mod Bytes
-pub mod Meant
 pub mod HeldReading
 pub mod Alls
 pub mod HeldParts

@@ -139,11 +139,6 @@ abbrev pub is_attribute : Kind → Bool
 is_attribute OfMessage = false
 is_attribute (OfAttribute values) = true
 
-abbrev pub body_name : Body → List ℕ
-body_name (NoEvent p) = p.name
-body_name (Occurs least most p) = p.name
-body_name (Hold name terms value) = name
-
 -- the pattern's name isn't declared
 abbrev pub is_unnamed : Option Name → Bool
 is_unnamed None = true
