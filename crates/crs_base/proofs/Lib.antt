@@ -1,4 +1,5 @@
 pub mod Words
+pub mod Sifted
 pub mod Lists
 pub mod Inserted
 pub mod Distinct
