@@ -4,5 +4,6 @@ pub mod Lists
 pub mod Inserted
 pub mod Distinct
 pub mod KeyOrder
+pub mod Values
 pub mod LineSteps
 pub mod TokenSteps
