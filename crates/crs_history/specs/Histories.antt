@@ -1,5 +1,5 @@
 -- Histories, and for which entries they stand.
-use Rattle.std.specs.Prelude.{◌≡◌, ◌⊎◌, ℤ, pos, ◌≤ℤ◌, ◌-ℤ◌, List, map}
+use Rattle.std.specs.Prelude.{◌≡◌, ◌⊎◌, ℤ, pos, ◌≤ℤ◌, ◌-ℤ◌, List, [], ◌∷◌, ◌++◌, map}
 use Rattle.std.specs.List.{AllByRecursion}
 use Rattle.std.specs.declared.cmp.Ordering.TheVariants.{Less}
 use Rattle.std.specs.declared.rc.Rc.{Rc}
@@ -31,6 +31,10 @@ module _ {S : Type 0} where
   -- the entry's key is after theirs
   abbrev pub IsAfterAll : List (Entry S) → Entry S → Type 0
   IsAfterAll es e = AllByRecursion (λ d. entry_cmp d e ≡ Less) es
+
+  -- the entry is the last of the list
+  abbrev pub EndsWith : Entry S → List (Entry S) → Type 0
+  EndsWith e es = (front : List (Entry S)) × (es ≡ front ++ e ∷ [])
 
   -- the attribute that the entry may change
   abbrev pub attribute_of : Entry S → Attribute S
