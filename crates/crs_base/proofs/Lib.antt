@@ -1,7 +1,9 @@
 pub mod Words
+pub mod Sifted
 pub mod Lists
 pub mod Inserted
 pub mod Distinct
 pub mod KeyOrder
+pub mod Values
 pub mod LineSteps
 pub mod TokenSteps

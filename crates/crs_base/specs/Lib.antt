@@ -1,6 +1,8 @@
 pub mod Words
+pub mod Sifted
 pub mod Symbols
 pub mod Entry
+pub mod Values
 pub mod Seen
 pub mod TextSet
 pub mod Refusals

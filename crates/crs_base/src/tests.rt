@@ -1,6 +1,10 @@
-use crate::{Entry, List, Sym, SymList, SymRefused, Symbols, Text, is_symbol};
+ghost use Rattle.std.specs.Prelude.{◌≡◌, ◌+◌, ◌<◌};
+
+use crate::{Entry, List, Steps, Sym, SymList, SymRefused, Symbols, Text, is_symbol};
 use std::alloc::{AllocError, Global};
 use std::cmp::Ordering;
+use std::marker::Brand;
+use std::sync::ledger::{Blank, Ledger};
 use std::test::Fail;
 
 fn entry(alloc: Global, arrival: u32, date: u64, text: &[u8]) -> Result<Entry, AllocError> {
@@ -74,5 +78,37 @@ fn lists_grow_and_shrink_at_the_end(rt: HostRuntime) -> Result<(), Fail> {
 fn a_text_keeps_its_bytes(rt: HostRuntime) -> Result<(), Fail> {
     let text = Text::new(rt.alloc(), b"a\x00\xff")?;
     assert!(rt; text.bytes() == b"a\x00\xff".as_slice());
+    Ok(())
+}
+
+/// Takes as many steps.
+fn take_steps<L: Ledger>(count: u8, steps: &mut Steps<L>)
+    ensures { steps.new ≡ steps.old + count }
+{
+    for _i in 0..count {
+        steps.tick();
+    }
+}
+
+/// That the counter stands there is proved at each call.
+fn stands_at<L: Ledger>(count: u8, _steps: &Steps<L>)
+    requires { _steps.now ≡ count }
+{}
+
+fn count_apart<L: Ledger>(blank: Blank)
+    requires name { blank.name ≡ L.name }
+    requires parts { blank.parts ≡ L.parts }
+    requires some { 0 < L.parts }
+{
+    let mut steps = Steps::<L>::new(blank);
+    stands_at(0, &steps);
+    take_steps(3, &mut steps);
+    steps.tick();
+    stands_at(4, &steps);
+}
+
+#[test]
+fn a_counter_stands_at_the_count_of_its_ticks(_rt: HostRuntime) -> Result<(), Fail> {
+    count_apart::<Brand>(Blank::new(1));
     Ok(())
 }

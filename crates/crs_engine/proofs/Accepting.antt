@@ -60,9 +60,16 @@ module _ (n : ℕ) (s w : List (Entry Sym)) (x : Entry Sym) (is : x.arrival ≡ 
   pub numbered_more : HaveNumbersBelow (n + 1) (s ++ put_in_order x w)
   numbered_more = record { distinct = distinct; numbers = λ k. (there k, back k) }
 
+-- one more in order, dated after what stands before them
+pub in_order_more : (s w : List (Entry Sym)) (x : Entry Sym) (h : ℕ) → Ordered (λ a b. entry_cmp a b ≡ Less) (s ++ w) → AllByRecursion (λ y. y.date < h) s → h ≤ x.date → Ordered (λ a b. entry_cmp a b ≡ Less) (put_in_order x w) → Ordered (λ a b. entry_cmp a b ≡ Less) (s ++ put_in_order x w)
+in_order_more s w x h order before_h late up =
+    ordered_append (λ a b. entry_cmp a b ≡ Less) s (put_in_order x w) (ordered_left (λ a b. entry_cmp a b ≡ Less) s w order) up (λ y z i j.
+    in_from_each (λ t. entry_cmp y t ≡ Less) (put_in_order x w)
+    (put_each x (λ t. entry_cmp y t ≡ Less) w (less_by_date y x (let a = in_from_each (λ t. t.date < h) s before_h y i in omega arith)) (each_from_in (λ t. entry_cmp y t ≡ Less) w (λ t k. ordered_cross (λ a b. entry_cmp a b ≡ Less) s w order y t i k))) z j)
+
 pub accepted_from : (seen old : EngineState) (x : Entry Sym) (ws : List (Entry Sym)) → seen ≡ old → x.arrival ≡ seen.accepted → seen.horizon ≤ x.date → ws ≡ put_in_order x seen.waiting → Ascends ws →
     (s w : List (Entry Sym)) → StandsFor old s w →
-    StandsFor (record { plans = seen.plans; stores = seen.stores; waiting = ws; delay = seen.delay; last = seen.last; horizon = seen.horizon; accepted = seen.accepted + 1; limit = seen.limit; stopped = seen.stopped }) s (put_in_order x w)
+    StandsFor (record { plans = seen.plans; stores = seen.stores; history = seen.history; waiting = ws; delay = seen.delay; last = seen.last; horizon = seen.horizon; accepted = seen.accepted + 1; limit = seen.limit; stopped = seen.stopped }) s (put_in_order x w)
 accepted_from seen old x ws view is late put sorted s w stands =
     let so : StandsFor seen s w = subst (λ (t : EngineState). StandsFor t s w) (sym view) stands in
     let held : ws ≡ put_in_order x w = put ∙ ap (put_in_order x) so.held in
@@ -70,10 +77,9 @@ accepted_from seen old x ws view is late put sorted s w stands =
     record {
       settled_before = so.settled_before;
       waiting_after = put_each x (λ y. seen.horizon ≤ y.date) w late so.waiting_after;
-      in_order = ordered_append (λ a b. entry_cmp a b ≡ Less) s (put_in_order x w) (ordered_left (λ a b. entry_cmp a b ≡ Less) s w so.in_order) up (λ y z i j.
-          in_from_each (λ t. entry_cmp y t ≡ Less) (put_in_order x w)
-          (put_each x (λ t. entry_cmp y t ≡ Less) w (less_by_date y x (let a = in_from_each (λ t. t.date < seen.horizon) s so.settled_before y i in omega arith)) (each_from_in (λ t. entry_cmp y t ≡ Less) w (λ t k. ordered_cross (λ a b. entry_cmp a b ≡ Less) s w so.in_order y t i k))) z j);
+      in_order = in_order_more s w x seen.horizon so.in_order so.settled_before late up;
       numbered = numbered_more seen.accepted s w x is so.numbered;
       held = held;
+      history = so.history;
       stores = so.stores;
     }

@@ -4,6 +4,7 @@ use Rattle.std.specs.List.{AllByRecursion}
 use Rattle.std.specs.declared.rc.Rc.{Rc}
 use Rattle.std.proofs.lemmas.List.{map-append, take_more}
 use Rattle.crs_model.specs.declared.plan.Plan.{Plan}
+use Rattle.crs_history.specs.Histories.{HistoryState}
 use Rattle.crs_store.specs.Stores.{StoreState, Stands}
 use Rattle.std.specs.Prelude.{false}
 use Rattle.crs_base.specs.declared.symbols.Sym.{Sym}
@@ -56,13 +57,14 @@ pub started_all : (plans : List (Rc Plan Global)) (n : ℕ) (stores : List Store
 started_all plans n stores e h =
     (subst (λ (t : List (Rc Plan Global)). AreStoresOf (planned t) 0 stores) (ap (λ (m : ℕ). take m plans) e ∙ take_all plans) h.of, h.stand)
 
-pub new_stands : (plans : Plans) (stores : List StoreState) (limit : ℕ) → AreStoresOf (plans_of plans) 0 stores → AllByRecursion (λ s. Stands s [] [] [] 0 0) stores → (ws : List (Entry Sym)) → ws ≡ [] →
-    StandsFor (record { plans = plans; stores = stores; waiting = ws; delay = 0; last = 0; horizon = 0; accepted = 0; limit = limit; stopped = false }) [] []
-new_stands plans stores limit of stand ws e = record {
+pub new_stands : (plans : Plans) (stores : List StoreState) (limit : ℕ) → AreStoresOf (plans_of plans) 0 stores → AllByRecursion (λ s. Stands s [] [] [] 0 0) stores → (past : HistoryState) → past.entries ≡ [] → (ws : List (Entry Sym)) → ws ≡ [] →
+    StandsFor (record { plans = plans; stores = stores; history = past; waiting = ws; delay = 0; last = 0; horizon = 0; accepted = 0; limit = limit; stopped = false }) [] []
+new_stands plans stores limit of stand past none ws e = record {
   settled_before = tt;
   waiting_after = tt;
   in_order = tt;
   numbered = record { distinct = tt; numbers = λ k. (λ l. absurd (omega arith), λ i. absurd i) };
   held = e;
+  history = none;
   stores = stores_at [] 0 (plans_of plans) 0 stores of stand;
 }

@@ -16,7 +16,8 @@ use Rattle.crs_model.specs.Plans.{chronicle}
 use Rattle.crs_model.specs.Seen.{assignment_of}
 use Rattle.crs_store.specs.Stores.{StoreState, Stands}
 use Rattle.crs_store.specs.Answers.{IsAnswer, IsMarked}
-use Rattle.std.specs.Prelude.{Result, Ok, Err, IfOk, OnOk}
+use Rattle.std.specs.Prelude.{ℤ, pos, ◌≤ℤ◌, false, Result, Ok, Err, IfOk, OnOk}
+use Rattle.crs_history.specs.Histories.{HistoryState, IsInKeyOrder}
 use Rattle.crs_model.specs.Models.{Chronicle}
 use Rattle.crs_engine.specs.declared.refused.Refused.{Refused}
 use Rattle.crs_engine.specs.Engines.{HasMoved, EngineState, StandsFor, HaveNumbersBelow, IsStoreAt, AreStoresOf, IsWaiting, IsEngine, plans_of, since}
@@ -97,7 +98,7 @@ stores_at settled h (p ∷ ps) n (s ∷ ss) of stand = ((of.0, stand.0), stores_
 -- ---- a mark
 
 module _ (seen new : EngineState) (mark : Mark) (answer : List Recognition) (same_plans : new.plans ≡ seen.plans) (same_count : new.accepted ≡ seen.accepted) (of : AreStoresOf (plans_of seen.plans) 0 seen.stores) (later : seen.horizon ≤ new.horizon)
-    (marked : AreMarked new.horizon mark seen.stores seen.waiting new.stores new.waiting answer) (same : AreSameStores seen.stores new.stores) (s w : List (Entry Sym)) (stands : StandsFor seen s w) where
+    (marked : AreMarked new.horizon mark seen.stores seen.history seen.waiting new.stores new.history new.waiting answer) (same : AreSameStores seen.stores new.stores) (s w : List (Entry Sym)) (stands : StandsFor seen s w) where
   parted : w ≡ (marked.settled).done ++ new.waiting
   parted = sym stands.held ∙ (marked.settled).parted
 
@@ -144,6 +145,7 @@ module _ (seen new : EngineState) (mark : Mark) (answer : List Recognition) (sam
     in_order = up;
     numbered = subst (λ (n : ℕ). HaveNumbersBelow n ((s ++ (marked.settled).done) ++ new.waiting)) (sym same_count) numbered;
     held = refl;
+    history = (marked.settled).stands s stands.history;
     stores = subst (λ (ps : List Plan). AllZip (IsStoreAt (s ++ (marked.settled).done) new.horizon) ps new.stores) (sym (ap plans_of same_plans))
         (stores_at (s ++ (marked.settled).done) new.horizon (plans_of seen.plans) 0 new.stores (stores_same (plans_of seen.plans) 0 seen.stores new.stores of same) after.0);
   }
@@ -174,6 +176,12 @@ take_all [] (suc n) e = refl
 take_all (x ∷ xs) zero e = absurd (omega arith)
 take_all (x ∷ xs) (suc n) e = ap (λ (t : List StoreState). x ∷ t) (take_all xs n (omega arith))
 
+-- the history once the settled entries are added
+pub history_before : (h g : ℕ) (past now : HistoryState) (olds news : List StoreState) (held rest : List (Entry Sym)) (mark : Mark) (answer : List Recognition) → AllByRecursion (λ x. x.date < g) past.entries → g ≤ h → AreMarked h mark olds past held news now rest answer → AllByRecursion (λ x. x.date < h) now.entries
+history_before h g past now olds news held rest mark answer before_g later m =
+    subst (λ (t : List (Entry Sym)). AllByRecursion (λ x. x.date < h) t) (sym (m.settled).kept)
+    (each_join (λ x. x.date < h) past.entries (m.settled).done (each_to (λ x. x.date < g) (λ x. x.date < h) (λ x l. omega arith) past.entries before_g) (m.settled).done_before)
+
 -- a slice of all stores is written back whole
 pub written_back : (olds news : List StoreState) (n : ℕ) → n ≡ length olds → AreSameStores olds news → take n (news ++ drop (length news) olds) ≡ news
 written_back olds news n e same =
@@ -183,20 +191,24 @@ written_back olds news n e same =
 pub rest_waiting : (n : ℕ) (held rest : List (Entry Sym)) → AllByRecursion (IsWaiting n) held → IsRestOf held rest → AllByRecursion (IsWaiting n) rest
 rest_waiting n held rest h r = (each_parts (IsWaiting n) r.0 rest (subst (AllByRecursion (IsWaiting n)) r.1 h)).1
 
-pub engine_on : (seen : EngineState) (news : List StoreState) (rest : List (Entry Sym)) (t h : ℕ) (stopped : Bool) → IsEngine seen → AreSameStores seen.stores news → IsRestOf seen.waiting rest → h ≤ 2 ^ 42 → (t < 2 ^ 40 → h ≤ t - seen.delay) →
-    IsEngine (record { plans = seen.plans; stores = news; waiting = rest; delay = seen.delay; last = t; horizon = h; accepted = seen.accepted; limit = seen.limit; stopped = stopped })
-engine_on seen news rest t h stopped is same r low behind = record {
+pub engine_on : (seen : EngineState) (news : List StoreState) (now : HistoryState) (rest : List (Entry Sym)) (t h : ℕ) (stopped : Bool) → IsEngine seen → AreSameStores seen.stores news → IsRestOf seen.waiting rest → h ≤ 2 ^ 42 → (t < 2 ^ 40 → h ≤ t - seen.delay) →
+    IsInKeyOrder (now.entries ++ rest) → now.floor ≡ seen.history.floor → (stopped ≡ false → AllByRecursion (λ x. x.date < h) now.entries) →
+    IsEngine (record { plans = seen.plans; stores = news; history = now; waiting = rest; delay = seen.delay; last = t; horizon = h; accepted = seen.accepted; limit = seen.limit; stopped = stopped })
+engine_on seen news now rest t h stopped is same r low behind order floor settled = record {
   stores = stores_same (plans_of seen.plans) 0 seen.stores news is.stores same;
   waiting = rest_waiting seen.accepted seen.waiting rest is.waiting r;
   few = is.few;
   not_late = low;
   behind = behind;
+  in_order = order;
+  low = subst (λ (z : ℤ). z ≤ℤ pos 0) (sym floor) is.low;
+  settled = settled;
 }
 
-pub marked_from : (seen old : EngineState) (news : List StoreState) (rest : List (Entry Sym)) (t h : ℕ) (stopped : Bool) (mark : Mark) (answer : List Recognition) → seen ≡ old → IsEngine seen → seen.horizon ≤ h → AreMarked h mark seen.stores seen.waiting news rest answer → AreSameStores seen.stores news →
-    (s w : List (Entry Sym)) → StandsFor old s w → AfterMark old (record { plans = seen.plans; stores = news; waiting = rest; delay = seen.delay; last = t; horizon = h; accepted = seen.accepted; limit = seen.limit; stopped = stopped }) mark s w answer
-marked_from seen old news rest t h stopped mark answer view is later marked same s w stands =
-    let new : EngineState = record { plans = seen.plans; stores = news; waiting = rest; delay = seen.delay; last = t; horizon = h; accepted = seen.accepted; limit = seen.limit; stopped = stopped } in
+pub marked_from : (seen old : EngineState) (news : List StoreState) (now : HistoryState) (rest : List (Entry Sym)) (t h : ℕ) (stopped : Bool) (mark : Mark) (answer : List Recognition) → seen ≡ old → IsEngine seen → seen.horizon ≤ h → AreMarked h mark seen.stores seen.history seen.waiting news now rest answer → AreSameStores seen.stores news →
+    (s w : List (Entry Sym)) → StandsFor old s w → AfterMark old (record { plans = seen.plans; stores = news; history = now; waiting = rest; delay = seen.delay; last = t; horizon = h; accepted = seen.accepted; limit = seen.limit; stopped = stopped }) mark s w answer
+marked_from seen old news now rest t h stopped mark answer view is later marked same s w stands =
+    let new : EngineState = record { plans = seen.plans; stores = news; history = now; waiting = rest; delay = seen.delay; last = t; horizon = h; accepted = seen.accepted; limit = seen.limit; stopped = stopped } in
     subst (λ (o : EngineState). AfterMark o new mark s w answer) view
     (after_mark seen new mark answer refl refl is.stores later marked same s w (subst (λ (o : EngineState). StandsFor o s w) (sym view) stands))
 
@@ -230,7 +242,7 @@ again_by (Err e) seen old new mark view is moved marked at = tt
 
 -- a delay changes nothing of what an engine stands for
 pub delayed : (seen old : EngineState) (d : ℕ) → seen ≡ old → (s w : List (Entry Sym)) → StandsFor old s w →
-    StandsFor (record { plans = seen.plans; stores = seen.stores; waiting = seen.waiting; delay = d; last = seen.last; horizon = seen.horizon; accepted = seen.accepted; limit = seen.limit; stopped = seen.stopped }) s w
+    StandsFor (record { plans = seen.plans; stores = seen.stores; history = seen.history; waiting = seen.waiting; delay = d; last = seen.last; horizon = seen.horizon; accepted = seen.accepted; limit = seen.limit; stopped = seen.stopped }) s w
 delayed seen old d view s w stands =
     let so : StandsFor seen s w = subst (λ (o : EngineState). StandsFor o s w) (sym view) stands in
-    record { settled_before = so.settled_before; waiting_after = so.waiting_after; in_order = so.in_order; numbered = so.numbered; held = so.held; stores = so.stores }
+    record { settled_before = so.settled_before; waiting_after = so.waiting_after; in_order = so.in_order; numbered = so.numbered; held = so.held; history = so.history; stores = so.stores }

@@ -8,7 +8,7 @@ use Rattle.std.proofs.lemmas.Bool.{lt-ltb, le-ltb}
 use Rattle.crs_base.specs.declared.symbols.Sym.{Sym}
 use Rattle.crs_base.specs.Words.{IsIn, Ordered}
 use Rattle.crs_base.specs.Entry.{Entry, Key, key_of, entry_cmp}
-use Rattle.crs_base.proofs.Words.{in_from_each, each_from_in, in_append_left, in_append_right}
+use Rattle.crs_base.proofs.Words.{in_from_each, each_from_in, in_append, in_append_left, in_append_right}
 use Rattle.crs_base.proofs.KeyOrder.{key_exact}
 use Rattle.crs_model.specs.Matching.{AreDistinct}
 use Rattle.crs_model.specs.Order.{put_in_order}
@@ -31,6 +31,14 @@ module _ {A : Type 0} (R : A → A → Type 0) where
   ordered_cross [] ys h x y i j = absurd i
   ordered_cross (z ∷ xs) ys h x y (inl e) j = subst (λ (t : A). R t y) (sym e) (in_from_each (R z) (xs ++ ys) h.0 y (in_append_right xs ys y j))
   ordered_cross (z ∷ xs) ys h x y (inr i) j = ordered_cross xs ys h.1 x y i j
+
+  -- without one in the middle
+  pub ordered_without : (xs : List A) (y : A) (ys : List A) → Ordered R (xs ++ y ∷ ys) → Ordered R (xs ++ ys)
+  ordered_without [] y ys h = h.1
+  ordered_without (x ∷ xs) y ys h = (
+    each_from_in (R x) (xs ++ ys) (λ z i. in_from_each (R x) (xs ++ y ∷ ys) h.0 z (elim (in_append xs ys z i) [ inl a ↦ in_append_left xs (y ∷ ys) z a | inr b ↦ in_append_right xs (y ∷ ys) z (inr b) ])),
+    ordered_without xs y ys h.1,
+  )
 
   pub ordered_to : (Q : A → A → Type 0) → ((x y : A) → R x y → Q x y) → (xs : List A) → Ordered R xs → Ordered Q xs
   ordered_to Q f [] h = tt

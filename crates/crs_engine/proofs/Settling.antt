@@ -1,16 +1,20 @@
 -- The entries that are settled one after another, and all stores' part in it.
-use Rattle.std.proofs.Common.{◌≡◌, ℕ, ◌<◌, ◌≤◌, ◌^◌, List, [], ◌∷◌, ◌++◌, length, refl, sym, ap, subst, ◌∙◌, arith, append_assoc, cond, nat_lt, Bool, true, false}
+use Rattle.std.proofs.Common.{◌≡◌, ℕ, ◌<◌, ◌≤◌, ◌^◌, List, [], ◌∷◌, ◌++◌, length, refl, sym, ap, subst, ◌∙◌, inl, arith, append_assoc, append-nil, cond, nat_lt, Bool, true, false}
 use Rattle.std.specs.Prelude.{Some, None}
 use Rattle.std.specs.List.{AllByRecursion}
 use Rattle.std.proofs.lemmas.Bool.{ltb-true}
 use Rattle.crs_base.specs.declared.symbols.Sym.{Sym}
-use Rattle.crs_base.specs.Entry.{Entry}
+use Rattle.crs_base.specs.Entry.{Entry, entry_cmp}
+use Rattle.crs_base.proofs.Words.{each_from_in}
+use Rattle.std.specs.declared.cmp.Ordering.TheVariants.{Less}
 use Rattle.crs_model.specs.declared.recognition.Mark.{Mark}
 use Rattle.crs_model.specs.declared.recognition.Recognition.{Recognition}
 use Rattle.crs_buffer.specs.Entries.{released, left}
+use Rattle.crs_history.specs.Histories.{HistoryState, EndsWith, IsAfterAll, IsInKeyOrder, StandsFor}
 use Rattle.crs_store.specs.Stores.{StoreState, IsSameStore}
 use Rattle.crs_store.specs.Answers.{IsAdvanced}
 use Rattle.crs_engine.specs.Moves.{AreSameStores, AreOffered, AreOfferedAll, AreSettled, IsRestOf, AreAdvanced}
+use Rattle.crs_engine.proofs.Order.{ordered_cross, ordered_without}
 
 pub same_all : (ss : List StoreState) → AreSameStores ss ss
 same_all [] = tt
@@ -36,16 +40,31 @@ abbrev pub IsSmall : Entry Sym → Type 0
 IsSmall x = x.date < 2 ^ 40
 
 -- what is known while entries are settled
-pub record AreSettledSoFar (olds : List StoreState) (held : List (Entry Sym)) (h : ℕ) (news : List StoreState) (rest : List (Entry Sym)) : Type 0 where
+pub record AreSettledSoFar (olds : List StoreState) (past : HistoryState) (held : List (Entry Sym)) (h : ℕ) (news : List StoreState) (now : HistoryState) (rest : List (Entry Sym)) : Type 0 where
   pub same : AreSameStores olds news
   pub small : AllByRecursion IsSmall rest
   pub done : List (Entry Sym)
   pub parted : held ≡ done ++ rest
   pub done_before : AllByRecursion (λ x. x.date < h) done
+  pub kept : now.entries ≡ past.entries ++ done
+  pub stands : (es : List (Entry Sym)) → StandsFor es past → StandsFor (es ++ done) now
+  pub order : IsInKeyOrder (now.entries ++ rest)
+  pub floor : now.floor ≡ past.floor
   pub offered : AreOfferedAll olds done news
 
-pub settled_none : (olds : List StoreState) (held : List (Entry Sym)) (h : ℕ) → AllByRecursion IsSmall held → AreSettledSoFar olds held h olds held
-settled_none olds held h small = record { same = same_all olds; small = small; done = []; parted = refl; done_before = tt; offered = refl }
+pub settled_none : (olds : List StoreState) (past : HistoryState) (held : List (Entry Sym)) (h : ℕ) → AllByRecursion IsSmall held → IsInKeyOrder (past.entries ++ held) → AreSettledSoFar olds past held h olds past held
+settled_none olds past held h small order = record {
+  same = same_all olds;
+  small = small;
+  done = [];
+  parted = refl;
+  done_before = tt;
+  kept = sym (append-nil past.entries);
+  stands = λ es k. subst (λ (t : List (Entry Sym)). StandsFor t past) (sym (append-nil es)) k;
+  order = order;
+  floor = refl;
+  offered = refl;
+}
 
 -- an entry comes out where it is the first, and dated before h
 came_out : (es : List (Entry Sym)) (h : ℕ) (x : Entry Sym) → released es h ≡ Some x → (es ≡ x ∷ left es h) × (x.date < h)
@@ -70,33 +89,74 @@ out_small es h x e small = (subst (AllByRecursion IsSmall) (came_out es h x e).0
 pub out_shorter : (es rest : List (Entry Sym)) (h : ℕ) (x : Entry Sym) → released es h ≡ Some x → rest ≡ left es h → length rest < length es
 out_shorter es rest h x e r = let a = ap length (came_out es h x e).0 in let b = ap length r in omega arith
 
-module _ (olds : List StoreState) (held : List (Entry Sym)) (h : ℕ) (news : List StoreState) (rest : List (Entry Sym)) (so : AreSettledSoFar olds held h news rest) (x : Entry Sym) (after : List (Entry Sym)) (e : released rest h ≡ Some x) (r : after ≡ left rest h) where
+module _ (olds : List StoreState) (past : HistoryState) (held : List (Entry Sym)) (h : ℕ) (news : List StoreState) (now : HistoryState) (rest : List (Entry Sym)) (so : AreSettledSoFar olds past held h news now rest) (x : Entry Sym) (after : List (Entry Sym)) (e : released rest h ≡ Some x) (r : after ≡ left rest h) where
   cut : rest ≡ x ∷ after
   cut = (came_out rest h x e).0 ∙ ap (λ (t : List (Entry Sym)). x ∷ t) (sym r)
 
   parted_more : held ≡ (so.done ++ x ∷ []) ++ after
   parted_more = so.parted ∙ ap (λ (t : List (Entry Sym)). so.done ++ t) cut ∙ sym (append_assoc so.done (x ∷ []) after)
 
-  pub settled_on : (next : List StoreState) → AreSameStores news next → AreOffered news x next → AreSettledSoFar olds held h next after
-  settled_on next same offered = record {
-    same = same_on olds news next so.same same;
-    small = (subst (AllByRecursion IsSmall) cut so.small).1;
-    done = so.done ++ x ∷ [];
-    parted = parted_more;
-    done_before = each_more (λ y. y.date < h) so.done x so.done_before (came_out rest h x e).1;
-    offered = offered_more olds so.done x news next so.offered offered;
-  }
+  order_cut : IsInKeyOrder (now.entries ++ x ∷ after)
+  order_cut = subst (λ (t : List (Entry Sym)). IsInKeyOrder (now.entries ++ t)) cut so.order
+
+  -- the entry comes after the history
+  pub comes_last : (y : Entry Sym) → y ≡ x → IsAfterAll now.entries y
+  comes_last y s = subst (IsAfterAll now.entries) (sym s) (each_from_in (λ d. entry_cmp d x ≡ Less) now.entries (λ d i. ordered_cross (λ a b. entry_cmp a b ≡ Less) now.entries (x ∷ after) order_cut d x i (inl refl)))
+
+  -- without the entry
+  pub order_without : IsInKeyOrder (now.entries ++ after)
+  order_without = ordered_without (λ a b. entry_cmp a b ≡ Less) now.entries x after order_cut
+
+  module _ (pushed : HistoryState) (y : Entry Sym) (same_entry : y ≡ x) (is : pushed ≡ record { entries = now.entries ++ y ∷ []; floor = now.floor }) where
+    entries_are : pushed.entries ≡ now.entries ++ x ∷ []
+    entries_are = ap (λ (t : HistoryState). t.entries) is ∙ ap (λ (t : Entry Sym). now.entries ++ t ∷ []) same_entry
+
+    pub ends_with : (z : Entry Sym) → z ≡ x → EndsWith z pushed.entries
+    ends_with z s = (now.entries, entries_are ∙ ap (λ (t : Entry Sym). now.entries ++ t ∷ []) (sym s))
+
+    pub order_with : IsInKeyOrder (pushed.entries ++ after)
+    order_with = subst IsInKeyOrder (sym (ap (λ (t : List (Entry Sym)). t ++ after) entries_are ∙ append_assoc now.entries (x ∷ []) after)) order_cut
+
+    pub floor_with : pushed.floor ≡ past.floor
+    floor_with = ap (λ (t : HistoryState). t.floor) is ∙ so.floor
+
+    module _ (stands_on : (es : List (Entry Sym)) → StandsFor es now → StandsFor (es ++ y ∷ []) pushed) where
+      stands_with : (es : List (Entry Sym)) → StandsFor es past → StandsFor (es ++ (so.done ++ x ∷ [])) pushed
+      stands_with es k =
+          subst (λ (t : List (Entry Sym)). StandsFor t pushed) (append_assoc es so.done (x ∷ []))
+          (subst (λ (t : Entry Sym). StandsFor ((es ++ so.done) ++ t ∷ []) pushed) same_entry (stands_on (es ++ so.done) (so.stands es k)))
+
+      pub settled_on : (next : List StoreState) → AreSameStores news next → AreOffered news x next → AreSettledSoFar olds past held h next pushed after
+      settled_on next same offered = record {
+        same = same_on olds news next so.same same;
+        small = (subst (AllByRecursion IsSmall) cut so.small).1;
+        done = so.done ++ x ∷ [];
+        parted = parted_more;
+        done_before = each_more (λ y. y.date < h) so.done x so.done_before (came_out rest h x e).1;
+        kept = entries_are ∙ ap (λ (t : List (Entry Sym)). t ++ x ∷ []) so.kept ∙ append_assoc past.entries so.done (x ∷ []);
+        stands = stands_with;
+        order = order_with;
+        floor = floor_with;
+        offered = offered_more olds so.done x news next so.offered offered;
+      }
 
   pub rest_of : IsRestOf held after
   rest_of = (so.done ++ x ∷ [], parted_more)
 
-pub settled_all : (olds : List StoreState) (held : List (Entry Sym)) (h : ℕ) (news : List StoreState) (rest after : List (Entry Sym)) → AreSettledSoFar olds held h news rest → released rest h ≡ None → after ≡ left rest h → AllByRecursion (λ x. h ≤ x.date) rest → AreSettled olds held h news after
-settled_all olds held h news rest after so e r late =
-    let same : after ≡ rest = r ∙ none_out rest h e in
-    subst (λ (t : List (Entry Sym)). AreSettled olds held h news t) (sym same) (record { same = so.same; done = so.done; parted = so.parted; done_before = so.done_before; rest_after = late; offered = so.offered })
+module _ (olds : List StoreState) (past : HistoryState) (held : List (Entry Sym)) (h : ℕ) (news : List StoreState) (now : HistoryState) (rest after : List (Entry Sym)) (so : AreSettledSoFar olds past held h news now rest) (e : released rest h ≡ None) (r : after ≡ left rest h) where
+  all_left : after ≡ rest
+  all_left = r ∙ none_out rest h e
 
-pub rest_after_none : (olds : List StoreState) (held : List (Entry Sym)) (h : ℕ) (news : List StoreState) (rest after : List (Entry Sym)) → AreSettledSoFar olds held h news rest → released rest h ≡ None → after ≡ left rest h → IsRestOf held after
-rest_after_none olds held h news rest after so e r = (so.done, so.parted ∙ ap (λ (t : List (Entry Sym)). so.done ++ t) (sym (r ∙ none_out rest h e)))
+  pub settled_all : AllByRecursion (λ x. h ≤ x.date) rest → AreSettled olds past held h news now after
+  settled_all late =
+      subst (λ (t : List (Entry Sym)). AreSettled olds past held h news now t) (sym all_left)
+      (record { same = so.same; done = so.done; parted = so.parted; done_before = so.done_before; rest_after = late; kept = so.kept; stands = so.stands; offered = so.offered })
+
+  pub rest_after_none : IsRestOf held after
+  rest_after_none = (so.done, so.parted ∙ ap (λ (t : List (Entry Sym)). so.done ++ t) (sym all_left))
+
+  pub order_after_none : IsInKeyOrder (now.entries ++ after)
+  order_after_none = subst (λ (t : List (Entry Sym)). IsInKeyOrder (now.entries ++ t)) (sym all_left) so.order
 
 -- ---- lists of stores
 

@@ -1,5 +1,5 @@
 -- Engines, and what they stand for.
-use Rattle.std.specs.Prelude.{◌≡◌, ◌<◌, ◌≤◌, ◌+◌, ◌-◌, ◌^◌, ◌↔◌, ℕ, suc, List, [], ◌∷◌, ◌++◌, map, filter, not, nat_lt, min, sum, length, Bool, false}
+use Rattle.std.specs.Prelude.{◌≡◌, ◌<◌, ◌≤◌, ◌≤ℤ◌, pos, ◌+◌, ◌-◌, ◌^◌, ◌↔◌, ℕ, suc, List, [], ◌∷◌, ◌++◌, map, filter, not, nat_lt, min, sum, length, Bool, false}
 use Rattle.std.specs.List.{AllByRecursion, AllZip}
 use Rattle.std.specs.declared.cmp.Ordering.TheVariants.{Less}
 use Rattle.crs_base.specs.declared.symbols.Sym.{Sym}
@@ -8,12 +8,14 @@ use Rattle.crs_base.specs.Entry.{Entry, entry_cmp}
 use Rattle.crs_model.specs.declared.plan.Plan.{Plan}
 use Rattle.crs_model.specs.declared.plan.Plans.{Plans}
 use Rattle.crs_model.specs.Matching.{AreDistinct}
+use Rattle.crs_history.specs.Histories.{HistoryState, IsInKeyOrder, StandsFor as HistoryStandsFor}
 use Rattle.crs_store.specs.Stores.{StoreState, Stands}
 
 -- an engine, as contracts see it
 pub record EngineState : Type 0 where
   pub plans : Plans
   pub stores : List StoreState
+  pub history : HistoryState
   pub waiting : List (Entry Sym)
   pub delay : ℕ
   pub last : ℕ
@@ -39,13 +41,14 @@ module _ {S : Type 0} where
 abbrev pub IsStoreAt : List (Entry Sym) → ℕ → Plan → StoreState → Type 0
 IsStoreAt settled h p s = (s.plan ≡ p) × Stands s settled settled settled h h
 
--- The settled entries are dated before the horizon and the waiting ones at or after it. All are in key order, and have the arrival numbers below the count of accepted ones. The buffer holds the waiting ones, and each plan's store stands for the settled ones.
+-- The settled entries are dated before the horizon and the waiting ones at or after it. All are in key order, and have the arrival numbers below the count of accepted ones. The buffer holds the waiting ones, and the history and each plan's store stand for the settled ones.
 pub record StandsFor (e : EngineState) (settled waiting : List (Entry Sym)) : Type 0 where
   pub settled_before : AllByRecursion (λ x. x.date < e.horizon) settled
   pub waiting_after : AllByRecursion (λ x. e.horizon ≤ x.date) waiting
   pub in_order : Ordered (λ x y. entry_cmp x y ≡ Less) (settled ++ waiting)
   pub numbered : HaveNumbersBelow e.accepted (settled ++ waiting)
   pub held : e.waiting ≡ waiting
+  pub history : HistoryStandsFor settled e.history
   pub stores : AllZip (IsStoreAt settled e.horizon) (plans_of e.plans) e.stores
 
 -- how many partial assignments are held, or 2^64 - 1 where there are more
@@ -81,6 +84,9 @@ pub record IsEngine (e : EngineState) : Type 0 where
   pub few : e.accepted ≤ e.limit
   pub not_late : e.horizon ≤ 2 ^ 42
   pub behind : e.last < 2 ^ 40 → e.horizon ≤ e.last - e.delay
+  pub in_order : IsInKeyOrder (e.history.entries ++ e.waiting)
+  pub low : e.history.floor ≤ℤ pos 0
+  pub settled : e.stopped ≡ false → AllByRecursion (λ x. x.date < e.horizon) e.history.entries
 
 -- an entry was accepted
 pub record HasAccepted (old new : EngineState) : Type 0 where

@@ -5,6 +5,7 @@ use Rattle.crs_base.specs.declared.symbols.Sym.{Sym}
 use Rattle.crs_base.specs.Entry.{Entry}
 use Rattle.crs_model.specs.declared.recognition.Mark.{Mark}
 use Rattle.crs_model.specs.declared.recognition.Recognition.{Recognition}
+use Rattle.crs_history.specs.Histories.{HistoryState, StandsFor}
 use Rattle.crs_store.specs.Stores.{StoreState, IsSameStore, IsOffered}
 use Rattle.crs_store.specs.Answers.{IsAdvanced}
 
@@ -20,13 +21,15 @@ abbrev pub AreOfferedAll : List StoreState → List (Entry Sym) → List StoreSt
 AreOfferedAll olds [] news = news ≡ olds
 AreOfferedAll olds (x ∷ xs) news = (next : List StoreState) × AreOffered olds x next × AreOfferedAll next xs news
 
--- the entries dated before h were taken out in turn, and offered; the rest is dated at or after h
-pub record AreSettled (olds : List StoreState) (held : List (Entry Sym)) (h : ℕ) (news : List StoreState) (rest : List (Entry Sym)) : Type 0 where
+-- the entries dated before h were taken out in turn, put last in the history, and offered; the rest is dated at or after h
+pub record AreSettled (olds : List StoreState) (past : HistoryState) (held : List (Entry Sym)) (h : ℕ) (news : List StoreState) (now : HistoryState) (rest : List (Entry Sym)) : Type 0 where
   pub same : AreSameStores olds news
   pub done : List (Entry Sym)
   pub parted : held ≡ done ++ rest
   pub done_before : AllByRecursion (λ x. x.date < h) done
   pub rest_after : AllByRecursion (λ x. h ≤ x.date) rest
+  pub kept : now.entries ≡ past.entries ++ done
+  pub stands : (es : List (Entry Sym)) → StandsFor es past → StandsFor (es ++ done) now
   pub offered : AreOfferedAll olds done news
 
 -- the rest of the entries
@@ -41,7 +44,7 @@ AreAdvanced h mark (o ∷ olds) news answer =
     × (news ≡ n ∷ rest) × (answer ≡ first ++ more) × IsAdvanced o h mark n first × AreAdvanced h mark olds rest more
 
 -- the settled entries were offered, and then each store was advanced
-pub record AreMarked (h : ℕ) (mark : Mark) (olds : List StoreState) (held : List (Entry Sym)) (news : List StoreState) (rest : List (Entry Sym)) (answer : List Recognition) : Type 0 where
+pub record AreMarked (h : ℕ) (mark : Mark) (olds : List StoreState) (past : HistoryState) (held : List (Entry Sym)) (news : List StoreState) (now : HistoryState) (rest : List (Entry Sym)) (answer : List Recognition) : Type 0 where
   pub between : List StoreState
-  pub settled : AreSettled olds held h between rest
+  pub settled : AreSettled olds past held h between now rest
   pub advanced : AreAdvanced h mark between news answer

@@ -16,12 +16,14 @@ use crate::moving::{hold, mark_all};
 use crate::refused::Refused;
 use crate::starting::stores_of;
 use crate::sums::kept_by;
-use crs_base::{Entry, List};
+use crs_base::{Entry, List, Steps};
 use crs_buffer::Buffer;
+use crs_history::History;
 use crs_model::{Mark, Plans, Recognition};
 use crs_store::Store;
 use std::alloc::{AllocError, Global};
 use std::marker::Model;
+use std::sync::ledger::Ledger;
 
 /// The horizon and the clock after the end, in ticks: 2^42, above every date.
 const END: u64 = 4_398_046_511_104;
@@ -32,6 +34,7 @@ const END: u64 = 4_398_046_511_104;
 pub struct Engine {
     plans: Plans,
     stores: Vec<Store>,
+    history: History,
     buffer: Buffer,
     delay: u64,
     last: u64,
@@ -47,24 +50,27 @@ impl Model for Engine {
 
     ghost Value = { EngineState };
 
-    ghost view = { λ e. record { plans = e.plans; stores = e.stores.items; waiting = e.buffer; delay = e.delay; last = e.last; horizon = e.horizon; accepted = e.accepted; limit = e.limit; stopped = e.stopped } };
+    ghost view = { λ e. record { plans = e.plans; stores = e.stores.items; history = e.history; waiting = e.buffer; delay = e.delay; last = e.last; horizon = e.horizon; accepted = e.accepted; limit = e.limit; stopped = e.stopped } };
 
-    ghost invariant = { λ e. IsEngine (record { plans = e.plans; stores = e.stores.items; waiting = e.buffer; delay = e.delay; last = e.last; horizon = e.horizon; accepted = e.accepted; limit = e.limit; stopped = e.stopped }) };
+    ghost invariant = { λ e. IsEngine (record { plans = e.plans; stores = e.stores.items; history = e.history; waiting = e.buffer; delay = e.delay; last = e.last; horizon = e.horizon; accepted = e.accepted; limit = e.limit; stopped = e.stopped }) };
 }
 
 impl Engine {
-    /// An engine that accepted nothing, and will accept at most `limit` entries.
-    pub fn new(alloc: Global, plans: Plans, limit: u32) -> Result<Engine, AllocError>
+    /// An engine that accepted nothing, and will accept at most `limit` entries. Without focus every
+    /// event counts as of level 0.
+    pub fn new(alloc: Global, plans: Plans, focus: bool, limit: u32) -> Result<Engine, AllocError>
+        requires flat { focus ≡ false }
         requires proper { AllByRecursion (λ r. IsProper r.value) plans.plans }
         requires windowless { AllByRecursion (λ r. (chronicle r.value).windows ≡ []) plans.plans }
         requires few { length plans.plans ≤ 64 }
         ensures new { IfOk result (IsNewEngine plans limit) }
         ensures stands { IfOk result (λ e. StandsFor e [] []) }
     {
-        let stores = stores_of(alloc, plans.plans.as_slice())?;
+        let stores = stores_of(alloc, plans.plans.as_slice(), focus)?;
         Ok(Engine {
             plans,
             stores,
+            history: History::new(alloc),
             buffer: Buffer::new(alloc),
             delay: 0,
             last: 0,
@@ -108,6 +114,13 @@ impl Engine {
         ensures { result ≡ kept_of self.now }
     {
         kept_by(self.stores.as_slice())
+    }
+
+    /// The settled entries that are still needed.
+    pub fn history(&self) -> &History
+        ensures { result.now ≡ self.now.history }
+    {
+        &self.history
     }
 
     /// How many ticks the horizon lags behind the clock.
@@ -173,7 +186,11 @@ impl Engine {
     }
 
     /// Moves the clock on, and answers what is newly recognised, with this clock as the mark.
-    pub fn clock(&mut self, t: u64) -> Result<List<Recognition>, Refused>
+    pub fn clock<L: Ledger>(
+        &mut self,
+        t: u64,
+        steps: &mut Steps<L>,
+    ) -> Result<List<Recognition>, Refused>
         requires { t < 2 ^ 40 }
         ensures refused { IsRefusedAs (clock_refusal self.old t) result }
         ensures unchanged { IsSome (clock_refusal self.old t) → self.new ≡ self.old }
@@ -188,12 +205,12 @@ impl Engine {
             return Err(Refused::Back { t, last: self.last });
         }
         let h = t.saturating_sub(self.delay);
-        self.move_on(t, h, Mark::Clock(t))
+        self.move_on(t, h, Mark::Clock(t), steps)
     }
 
     /// Settles all entries, and answers what is newly recognised. From then on each date is late,
     /// each clock is back, and a further call answers nothing.
-    pub fn finish(&mut self) -> Result<List<Recognition>, Refused>
+    pub fn finish<L: Ledger>(&mut self, steps: &mut Steps<L>) -> Result<List<Recognition>, Refused>
         ensures refused { IsRefusedAs (finish_refusal self.old) result }
         ensures unchanged { IsSome (finish_refusal self.old) → self.new ≡ self.old }
         ensures raised { IsTrue self.new.stopped ↔ (IsTrue self.old.stopped ⊎ (result ≡ Err Memory)) }
@@ -204,11 +221,17 @@ impl Engine {
         if self.stopped {
             return Err(Refused::Stopped);
         }
-        self.move_on(END, END, Mark::Finish)
+        self.move_on(END, END, Mark::Finish, steps)
     }
 
     /// Moves the clock on to `t`, and the horizon to `h`.
-    fn move_on(&mut self, t: u64, h: u64, mark: Mark) -> Result<List<Recognition>, Refused>
+    fn move_on<L: Ledger>(
+        &mut self,
+        t: u64,
+        h: u64,
+        mark: Mark,
+        steps: &mut Steps<L>,
+    ) -> Result<List<Recognition>, Refused>
         requires running { self.old.stopped ≡ false }
         requires forward { self.old.horizon ≤ h }
         requires small { h ≤ 2 ^ 42 }
@@ -218,7 +241,15 @@ impl Engine {
         ensures moved { OnOk result (HasMoved self.old self.new t h) }
         ensures marked { IfOk result (λ answer. (settled : Items (LogEntry Sym)) (waiting : Items (LogEntry Sym)) → StandsFor self.old settled waiting → AfterMark self.old self.new mark settled waiting answer) }
     {
-        match mark_all(self.alloc, &mut self.stores, &mut self.buffer, h, mark) {
+        match mark_all(
+            self.alloc,
+            &mut self.stores,
+            &mut self.history,
+            &mut self.buffer,
+            h,
+            mark,
+            steps,
+        ) {
             Ok(answer) => {
                 self.last = t;
                 self.horizon = h;

@@ -1,43 +1,65 @@
-ghost use Rattle.std.specs.Prelude.{◌≡◌, ◌<◌, ◌≤◌, ◌^◌, ◌++◌, OnOk, OnErr, IfOk, List as Items};
+ghost use Rattle.std.specs.Prelude.{◌≡◌, ◌<◌, ◌≤◌, ◌≤ℤ◌, ◌^◌, ◌++◌, pos, OnOk, OnErr, IfOk, List as Items};
 ghost use Rattle.std.specs.List.{AllByRecursion};
 ghost use Rattle.crs_base.specs.Seen.{entry_of};
+ghost use Rattle.crs_history.specs.Histories.{EndsWith, IsInKeyOrder};
 ghost use Rattle.crs_model.specs.declared.recognition.Recognition.{Recognition};
 ghost use Rattle.crs_engine.specs.Moves.{AreSameStores, AreOffered, AreSettled, IsRestOf, AreAdvanced, AreMarked};
 ghost use Rattle.crs_buffer.specs.Entries.{Ascends, IsNewKey};
 ghost use Rattle.crs_model.specs.Order.{put_in_order};
 
 use crate::refused::NoMemory;
-use crs_base::{Entry, List};
+use crs_base::{Entry, List, Steps};
 use crs_buffer::Buffer;
+use crs_history::History;
 use crs_model::{Mark, Recognition};
 use crs_store::Store;
 use std::alloc::{AllocError, Global};
 use std::rc::Rc;
+use std::sync::ledger::Ledger;
 
-/// Offers the entry to each store.
-fn offer_all(stores: &mut [Store], entry: &Rc<Entry>) -> Result<(), NoMemory>
-    requires { entry.now.value.date < 2 ^ 40 }
+/// Offers the entry, which is the last of the history, to each store.
+fn offer_all<L: Ledger>(
+    stores: &mut [Store],
+    history: &History,
+    entry: &Rc<Entry>,
+    steps: &mut Steps<L>,
+) -> Result<(), NoMemory>
+    requires last { EndsWith (entry_of entry.now.value) history.now.entries }
+    requires date { entry.now.value.date < 2 ^ 40 }
     ensures same { AreSameStores stores.old stores.new }
     ensures offered { OnOk result (AreOffered stores.old (entry_of entry.now.value) stores.new) }
 {
     match stores.split_first_mut() {
         None => Ok(()),
         Some((first, rest)) => {
-            first.offer(entry)?;
-            offer_all(rest, entry)
+            first.offer(history, entry, steps)?;
+            offer_all(rest, history, entry, steps)
         }
     }
 }
 
-/// Takes the entries dated before `h` out of the buffer in key order, and offers each to all stores.
-pub(crate) fn settle(stores: &mut [Store], buffer: &mut Buffer, h: u64) -> Result<(), NoMemory>
-    requires { AllByRecursion (λ x. x.date < 2 ^ 40) buffer.old }
+/// Takes the entries dated before `h` out of the buffer in key order, adds each to the history, and
+/// offers it to all stores.
+pub(crate) fn settle<L: Ledger>(
+    stores: &mut [Store],
+    history: &mut History,
+    buffer: &mut Buffer,
+    h: u64,
+    steps: &mut Steps<L>,
+) -> Result<(), NoMemory>
+    requires small { AllByRecursion (λ x. x.date < 2 ^ 40) buffer.old }
+    requires order { IsInKeyOrder (history.old.entries ++ buffer.old) }
+    requires low { history.old.floor ≤ℤ pos 0 }
     ensures same { AreSameStores stores.old stores.new }
     ensures rest { IsRestOf buffer.old buffer.new }
-    ensures settled { OnOk result (AreSettled stores.old buffer.old h stores.new buffer.new) }
+    ensures order { IsInKeyOrder (history.new.entries ++ buffer.new) }
+    ensures floor { history.new.floor ≡ history.old.floor }
+    ensures settled { OnOk result (AreSettled stores.old history.old buffer.old h stores.new history.new buffer.new) }
 {
     while let Some(entry) = buffer.release_before(h) {
-        offer_all(stores, &entry)?;
+        let shared = entry.clone()?;
+        history.push(shared)?;
+        offer_all(stores, history, &entry, steps)?;
     }
     Ok(())
 }
@@ -56,6 +78,7 @@ fn push_all(list: &mut List<Recognition>, items: List<Recognition>) -> Result<()
 fn advance_all(
     answer: &mut List<Recognition>,
     stores: &mut [Store],
+    history: &History,
     h: u64,
     mark: Mark,
 ) -> Result<(), NoMemory>
@@ -66,8 +89,8 @@ fn advance_all(
     match stores.split_first_mut() {
         None => Ok(()),
         Some((first, rest)) => {
-            push_all(answer, first.advance(h, mark)?)?;
-            advance_all(answer, rest, h, mark)
+            push_all(answer, first.advance(history, h, mark)?)?;
+            advance_all(answer, rest, history, h, mark)
         }
     }
 }
@@ -76,6 +99,7 @@ fn advance_all(
 pub(crate) fn advance(
     alloc: Global,
     stores: &mut [Store],
+    history: &History,
     h: u64,
     mark: Mark,
 ) -> Result<List<Recognition>, NoMemory>
@@ -84,26 +108,32 @@ pub(crate) fn advance(
     ensures advanced { IfOk result (AreAdvanced h mark stores.old stores.new) }
 {
     let mut answer = List::new(alloc);
-    advance_all(&mut answer, stores, h, mark)?;
+    advance_all(&mut answer, stores, history, h, mark)?;
     Ok(answer)
 }
 
 /// Settles the entries dated before `h`, and moves all stores on to it.
-pub(crate) fn mark_all(
+pub(crate) fn mark_all<L: Ledger>(
     alloc: Global,
     stores: &mut [Store],
+    history: &mut History,
     buffer: &mut Buffer,
     h: u64,
     mark: Mark,
+    steps: &mut Steps<L>,
 ) -> Result<List<Recognition>, NoMemory>
     requires small { AllByRecursion (λ x. x.date < 2 ^ 40) buffer.old }
+    requires order { IsInKeyOrder (history.old.entries ++ buffer.old) }
+    requires low { history.old.floor ≤ℤ pos 0 }
     requires horizon { h ≤ 2 ^ 42 }
     ensures same { AreSameStores stores.old stores.new }
     ensures rest { IsRestOf buffer.old buffer.new }
-    ensures marked { IfOk result (AreMarked h mark stores.old buffer.old stores.new buffer.new) }
+    ensures order { IsInKeyOrder (history.new.entries ++ buffer.new) }
+    ensures floor { history.new.floor ≡ history.old.floor }
+    ensures marked { IfOk result (AreMarked h mark stores.old history.old buffer.old stores.new history.new buffer.new) }
 {
-    settle(stores, buffer, h)?;
-    let answer = advance(alloc, stores, h, mark)?;
+    settle(stores, history, buffer, h, steps)?;
+    let answer = advance(alloc, stores, history, h, mark)?;
     Ok(answer)
 }
 

@@ -1,4 +1,4 @@
-ghost use Rattle.std.specs.Prelude.{◌≡◌, ◌≤◌, [], map, length, IfOk};
+ghost use Rattle.std.specs.Prelude.{◌≡◌, ◌≤◌, [], map, length, IfOk, false};
 ghost use Rattle.std.specs.List.{AllByRecursion};
 ghost use Rattle.crs_model.specs.Plans.{chronicle, IsProper};
 ghost use Rattle.crs_store.specs.Stores.{Stands};
@@ -10,7 +10,12 @@ use std::alloc::{AllocError, Global};
 use std::rc::Rc;
 
 /// A store for each plan, in order.
-pub(crate) fn stores_of(alloc: Global, plans: &[Rc<Plan>]) -> Result<Vec<Store>, AllocError>
+pub(crate) fn stores_of(
+    alloc: Global,
+    plans: &[Rc<Plan>],
+    focus: bool,
+) -> Result<Vec<Store>, AllocError>
+    requires flat { focus ≡ false }
     requires proper { AllByRecursion (λ r. IsProper r.value) plans.now }
     requires windowless { AllByRecursion (λ r. (chronicle r.value).windows ≡ []) plans.now }
     requires few { length plans.now ≤ 64 }
@@ -19,7 +24,7 @@ pub(crate) fn stores_of(alloc: Global, plans: &[Rc<Plan>]) -> Result<Vec<Store>,
 {
     let mut stores = Vec::new(alloc);
     for (number, plan) in plans.iter().enumerate() {
-        stores.push(Store::new(alloc, plan.clone()?, number as u32)?)?;
+        stores.push(Store::new(alloc, plan.clone()?, number as u32, focus)?)?;
     }
     Ok(stores)
 }

@@ -5,11 +5,13 @@ ghost use Rattle.crs_model.specs.Plans.{chronicle, IsProper};
 ghost use Rattle.crs_instance.specs.Fixtures.{IsPlain, IsFixture};
 
 use crate::{Engine, Refused};
-use crs_base::{Entry, List, Sym, SymList, Text};
+use crs_base::{Entry, List, Steps, Sym, SymList, Text};
 use crs_model::{Chronicle, EventDef, Pattern, Plan, Plans, Recognition};
 use crs_stn::{Bound, Network};
 use std::alloc::{AllocError, Global};
+use std::marker::Brand;
 use std::rc::Rc;
+use std::sync::ledger::{Blank, Ledger};
 use std::test::Fail;
 
 /// An event of this name, without arguments.
@@ -126,6 +128,29 @@ fn feed(
     Ok(engine.accept(next))
 }
 
+/// Moves the clock on, with a counter of its own.
+fn clock_apart<L: Ledger>(
+    blank: Blank,
+    engine: &mut Engine,
+    t: u64,
+) -> Result<List<Recognition>, Refused>
+    requires name { blank.name ≡ L.name }
+    requires parts { blank.parts ≡ L.parts }
+    requires some { 0 < L.parts }
+    requires date { t < 2 ^ 40 }
+{
+    engine.clock(t, &mut Steps::<L>::new(blank))
+}
+
+/// Settles all entries, with a counter of its own.
+fn finish_apart<L: Ledger>(blank: Blank, engine: &mut Engine) -> Result<List<Recognition>, Refused>
+    requires name { blank.name ≡ L.name }
+    requires parts { blank.parts ≡ L.parts }
+    requires some { 0 < L.parts }
+{
+    engine.finish(&mut Steps::<L>::new(blank))
+}
+
 /// Whether the answer has at this place a recognition of the chronicle, from one date to another.
 fn tells(answer: &List<Recognition>, place: usize, chronicle: u32, from: u64, to: u64) -> bool {
     match answer.get(place) {
@@ -140,7 +165,7 @@ fn tells(answer: &List<Recognition>, place: usize, chronicle: u32, from: u64, to
 
 /// An engine that accepted b at 4, and a at 2 and 1.
 fn fed(alloc: Global, limit: u32) -> Result<Engine, AllocError> {
-    let mut engine = Engine::new(alloc, plans(alloc)?, limit)?;
+    let mut engine = Engine::new(alloc, plans(alloc)?, false, limit)?;
     let _ = feed(&mut engine, alloc, 4, 1)?;
     let _ = feed(&mut engine, alloc, 2, 0)?;
     let _ = feed(&mut engine, alloc, 1, 0)?;
@@ -151,21 +176,22 @@ fn fed(alloc: Global, limit: u32) -> Result<Engine, AllocError> {
 fn recognises_in_order(rt: HostRuntime) -> Result<(), Fail> {
     let mut engine = fed(rt.alloc(), 9)?;
     assert_eq!(rt; engine.kept(), 2);
-    let answer = engine.clock(5)?;
+    let answer = clock_apart::<Brand>(Blank::new(1), &mut engine, 5)?;
     assert_eq!(rt; answer.len(), 4);
     assert!(rt; tells(&answer, 0, 0, 1, 4));
     assert!(rt; tells(&answer, 1, 0, 2, 4));
     assert!(rt; tells(&answer, 2, 1, 1, 4));
     assert!(rt; tells(&answer, 3, 1, 2, 4));
     assert_eq!(rt; engine.kept(), 6);
+    assert_eq!(rt; engine.history().len(), 3);
     Ok(())
 }
 
 #[test]
 fn the_end_comes_once(rt: HostRuntime) -> Result<(), Fail> {
     let mut engine = fed(rt.alloc(), 9)?;
-    assert_eq!(rt; engine.finish()?.len(), 4);
-    assert_eq!(rt; engine.finish()?.len(), 0);
+    assert_eq!(rt; finish_apart::<Brand>(Blank::new(1), &mut engine)?.len(), 4);
+    assert_eq!(rt; finish_apart::<Brand>(Blank::new(1), &mut engine)?.len(), 0);
     assert_eq!(rt; engine.kept(), 2);
     Ok(())
 }
@@ -174,7 +200,7 @@ fn the_end_comes_once(rt: HostRuntime) -> Result<(), Fail> {
 fn refuses_what_is_late_back_or_too_much(rt: HostRuntime) -> Result<(), Fail> {
     let alloc = rt.alloc();
     let mut engine = fed(alloc, 4)?;
-    let _ = engine.clock(5)?;
+    let _ = clock_apart::<Brand>(Blank::new(1), &mut engine, 5)?;
     let late = Refused::Late {
         date: 4,
         horizon: 5,
@@ -188,9 +214,8 @@ fn refuses_what_is_late_back_or_too_much(rt: HostRuntime) -> Result<(), Fail> {
         Err(Refused::Full { limit: 4 })
     );
     assert!(rt;
-        engine
-            .clock(4)
-            .is_err_and(|e| e == Refused::Back { t: 4, last: 5 })
+        clock_apart::<Brand>(Blank::new(1), &mut engine, 4).is_err_and(|e| e
+            == Refused::Back { t: 4, last: 5 })
     );
     Ok(())
 }
@@ -198,11 +223,17 @@ fn refuses_what_is_late_back_or_too_much(rt: HostRuntime) -> Result<(), Fail> {
 #[test]
 fn the_horizon_lags_by_the_delay(rt: HostRuntime) -> Result<(), Fail> {
     let alloc = rt.alloc();
-    let mut engine = Engine::new(alloc, plans(alloc)?, 4)?;
+    let mut engine = Engine::new(alloc, plans(alloc)?, false, 4)?;
     engine.set_delay(3);
-    assert_eq!(rt; engine.clock(2)?.len(), 0);
+    assert_eq!(rt;
+        clock_apart::<Brand>(Blank::new(1), &mut engine, 2)?.len(),
+        0
+    );
     assert_eq!(rt; engine.horizon(), 0);
-    assert_eq!(rt; engine.clock(7)?.len(), 0);
+    assert_eq!(rt;
+        clock_apart::<Brand>(Blank::new(1), &mut engine, 7)?.len(),
+        0
+    );
     assert_eq!(rt; engine.horizon(), 4);
     assert_eq!(rt; engine.plans().plans.len(), 2);
     Ok(())

@@ -12,6 +12,10 @@ use Rattle.crs_model.specs.declared.chronicle.EventDef.{EventDef as CodeEvent}
 use Rattle.crs_model.specs.Models.{Term, EventDef}
 use Rattle.crs_model.specs.Proper.{terms_have, change_has, pattern_has}
 use Rattle.crs_model.specs.Plans.{IsProper}
+use Rattle.crs_base.specs.Entry.{Entry}
+use Rattle.crs_instance.specs.declared.fit.Fit.{Fit}
+use Rattle.crs_instance.specs.declared.fit.Fit.TheVariants.{Yes, No}
+use Rattle.crs_instance.specs.Instances.{InstanceState, IsOf, IsAnswered}
 use Rattle.crs_instance.specs.Fixtures.{IsPlain, IsFixture}
 use Rattle.crs_model.specs.Bindings.{TermIsBelow, PatternIsBelow}
 use Rattle.crs_model.specs.Seen.{term_of, event_of}
@@ -68,3 +72,8 @@ fixture_proper p f points consistent minimal =
       below = subst (λ (t : List CodeEvent). AllByRecursion (λ v. PatternIsBelow (length p.chronicle.variables) v.pattern) (map event_of t)) (sym f.events)
           (plain_below f.first (length p.chronicle.variables) f.plain_first, (plain_below f.second (length p.chronicle.variables) f.plain_second, tt));
     }
+
+-- whatever a bind answers, the instance is one of the plan
+pub answered_of : (plan : Plan) (old new : InstanceState) (e : ℕ) (x : Entry Sym) (fit : Fit) → IsOf plan old → IsAnswered plan old e x new fit → IsOf plan new
+answered_of plan old new e x Yes of h = h.0
+answered_of plan old new e x No of h = subst (IsOf plan) (sym h.1) of

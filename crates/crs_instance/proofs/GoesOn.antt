@@ -1,24 +1,17 @@
 -- The deadline tells whether dates can go on.
-use Rattle.std.proofs.Common.{◌≡◌, ℕ, ◌<◌, List, length, refl, sym, ap, subst, ◌∙◌, arith}
-use Rattle.std.specs.Prelude.{ℤ, pos, ◌≤ℤ◌, Option, Some, None, IfSome, IsSomeAnd, Bool, true, IsTrue, ◌↔◌, is_some, not}
+use Rattle.std.proofs.Common.{◌≡◌, ℕ, ◌<◌, length, refl, ap, subst, arith}
+use Rattle.std.specs.Prelude.{ℤ, pos, ◌≤ℤ◌, Option, Some, None, IfSome, Bool, true, IsTrue, ◌↔◌, is_some, not}
 use Rattle.std.proofs.lemmas.Int.{ints}
 use Rattle.crs_base.specs.declared.symbols.Sym.{Sym}
 use Rattle.crs_stn.specs.Bound.{Meets, Agrees}
 use Rattle.crs_stn.specs.DateWindow.{IsLatest, CanBeFrom}
-use Rattle.crs_stn.proofs.Partial.{least_of, least_of_is_below, least_of_is_reached}
 use Rattle.crs_stn.proofs.DateWindow.{joint_demand}
 use Rattle.crs_model.specs.declared.plan.Plan.{Plan}
-use Rattle.crs_model.specs.declared.date_window.DateWindow.{DateWindow}
 use Rattle.crs_base.specs.Entry.{Entry}
 use Rattle.crs_model.specs.Partial.{at, dates_of, CanGoOn}
 use Rattle.crs_model.specs.Plans.{chronicle, IsProper}
 use Rattle.crs_model.specs.Steps.{flat}
-use Rattle.std.specs.declared.rc.Rc.{Rc}
-use Rattle.std.proofs.Common.{Global}
-use Rattle.std.proofs.lemmas.List.{length-map}
-use Rattle.crs_base.specs.declared.entry.Entry.{Entry as CodeEntry}
-use Rattle.crs_instance.specs.Instances.{InstanceState, IsOf, IsDeadline, partial_of, seen_entry, window_at}
-use Rattle.crs_instance.specs.Deadlines.{end_of, deadline_of}
+use Rattle.crs_instance.specs.Instances.{InstanceState, IsOf, IsDeadline, window_at}
 use Rattle.std.specs.Prelude.{option_map}
 use Rattle.crs_stn.specs.Table.{most_of}
 use Rattle.crs_stn.proofs.Partial.{after}
@@ -27,14 +20,6 @@ use Rattle.crs_instance.proofs.BindAnswers.{least_none}
 
 unbound : Option (Entry Sym) → Bool
 unbound o = not (is_some o)
-
-end_at : (o : Option (Entry Sym)) (w : DateWindow) → o ≡ None → end_of o w ≡ w.most
-end_at None w e = refl
-end_at (Some x) w e = absurd cc
-
-end_parts : (o : Option (Entry Sym)) (w : DateWindow) (v : ℤ) → end_of o w ≡ Some v → (o ≡ None) × (w.most ≡ Some v)
-end_parts None w v e = (refl, e)
-end_parts (Some x) w v e = absurd cc
 
 none_of : (o : Option (Entry Sym)) → IsTrue (unbound o) → o ≡ None
 unfolding unbound
@@ -45,41 +30,6 @@ unbound_of : (o : Option (Entry Sym)) → o ≡ None → IsTrue (unbound o)
 unfolding unbound
 unbound_of None e = refl
 unbound_of (Some x) e = absurd cc
-
--- the least of the greatest dates is the deadline
-module _ (i : InstanceState) where
-  ends : ℕ → Option ℤ
-  ends e = end_of (at i.partial e) (window_at i.windows e)
-
-  never_some : (o : Option ℤ) → IfSome o (λ x. IsSomeAnd None (λ v. v ≤ℤ x)) → o ≡ None
-  never_some None h = refl
-  never_some (Some x) h = absurd h
-
-  below_each : (d : Option ℤ) (e : ℕ) → deadline_of i ≡ d → e < length i.partial → at i.partial e ≡ None → IfSome (window_at i.windows e).most (λ x. IsSomeAnd d (λ v. v ≤ℤ x))
-  below_each d e s l n =
-      subst (λ (o : Option ℤ). IfSome (window_at i.windows e).most (λ x. IsSomeAnd o (λ v. v ≤ℤ x))) s
-      (subst (λ (o : Option ℤ). IfSome o (λ x. IsSomeAnd (deadline_of i) (λ v. v ≤ℤ x))) (end_at (at i.partial e) (window_at i.windows e) n)
-      (least_of_is_below (λ e. end_of (at i.partial e) (window_at i.windows e)) (length i.partial) e l))
-
-  deadline_by : (d : Option ℤ) → deadline_of i ≡ d → IsDeadline i d
-  deadline_by None s = λ e l n. never_some (window_at i.windows e).most (below_each None e s l n)
-  deadline_by (Some d) s =
-      let r = least_of_is_reached (λ e. end_of (at i.partial e) (window_at i.windows e)) (length i.partial) d s in
-      let p = end_parts (at i.partial r.0) (window_at i.windows r.0) d r.2 in
-      (λ e l n. below_each (Some d) e s l n, r.0, r.1, p.0, p.1)
-
-  pub is_deadline : (d : Option ℤ) → d ≡ deadline_of i → IsDeadline i d
-  is_deadline d s = deadline_by d (sym s)
-
-pub deadline_is : (i : InstanceState) (es fs : List (Option (Rc CodeEntry Global))) (ws vs : List DateWindow) (b : List (Option Sym)) (d : Option ℤ) → record { partial = partial_of es; binding = b; windows = ws } ≡ i → fs ≡ es → vs ≡ ws →
-    d ≡ least_of (λ e. end_of (at (partial_of fs) e) (window_at vs e)) (length fs) → IsDeadline i d
-deadline_is i es fs ws vs b d view se sw is =
-    is_deadline i d
-    (is
-    ∙ ap (λ (t : List (Option (Rc CodeEntry Global))). least_of (λ e. end_of (at (partial_of t) e) (window_at vs e)) (length t)) se
-    ∙ ap (λ (t : List DateWindow). least_of (λ e. end_of (at (partial_of es) e) (window_at t e)) (length es)) sw
-    ∙ ap (λ (n : ℕ). least_of (λ e. end_of (at (partial_of es) e) (window_at ws e)) n) (sym (length-map es seen_entry))
-    ∙ ap deadline_of view)
 
 module _ (plan : Plan) (proper : IsProper plan) (i : InstanceState) (of : IsOf plan i) (h : ℕ) where
   point : (r : ℕ) → r < length i.partial → r < plan.network.points
@@ -98,11 +48,11 @@ module _ (plan : Plan) (proper : IsProper plan) (i : InstanceState) (of : IsOf p
   some_above (Some m) d l k = omega (arith, ints)
 
   -- each unbound event can be that late
-  all_above : (d : Option ℤ) → IsDeadline i d → IfSome d (λ v. pos h ≤ℤ v) → (r : ℕ) → r < length i.partial → at i.partial r ≡ None → IfSome (window_at i.windows r).most (λ v. pos h ≤ℤ v)
-  all_above None is l r k n = none_above (window_at i.windows r).most (is r k n)
-  all_above (Some d) is l r k n = some_above (window_at i.windows r).most d l (is.0 r k n)
+  all_above : (d : Option ℤ) → IsDeadline flat 0 i d → IfSome d (λ v. pos h ≤ℤ v) → (r : ℕ) → r < length i.partial → at i.partial r ≡ None → IfSome (window_at i.windows r).most (λ v. pos h ≤ℤ v)
+  all_above None is l r k n = none_above (window_at i.windows r).most (is r k n refl)
+  all_above (Some d) is l r k n = some_above (window_at i.windows r).most d l (is.0 r k n refl)
 
-  goes_on : (d : Option ℤ) → IsDeadline i d → IfSome d (λ v. pos h ≤ℤ v) → CanGoOn (chronicle plan) flat i.partial h
+  goes_on : (d : Option ℤ) → IsDeadline flat 0 i d → IfSome d (λ v. pos h ≤ℤ v) → CanGoOn (chronicle plan) flat i.partial h
   goes_on d is l =
       let joint = joint_demand plan.chronicle.bounds (length i.partial) (dates_of i.partial) (λ r. unbound (at i.partial r)) (pos h) of.dates (λ r k t.
       by_window (window_at i.windows r).most r (of.most r (point r k)) (all_above d is l r k (none_of (at i.partial r) t))) in
@@ -112,16 +62,16 @@ module _ (plan : Plan) (proper : IsProper plan) (i : InstanceState) (of : IsOf p
   at_most None v r t late e a m = absurd cc
   at_most (Some u) v r t late e a m = let s : u ≡ v = cc in subst (λ (z : ℤ). t r ≤ℤ z) s (late.0 t a m)
 
-  goes_on_back : (d : Option ℤ) → IsDeadline i d → CanGoOn (chronicle plan) flat i.partial h → IfSome d (λ v. pos h ≤ℤ v)
+  goes_on_back : (d : Option ℤ) → IsDeadline flat 0 i d → CanGoOn (chronicle plan) flat i.partial h → IfSome d (λ v. pos h ≤ℤ v)
   goes_on_back None is k = tt
   goes_on_back (Some v) is k =
       let r = is.1 in
-      let top = at_most (window_at i.windows r).most v r k.0 (of.most r (point r is.2)) is.4 k.1 k.2 in
+      let top = at_most (window_at i.windows r).most v r k.0 (of.most r (point r is.2)) is.5 k.1 k.2 in
       let low = k.3 r (record { within = is.2; unbound = is.3; least = λ e l n. omega arith }) in
       omega (arith, ints, top, low)
 
 -- what the deadline tells
-pub tells : (i : InstanceState) (d : Option ℤ) (h : ℕ) (b : Bool) → IsDeadline i d → (IsTrue b ↔ IfSome d (λ v. pos h ≤ℤ v)) → (plan : Plan) → IsProper plan → IsOf plan i → IsTrue b ↔ CanGoOn (chronicle plan) flat i.partial h
+pub tells : (i : InstanceState) (d : Option ℤ) (h : ℕ) (b : Bool) → IsDeadline flat 0 i d → (IsTrue b ↔ IfSome d (λ v. pos h ≤ℤ v)) → (plan : Plan) → IsProper plan → IsOf plan i → IsTrue b ↔ CanGoOn (chronicle plan) flat i.partial h
 tells i d h b is says plan proper of = (λ t. goes_on plan proper i of h d is (says.0 t), λ k. says.1 (goes_on_back plan proper i of h d is k))
 
 -- where nothing is bound, each event can be at 0 or after

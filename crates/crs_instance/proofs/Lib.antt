@@ -3,6 +3,7 @@ pub mod Windows
 pub mod Narrow
 pub mod BindSteps
 pub mod BindAnswers
+pub mod Deadline
 pub mod GoesOn
 pub mod Pushes
 pub mod Fixture

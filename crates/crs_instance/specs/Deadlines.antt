@@ -1,20 +1,18 @@
 -- The greatest dates of unbound events, and which events are bound.
-use Rattle.std.specs.Prelude.{◌≡◌, ◌/◌, ◌%◌, ◌^◌, ℕ, ℤ, length, Option, Some, None, is_some, cond}
-use Rattle.crs_stn.proofs.Partial.{least_of}
+use Rattle.std.specs.Prelude.{◌≡◌, Bool, ◌/◌, ◌%◌, ◌^◌, ℕ, ℤ, Option, Some, None, is_some, cond}
 use Rattle.crs_base.specs.declared.symbols.Sym.{Sym}
 use Rattle.crs_base.specs.Entry.{Entry}
 use Rattle.crs_model.specs.declared.date_window.DateWindow.{DateWindow}
 use Rattle.crs_model.specs.Partial.{Partial, at}
-use Rattle.crs_instance.specs.Instances.{InstanceState, window_at}
 
 -- the greatest date of an event that is unbound
 abbrev pub end_of : Option (Entry Sym) → DateWindow → Option ℤ
 end_of None w = w.most
 end_of (Some x) w = None
 
--- the least of them
-abbrev pub deadline_of : InstanceState → Option ℤ
-deadline_of i = least_of (λ e. end_of (at i.partial e) (window_at i.windows e)) (length i.partial)
+-- the same, where the event counts
+abbrev pub end_if : Bool → Option (Entry Sym) → DateWindow → Option ℤ
+end_if counts o w = cond counts (end_of o w) None
 
 abbrev pub bit_of : Option (Entry Sym) → ℕ
 bit_of o = cond (is_some o) 1 0

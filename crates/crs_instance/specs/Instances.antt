@@ -63,12 +63,12 @@ pub record CanBe (plan : Plan) (a : Partial Sym) : Type 0 where
   pub allowed : IsAllowed (chronicle plan) look
   pub dates : MeetsInPart plan.chronicle.bounds (dates_of a)
 
--- d is the least of the greatest dates of the unbound events, and None where none of these is finite
-abbrev pub IsDeadline : InstanceState → Option ℤ → Type 0
-IsDeadline i None = (e : ℕ) → e < length i.partial → at i.partial e ≡ None → (window_at i.windows e).most ≡ None
-IsDeadline i (Some d) =
-    ((e : ℕ) → e < length i.partial → at i.partial e ≡ None → IfSome (window_at i.windows e).most (λ m. d ≤ℤ m))
-    × (e : ℕ) × (e < length i.partial) × (at i.partial e ≡ None) × ((window_at i.windows e).most ≡ Some d)
+-- d is the least of the greatest dates of the unbound events of level n, and None where none of these is finite
+abbrev pub IsDeadline : (ℕ → ℕ) → ℕ → InstanceState → Option ℤ → Type 0
+IsDeadline level n i None = (e : ℕ) → e < length i.partial → at i.partial e ≡ None → level e ≡ n → (window_at i.windows e).most ≡ None
+IsDeadline level n i (Some d) =
+    ((e : ℕ) → e < length i.partial → at i.partial e ≡ None → level e ≡ n → IfSome (window_at i.windows e).most (λ m. d ≤ℤ m))
+    × (e : ℕ) × (e < length i.partial) × (at i.partial e ≡ None) × (level e ≡ n) × ((window_at i.windows e).most ≡ Some d)
 
 -- the least binding beyond the old one by which the pattern equals the entry, where that is allowed; None where none is
 abbrev pub IsBoundBy : Chronicle Sym → Pattern Sym → List (Option Sym) → Entry Sym → Option (List (Option Sym)) → Type 0

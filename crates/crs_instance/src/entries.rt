@@ -1,14 +1,16 @@
-ghost use Rattle.std.specs.Prelude.{◌≡◌, ◌≢◌, ◌<◌, ◌≤◌, ◌^◌, ℕ, ℤ, length, map, replicate, IfOk, OnOk, IfSome, ◌++◌, IsTrue, IsSomeAnd, None, false, is_some};
+ghost use Rattle.std.specs.Prelude.{◌≡◌, ◌≢◌, ◌<◌, ◌≤◌, ◌^◌, ◌==◌, ℕ, ℤ, length, map, replicate, IfOk, OnOk, IfSome, ◌++◌, IsTrue, IsSomeAnd, None, false, is_some};
 ghost use Rattle.std.specs.List.{list_all};
 ghost use Rattle.std.specs.Option.{option_to_list};
 ghost use Rattle.crs_stn.proofs.Partial.{least_of};
 ghost use Rattle.crs_model.specs.Partial.{at};
+ghost use Rattle.crs_model.specs.Levels.{level_in};
+ghost use Rattle.crs_model.specs.Seen.{event_of};
 ghost use Rattle.crs_instance.specs.Instances.{partial_of, seen_entry, window_at, AreAllEntries};
-ghost use Rattle.crs_instance.specs.Deadlines.{end_of, bit_of, HasBits};
+ghost use Rattle.crs_instance.specs.Deadlines.{end_of, end_if, bit_of, HasBits};
 
 use crate::narrowing::earlier;
 use crs_base::{Entry, List};
-use crs_model::DateWindow;
+use crs_model::{DateWindow, EventDef};
 use std::alloc::{AllocError, Global};
 use std::rc::Rc;
 
@@ -75,6 +77,45 @@ fn latest_date(entry: &Option<Rc<Entry>>, window: DateWindow) -> Option<i64>
         None => window.most,
         Some(_) => None,
     }
+}
+
+/// The level of the event at a place, which is 0 where levels aren't read.
+fn level_at(events: &[EventDef], place: usize, focus: bool) -> u8
+    requires { place < length events.now }
+    ensures { result ≡ level_in (map event_of events.now) focus place }
+{
+    if focus { events[place].level } else { 0 }
+}
+
+/// The greatest date of an event, where it is unbound and it counts.
+fn latest_date_if(counts: bool, entry: &Option<Rc<Entry>>, window: DateWindow) -> Option<i64>
+    ensures { result ≡ end_if counts (seen_entry entry.now) window }
+{
+    if counts {
+        latest_date(entry, window)
+    } else {
+        None
+    }
+}
+
+/// The least of the greatest dates of the unbound events of the level.
+pub(crate) fn deadline_of_level(
+    entries: &[Option<Rc<Entry>>],
+    windows: &[DateWindow],
+    events: &[EventDef],
+    level: u8,
+    focus: bool,
+) -> Option<i64>
+    requires windows { length entries.now ≤ length windows.now }
+    requires events { length entries.now ≤ length events.now }
+    ensures { result ≡ least_of (λ e. end_if (level_in (map event_of events.now) focus e == level) (at (partial_of entries.now) e) (window_at windows.now e)) (length entries.now) }
+{
+    let mut earliest = None;
+    for e in 0..entries.len() {
+        let counts = level_at(events, e, focus) == level;
+        earliest = earlier(latest_date_if(counts, &entries[e], windows[e]), earliest);
+    }
+    earliest
 }
 
 /// The least of the greatest dates of the unbound events.

@@ -1,4 +1,4 @@
-ghost use Rattle.std.specs.Prelude.{◌≡◌, ◌<◌, ◌≤◌, ◌^◌, ◌↔◌, ℕ, ℤ, pos, ◌≤ℤ◌, length, replicate, IfOk, OnErr, IfSome, IsTrue, None, is_some};
+ghost use Rattle.std.specs.Prelude.{◌≡◌, ◌+◌, ◌<◌, ◌≤◌, ◌^◌, ◌↔◌, ℕ, ℤ, pos, ◌≤ℤ◌, length, replicate, IfOk, OnErr, IfSome, IsTrue, None, is_some};
 ghost use Rattle.std.specs.List.{list_all};
 ghost use Rattle.std.specs.Option.{option_copied};
 ghost use Rattle.crs_model.specs.Partial.{at, CanGoOn};
@@ -7,20 +7,23 @@ ghost use Rattle.crs_base.specs.Seen.{entry_of};
 ghost use Rattle.crs_model.specs.Seen.{pattern_of, chronicle_of};
 ghost use Rattle.crs_model.specs.Bindings.{PatternIsBelow};
 ghost use Rattle.crs_model.specs.Steps.{flat};
+ghost use Rattle.crs_model.specs.Levels.{level_in};
 ghost use Rattle.crs_model.specs.declared.plan.Plan.{Plan};
 ghost use Rattle.crs_instance.specs.Instances.{no_window, seen_entry, IsBoundBy, IsOf, IsAnswered, IsDeadline, AreAllEntries, window_at};
-ghost use Rattle.crs_instance.specs.Deadlines.{deadline_of, HasBits};
+ghost use Rattle.crs_instance.specs.Deadlines.{HasBits};
 
 use crate::entries::{
-    all_entries, are_all_bound, bits, copies, earliest_deadline, gives, no_entries,
+    all_entries, are_all_bound, bits, copies, deadline_of_level, earliest_deadline, gives,
+    no_entries,
 };
 use crate::fit::Fit;
 use crate::narrowing::{is_inside, is_not_before, narrowed};
-use crs_base::{Entry, List};
+use crs_base::{Entry, List, Steps};
 use crs_model::{Binding, Chronicle, DateWindow, Pattern, Plan, allowed, bind_vars, fits};
 use std::alloc::{AllocError, Global};
 use std::marker::Model;
 use std::rc::Rc;
+use std::sync::ledger::Ledger;
 
 /// A partial instance of a chronicle: some of its events bound to entries, with the symbols that
 /// this gives to variables, and the dates that it leaves to each point.
@@ -59,16 +62,18 @@ fn no_windows(alloc: Global, count: usize) -> Result<Vec<DateWindow>, AllocError
 }
 
 /// The binding with the variables of the pattern, where the entry fits it and the chronicle allows the binding.
-fn matched(
+fn matched<L: Ledger>(
     chronicle: &Chronicle,
     pattern: &Pattern,
     binding: &Binding,
     entry: &Entry,
+    steps: &mut Steps<L>,
 ) -> Option<Binding>
     requires { PatternIsBelow (length binding.now) (pattern_of pattern.now) }
-    ensures { IsBoundBy (chronicle_of chronicle.now) (pattern_of pattern.now) binding.now (entry_of entry.now) result }
+    ensures bound { IsBoundBy (chronicle_of chronicle.now) (pattern_of pattern.now) binding.now (entry_of entry.now) result }
+    ensures step { steps.new ≡ steps.old + 1 }
 {
-    if !fits(pattern, binding, entry) {
+    if !fits(pattern, binding, entry, steps) {
         return None;
     }
     let mut next = binding.copy();
@@ -108,26 +113,28 @@ impl Instance {
     }
 
     /// The binding and the windows, where the event is bound to the entry too.
-    fn extended(
+    fn extended<L: Ledger>(
         &self,
         plan: &Plan,
         event: u8,
         entry: &Entry,
+        steps: &mut Steps<L>,
     ) -> Result<Option<Extension>, AllocError>
         requires proper { IsProper plan.now }
         requires of { IsOf plan.now self.now }
         requires event { event < length plan.now.chronicle.events }
         requires unbound { at self.now.partial event ≡ None }
         requires date { entry.now.date < 2 ^ 40 }
-        ensures { IfOk result (IsExtended plan.now self.now event (entry_of entry.now)) }
+        ensures extended { IfOk result (IsExtended plan.now self.now event (entry_of entry.now)) }
+        ensures step { steps.new ≡ steps.old + 1 }
     {
+        let pattern = &plan.chronicle.events.as_slice()[event as usize].pattern;
+        let Some(binding) = matched(&plan.chronicle, pattern, &self.binding, entry, steps) else {
+            return Ok(None);
+        };
         if gives(self.entries.as_slice(), entry.arrival) {
             return Ok(None);
         }
-        let pattern = &plan.chronicle.events.as_slice()[event as usize].pattern;
-        let Some(binding) = matched(&plan.chronicle, pattern, &self.binding, entry) else {
-            return Ok(None);
-        };
         if !is_inside(self.windows[event as usize], entry.date) {
             return Ok(None);
         }
@@ -141,8 +148,15 @@ impl Instance {
         Ok(Some(Extension { binding, windows }))
     }
 
-    /// Binds the event to the entry, where the bound events can still be part of an assignment that meets the bounds.
-    pub fn bind(&mut self, plan: &Plan, event: u8, entry: Rc<Entry>) -> Result<Fit, AllocError>
+    /// Binds the event to the entry, where the bound events can still be part of an assignment that
+    /// meets the bounds. It takes one step. After No and after a refusal the instance is as it was.
+    pub fn bind<L: Ledger>(
+        &mut self,
+        plan: &Plan,
+        event: u8,
+        entry: Rc<Entry>,
+        steps: &mut Steps<L>,
+    ) -> Result<Fit, AllocError>
         requires proper { IsProper plan.now }
         requires of { IsOf plan.now self.old }
         requires event { event < length plan.now.chronicle.events }
@@ -150,8 +164,9 @@ impl Instance {
         requires date { entry.value.date < 2 ^ 40 }
         ensures ok { IfOk result (IsAnswered plan.now self.old event (entry_of entry.value) self.new) }
         ensures err { OnErr result (self.new ≡ self.old) }
+        ensures step { steps.new ≡ steps.old + 1 }
     {
-        match self.extended(plan, event, &entry)? {
+        match self.extended(plan, event, &entry, steps)? {
             None => Ok(Fit::No),
             Some(more) => {
                 self.entries[event as usize] = Some(entry);
@@ -171,9 +186,25 @@ impl Instance {
         self.windows[p as usize]
     }
 
-    /// The last date at which each unbound event can still come, in ticks, where there is one.
-    pub fn deadline(&self) -> Option<i64>
-        ensures { IsDeadline self.now result }
+    /// The last date at which each unbound event of the level can still come, in ticks, where there
+    /// is one. Without focus every event counts as of level 0.
+    pub fn deadline(&self, plan: &Plan, level: u8, focus: bool) -> Option<i64>
+        requires { IsOf plan.now self.now }
+        ensures { IsDeadline (level_in (chronicle plan.now).events focus) level self.now result }
+    {
+        let events = plan.chronicle.events.as_slice();
+        deadline_of_level(
+            self.entries.as_slice(),
+            self.windows.as_slice(),
+            events,
+            level,
+            focus,
+        )
+    }
+
+    /// The last date at which each unbound event can still come, where there is one.
+    fn last_date(&self) -> Option<i64>
+        ensures { IsDeadline flat 0 self.now result }
     {
         earliest_deadline(self.entries.as_slice(), self.windows.as_slice())
     }
@@ -183,7 +214,7 @@ impl Instance {
         requires { h ≤ 2 ^ 42 }
         ensures { (plan : Plan) → IsProper plan → IsOf plan self.now → IsTrue result ↔ CanGoOn (chronicle plan) flat self.now.partial h }
     {
-        is_not_before(self.deadline(), h)
+        is_not_before(self.last_date(), h)
     }
 
     /// The entry that the event is bound to, or None where it is unbound or there is none of that

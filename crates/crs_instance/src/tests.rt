@@ -1,28 +1,32 @@
-ghost use Rattle.std.specs.Prelude.{◌≡◌, ◌<◌, ◌^◌, [], ◌∷◌, None, IfOk};
+ghost use Rattle.std.specs.Prelude.{◌≡◌, ◌<◌, ◌^◌, [], ◌∷◌, length, None, IfOk, OnOk};
 ghost use Rattle.crs_stn.specs.Bound.{IsWithin};
 ghost use Rattle.crs_model.specs.Plans.{IsProper};
+ghost use Rattle.crs_model.specs.Partial.{at};
+ghost use Rattle.crs_instance.specs.Instances.{IsOf};
 ghost use Rattle.crs_instance.specs.Fixtures.{IsPlain, IsFixture};
 
 use crate::{Fit, Instance};
-use crs_base::{Entry, List, Sym, SymList, Text};
+use crs_base::{Entry, List, Steps, Sym, SymList, Text};
 use crs_model::{Chronicle, EventDef, Pattern, Plan};
 use crs_stn::{Bound, Network};
 use std::alloc::{AllocError, Global};
+use std::marker::Brand;
 use std::rc::Rc;
+use std::sync::ledger::{Blank, Ledger};
 use std::test::Fail;
 
-/// An event of this name, without arguments.
-fn event(alloc: Global, name: u32) -> EventDef
+/// An event of this name and of the level of the same number, without arguments.
+fn event(alloc: Global, name: u8) -> EventDef
     ensures { IsPlain result }
 {
     EventDef {
         pattern: Pattern {
-            name: Sym(name),
+            name: Sym(name as u32),
             terms: List::new(alloc),
             change: None,
         },
-        point: Sym(name),
-        level: 0,
+        point: Sym(name as u32),
+        level: name,
     }
 }
 
@@ -98,15 +102,43 @@ fn entry(alloc: Global, arrival: u32, date: u64, name: u32) -> Result<Rc<Entry>,
     )?)
 }
 
+/// Binds the event, with a counter of its own.
+fn bind_apart<L: Ledger>(
+    blank: Blank,
+    instance: &mut Instance,
+    plan: &Plan,
+    event: u8,
+    entry: Rc<Entry>,
+) -> Result<Fit, AllocError>
+    requires name { blank.name ≡ L.name }
+    requires parts { blank.parts ≡ L.parts }
+    requires some { 0 < L.parts }
+    requires proper { IsProper plan.now }
+    requires of { IsOf plan.now instance.old }
+    requires event { event < length plan.now.chronicle.events }
+    requires unbound { at instance.old.partial event ≡ None }
+    requires date { entry.value.date < 2 ^ 40 }
+    ensures { OnOk result (IsOf plan.now instance.new) }
+{
+    let fit = instance.bind(plan, event, entry, &mut Steps::<L>::new(blank))?;
+    Ok(fit)
+}
+
 #[test]
 fn binds_what_can_still_be_recognised(rt: HostRuntime) -> Result<(), Fail> {
     let alloc = rt.alloc();
     let plan = plan(alloc)?;
     let root = Instance::root(alloc, &plan)?;
-    assert_eq!(rt; root.deadline(), None);
+    assert_eq!(rt; root.deadline(&plan, 0, false), None);
     let mut next = root.copy()?;
-    assert_eq!(rt; next.bind(&plan, 0, entry(alloc, 0, 10, 0)?)?, Fit::Yes);
-    assert_eq!(rt; next.deadline(), Some(15));
+    assert_eq!(rt;
+        bind_apart::<Brand>(Blank::new(1), &mut next, &plan, 0, entry(alloc, 0, 10, 0)?)?,
+        Fit::Yes
+    );
+    assert_eq!(rt; next.deadline(&plan, 0, false), Some(15));
+    assert_eq!(rt; next.deadline(&plan, 1, false), None);
+    assert_eq!(rt; next.deadline(&plan, 1, true), Some(15));
+    assert_eq!(rt; next.deadline(&plan, 0, true), None);
     assert_eq!(rt; next.bound(), 1);
     assert!(rt; next.entry(0).is_some_and(|e| e.date == 10));
     assert!(rt; !next.is_whole());
@@ -121,7 +153,10 @@ fn refuses_another_name(rt: HostRuntime) -> Result<(), Fail> {
     let alloc = rt.alloc();
     let plan = plan(alloc)?;
     let mut root = Instance::root(alloc, &plan)?;
-    assert_eq!(rt; root.bind(&plan, 0, entry(alloc, 0, 10, 1)?)?, Fit::No);
+    assert_eq!(rt;
+        bind_apart::<Brand>(Blank::new(1), &mut root, &plan, 0, entry(alloc, 0, 10, 1)?)?,
+        Fit::No
+    );
     assert!(rt; root.entry(0).is_none());
     assert!(rt; root.all_entries()?.is_none());
     Ok(())

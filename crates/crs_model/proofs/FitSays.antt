@@ -1,14 +1,15 @@
 -- Whether some binding fits, and which is the least.
-use Rattle.std.proofs.Common.{◌≡◌, ◌≢◌, List, refl, sym, subst}
-use Rattle.std.specs.Prelude.{Option, Some, None, is_some, IsTrue, ◌↔◌}
-use Rattle.std.specs.List.{AllZip}
+use Rattle.std.proofs.Common.{◌≡◌, ◌≢◌, ℕ, ◌<◌, List, [], ◌∷◌, length, refl, sym, subst, zero, suc, arith}
+use Rattle.std.specs.Prelude.{Option, Some, None, is_some, IsTrue, IfSome, IsSomeAnd, slice_index_or, ◌↔◌}
+use Rattle.std.specs.List.{AllZip, AllByRecursion}
 use Rattle.crs_base.specs.declared.symbols.Sym.{Sym}
 use Rattle.crs_model.specs.Matching.{TermIs, ChangeIs, PatternIs}
 use Rattle.crs_base.specs.Entry.{Entry}
-use Rattle.crs_model.specs.Models.{Term, Pattern}
-use Rattle.crs_model.specs.Bindings.{look_of, IsMatch, IsFit}
+use Rattle.crs_model.specs.Models.{Term, Value, Var, Any, Pattern}
+use Rattle.crs_model.specs.Bindings.{look_of, IsMatch, IsFit, TermIsBelow, PatternIsBelow}
+use Rattle.crs_model.specs.Verdicts.{TermIsBound, PatternIsBound}
 use Rattle.crs_model.proofs.Matches.{match_then, match_not}
-use Rattle.crs_model.proofs.Lost.{terms_up}
+use Rattle.crs_model.proofs.Lost.{terms_up, pattern_down}
 
 pub fits_says : (p : Pattern Sym) (old : List (Option Sym)) (e : Entry Sym) (new : Option (List (Option Sym))) → IsMatch (λ look. PatternIs look p e) old new → IsTrue (is_some new) ↔ IsFit p old e
 fits_says p old e None h = (λ t. absurd cc, λ f. absurd (h f.0 f.1 f.2))
@@ -28,3 +29,31 @@ pattern_then p old mid e new ts xs a b s h k =
 
 pub not_fit : (p : Pattern Sym) (old : List (Option Sym)) (e : Entry Sym) → IsMatch (λ look. PatternIs look p e) old None → IsFit p old e → ⊥
 not_fit p old e h f = h f.0 f.1 f.2
+
+-- a bound variable is one of the binding's
+bound_below : (old : List (Option Sym)) (v : ℕ) → IsSomeAnd (look_of old v) (λ _. Unit {0}) → v < length old
+bound_below [] v b = absurd b
+bound_below (o ∷ old) zero b = omega arith
+bound_below (o ∷ old) (suc v) b = let r = bound_below old v b in omega arith
+
+term_below : (old : List (Option Sym)) (t : Term Sym) → TermIsBound (look_of old) t → TermIsBelow (length old) t
+term_below old (Value x) b = tt
+term_below old (Var v) b = bound_below old v b
+term_below old Any b = tt
+
+terms_below : (old : List (Option Sym)) (ts : List (Term Sym)) → AllByRecursion (TermIsBound (look_of old)) ts → AllByRecursion (TermIsBelow (length old)) ts
+terms_below old [] b = tt
+terms_below old (t ∷ ts) b = (term_below old t b.0, terms_below old ts b.1)
+
+change_below : (old : List (Option Sym)) (c : Option (Term Sym × Term Sym)) → IfSome c (λ c. TermIsBound (look_of old) c.0 × TermIsBound (look_of old) c.1) → IfSome c (λ c. TermIsBelow (length old) c.0 × TermIsBelow (length old) c.1)
+change_below old None b = tt
+change_below old (Some c) b = (term_below old c.0 b.0, term_below old c.1 b.1)
+
+pub pattern_below : (old : List (Option Sym)) (p : Pattern Sym) → PatternIsBound (look_of old) p → PatternIsBelow (length old) p
+pattern_below old p b = (terms_below old p.terms b.0, change_below old p.change b.1)
+
+-- where the variables are bound, what some binding beyond makes equal is equal
+pub accepts_says : (p : Pattern Sym) (old : List (Option Sym)) (e : Entry Sym) (new : Option (List (Option Sym))) → PatternIsBound (look_of old) p → IsMatch (λ look. PatternIs look p e) old new → IsTrue (is_some new) ↔ PatternIs (look_of old) p e
+accepts_says p old e new b h =
+    let says = fits_says p old e new h in
+    (λ t. let f = says.0 t in pattern_down (look_of old) f.0 f.1 p e b f.2, λ r. says.1 (look_of old, (λ v x q. q), r))

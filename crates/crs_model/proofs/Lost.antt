@@ -6,10 +6,12 @@ use Rattle.std.proofs.lemmas.Int.{ints, by_lt_z}
 use Rattle.crs_base.specs.Words.{IsIn}
 use Rattle.crs_base.proofs.Words.{in_append, in_append_left}
 use Rattle.crs_base.specs.Entry.{Entry}
+use Rattle.crs_base.specs.Values.{Attribute, HasValue}
+use Rattle.crs_base.proofs.Values.{value_back, change_agrees}
 use Rattle.crs_model.specs.Models.{Term, Value, Var, Any, Pattern, Window, Body, NoEvent, Occurs, Hold}
 use Rattle.crs_model.specs.Matching.{Binding, TermIs, ChangeIs, PatternIs}
 use Rattle.crs_model.specs.Partial.{Partial, at}
-use Rattle.crs_model.specs.Verdicts.{Count, IsDatedIn, IsValue, IsAttribute, IsCount, IsSo, IsSpoilt, IsStretch, TermIsBound, PatternIsBound, BodyIsBound, IsLost}
+use Rattle.crs_model.specs.Verdicts.{Count, IsDatedIn, IsHeld, IsCount, IsSo, IsSpoilt, IsStretch, TermIsBound, PatternIsBound, BodyIsBound, IsLost}
 use Rattle.crs_model.proofs.Options.{and_some, some_and}
 use Rattle.crs_model.proofs.Least.{Extends, Looser}
 
@@ -45,17 +47,11 @@ out_of to h d n l m k = omega (arith, ints)
 -- ---- later entries and a later horizon
 
 module _ {S : Type 0} (entries more : List (Entry S)) (h g : ℕ) (later : h ≤ g) (late : (e : Entry S) → IsIn e more → h ≤ e.date) where
-  value_back : (name : S) (args : List S) (t : ℤ) (v : S) → t <ℤ pos h → IsValue (entries ++ more) name args t v → IsValue entries name args t v
-  value_back name args t v l val = record {
-    last = val.last;
-    given = elim (in_append entries more val.last val.given) [ inl i ↦ i | inr i ↦ absurd (too_late t (val.last).date h (late val.last i) l val.before) ];
-    changes = val.changes;
-    before = val.before;
-    rest = λ e w i. val.rest e w (in_append_left entries more e i);
-  }
-    where
-      too_late : (t : ℤ) (d n : ℕ) → n ≤ d → t <ℤ pos n → pos d ≤ℤ t → ⊥
-      too_late t d n a b c = omega (arith, ints)
+  after : (t : ℤ) (d n : ℕ) → n ≤ d → t <ℤ pos n → t <ℤ pos d
+  after t d n l k = omega (arith, ints)
+
+  held_back : (a : Attribute S) (t : ℤ) (v : S) → t <ℤ pos h → HasValue a (entries ++ more) t v → HasValue a entries t v
+  held_back a t v l val = value_back a entries more t (λ e i. after t e.date h (late e i) l) v val
 
   not_dated : (from to : ℤ) → to ≤ℤ pos h → (e : Entry S) → IsIn e more → IsDatedIn from to e → ⊥
   not_dated from to l e i d = out_of to to e.date h l (late e i) d.1
@@ -63,15 +59,11 @@ module _ {S : Type 0} (entries more : List (Entry S)) (h g : ℕ) (later : h ≤
   so_back : (look : Binding S) (body : Body S) (from to : ℤ) → to ≤ℤ pos h → IsSo (entries ++ more) look body from to → IsSo entries look body from to
   so_back look (NoEvent p) from to l so = count_none _ entries more 0 (λ e i d. not_dated from to l e i d.0) so
   so_back look (Occurs least most p) from to l so = (so.0, count_none _ entries more so.0 (λ e i d. not_dated from to l e i d.0) so.1, so.2, so.3)
-  so_back look (Hold name terms value) from to l so = λ args v is t a b. value_back name args t v (omega (arith, ints)) (so args v is t a b)
+  so_back look (Hold name terms value) from to l so = λ a v is t b c. held_back a t v (omega (arith, ints)) (so a v is t b c)
 
   above_most : (most : Option ℕ) (P Q : ℕ → Type 0) (n m : ℕ) → IsSomeAnd most (λ k. (n : ℕ) → P n → k < n) → P m → m ≤ n → IfSome most (λ k. n ≤ k) → ⊥
   above_most None P Q n m s p l i = s
   above_most (Some k) P Q n m s p l i = let r = s m p in omega arith
-
-  greatest_is : (d e : ℕ) (w v : S) → (d < e) ⊎ ((d ≡ e) × (w ≡ v)) → pos e ≤ℤ pos d → w ≡ v
-  greatest_is d e w v (inl l) k = absurd (omega (arith, ints))
-  greatest_is d e w v (inr s) k = s.1
 
   spoilt_not_so : (look : Binding S) (body : Body S) (from to : ℤ) → IsSpoilt entries look body from to (pos h) → IsSo (entries ++ more) look body from to → ⊥
   spoilt_not_so look (NoEvent p) from to spoilt so =
@@ -81,11 +73,9 @@ module _ {S : Type 0} (entries more : List (Entry S)) (h g : ℕ) (later : h ≤
   spoilt_not_so look (Occurs least most p) from to spoilt so =
       let r = count_front _ entries more so.0 so.1 in
       above_most most (λ n. IsCount entries look p from to n) (λ n. IsCount entries look p from to n) so.0 r.0 spoilt r.1 r.2 so.3
-  spoilt_not_so look (Hold name terms value) from to (args, v, is, inl u) so = u.4 (value_back name args u.0 v u.3 (so args v is u.0 u.1 u.2))
-  spoilt_not_so look (Hold name terms value) from to (args, v, is, inr ch) so =
-      let e = ch.0 in
-      let val = so args v is (pos e.date) (ch.4).0 (ch.4).1 in
-      ch.5 (greatest_is e.date (val.last).date ch.1 v (val.rest e ch.1 (in_append_left entries more e ch.2) ch.3 (omega (arith, ints))) val.before)
+  spoilt_not_so look (Hold name terms value) from to (a, v, is, inl u) so = u.4 (held_back a u.0 v u.3 (so a v is u.0 u.1 u.2))
+  spoilt_not_so look (Hold name terms value) from to (a, v, is, inr ch) so =
+      ch.4 (change_agrees a (entries ++ more) v ch.0 (in_append_left entries more ch.0 ch.1) ch.2 (so a v is (pos (ch.0).date) (ch.3).0 (ch.3).1))
 
   over_still : (most : Option ℕ) (P Q : ℕ → Type 0) → ((n : ℕ) → Q n → (m : ℕ) × P m × (m ≤ n)) → IsSomeAnd most (λ k. (n : ℕ) → P n → k < n) → IsSomeAnd most (λ k. (n : ℕ) → Q n → k < n)
   over_still None P Q f s = s
@@ -94,8 +84,8 @@ module _ {S : Type 0} (entries more : List (Entry S)) (h g : ℕ) (later : h ≤
   spoilt_grows : (look : Binding S) (body : Body S) (from to : ℤ) → IsSpoilt entries look body from to (pos h) → IsSpoilt (entries ++ more) look body from to (pos g)
   spoilt_grows look (NoEvent p) from to spoilt = λ so. spoilt_not_so look (NoEvent p) from to spoilt so
   spoilt_grows look (Occurs least most p) from to spoilt = over_still most _ _ (λ n q. count_front _ entries more n q) spoilt
-  spoilt_grows look (Hold name terms value) from to (args, v, is, inl u) = (args, v, is, inl (u.0, u.1, u.2, let k = u.3 in omega (arith, ints), λ val. u.4 (value_back name args u.0 v u.3 val)))
-  spoilt_grows look (Hold name terms value) from to (args, v, is, inr ch) = (args, v, is, inr (ch.0, ch.1, in_append_left entries more ch.0 ch.2, ch.3, ch.4, ch.5))
+  spoilt_grows look (Hold name terms value) from to (a, v, is, inl u) = (a, v, is, inl (u.0, u.1, u.2, let k = u.3 in omega (arith, ints), λ val. u.4 (held_back a u.0 v u.3 val)))
+  spoilt_grows look (Hold name terms value) from to (a, v, is, inr ch) = (a, v, is, inr (ch.0, in_append_left entries more ch.0 ch.1, ch.2, ch.3, ch.4))
 
   pub lost_grows : (look : Binding S) (a : Partial S) (w : Window S) → IsLost look a entries h w → IsLost look a (entries ++ more) g w
   lost_grows look a w l = record {
@@ -179,21 +169,21 @@ module _ {S : Type 0} (small look : Binding S) (looser : Looser small look) wher
     count_down : (p : Pattern S) (n : ℕ) → PatternIsBound small p → IsCount entries look p from to n → IsCount entries small p from to n
     count_down p n b k = count_same _ _ (λ e d. (d.0, pattern_down p e b d.1)) (λ e d. (d.0, pattern_up p e d.1)) entries n k
 
-    attribute_up : (terms : List (Term S)) (value : Term S) (args : List S) (v : S) → IsAttribute small terms value args v → IsAttribute look terms value args v
-    attribute_up terms value args v k = record { args_are = terms_up terms args k.args_are; value_is = term_up value v k.value_is }
+    held_up : (name : S) (terms : List (Term S)) (value : Term S) (a : Attribute S) (v : S) → IsHeld small name terms value a v → IsHeld look name terms value a v
+    held_up name terms value a v k = record { name_is = k.name_is; args_are = terms_up terms a.args k.args_are; value_is = term_up value v k.value_is }
 
-    attribute_down : (terms : List (Term S)) (value : Term S) (args : List S) (v : S) → AllByRecursion (TermIsBound small) terms → TermIsBound small value → IsAttribute look terms value args v → IsAttribute small terms value args v
-    attribute_down terms value args v b c k = record { args_are = terms_down terms args b k.args_are; value_is = term_down value v c k.value_is }
+    held_down : (name : S) (terms : List (Term S)) (value : Term S) (a : Attribute S) (v : S) → AllByRecursion (TermIsBound small) terms → TermIsBound small value → IsHeld look name terms value a v → IsHeld small name terms value a v
+    held_down name terms value a v b c k = record { name_is = k.name_is; args_are = terms_down terms a.args b k.args_are; value_is = term_down value v c k.value_is }
 
     pub so_up : (body : Body S) → BodyIsBound small body → IsSo entries small body from to → IsSo entries look body from to
     so_up (NoEvent p) b so = count_up p 0 b so
     so_up (Occurs least most p) b so = (so.0, count_up p so.0 b so.1, so.2, so.3)
-    so_up (Hold name terms value) b so = λ args v is. so args v (attribute_down terms value args v b.0 b.1 is)
+    so_up (Hold name terms value) b so = λ a v is. so a v (held_down name terms value a v b.0 b.1 is)
 
     pub so_down : (body : Body S) → BodyIsBound small body → IsSo entries look body from to → IsSo entries small body from to
     so_down (NoEvent p) b so = count_down p 0 b so
     so_down (Occurs least most p) b so = (so.0, count_down p so.0 b so.1, so.2, so.3)
-    so_down (Hold name terms value) b so = λ args v is. so args v (attribute_up terms value args v is)
+    so_down (Hold name terms value) b so = λ a v is. so a v (held_up name terms value a v is)
 
     over_up : (most : Option ℕ) (P Q : ℕ → Type 0) → ((n : ℕ) → Q n → P n) → IsSomeAnd most (λ k. (n : ℕ) → P n → k < n) → IsSomeAnd most (λ k. (n : ℕ) → Q n → k < n)
     over_up None P Q f s = s
@@ -202,7 +192,7 @@ module _ {S : Type 0} (small look : Binding S) (looser : Looser small look) wher
     pub spoilt_up : (body : Body S) (h : ℤ) → BodyIsBound small body → IsSpoilt entries small body from to h → IsSpoilt entries look body from to h
     spoilt_up (NoEvent p) h b spoilt = λ n. spoilt (count_down p 0 b n)
     spoilt_up (Occurs least most p) h b spoilt = over_up most _ _ (λ n q. count_down p n b q) spoilt
-    spoilt_up (Hold name terms value) h b spoilt = (spoilt.0, spoilt.1, attribute_up terms value spoilt.0 spoilt.1 spoilt.2, spoilt.3)
+    spoilt_up (Hold name terms value) h b spoilt = (spoilt.0, spoilt.1, held_up name terms value spoilt.0 spoilt.1 spoilt.2, spoilt.3)
 
   pub stretch_up : (a b : Partial S) (w : Window S) (from to : ℤ) → Extends a b → IsStretch a w from to → IsStretch b w from to
   stretch_up a b w from to part k =

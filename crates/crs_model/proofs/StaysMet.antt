@@ -3,12 +3,12 @@ use Rattle.std.proofs.Common.{◌≡◌, ℕ, ◌≤◌, List, [], ◌∷◌, �
 use Rattle.std.specs.Prelude.{ℤ, pos, ◌≤ℤ◌, ◌<ℤ◌, ◌+ℤ◌, Option, Some, None, IsSomeAnd}
 use Rattle.std.proofs.lemmas.Int.{ints}
 use Rattle.crs_base.specs.Words.{IsIn}
-use Rattle.crs_base.proofs.Words.{in_append, in_append_left}
 use Rattle.crs_base.specs.Entry.{Entry}
+use Rattle.crs_base.proofs.Values.{value_forth}
 use Rattle.crs_model.specs.Models.{Window, Body, NoEvent, Occurs, Hold}
 use Rattle.crs_model.specs.Matching.{Binding}
 use Rattle.crs_model.specs.Partial.{Partial, at}
-use Rattle.crs_model.specs.Verdicts.{Count, IsValue, IsSo, IsLost, IsMet}
+use Rattle.crs_model.specs.Verdicts.{Count, IsSo, IsLost, IsMet}
 
 count_zero : {A : Type 0} (P : A → Type 0) (ys : List A) → ((x : A) → IsIn x ys → P x → ⊥) → Count P ys 0
 count_zero P [] none = refl
@@ -20,25 +20,16 @@ count_forth P (x ∷ xs) ys n none (inl h) = inl (h.0, h.1, h.2, count_forth P x
 count_forth P (x ∷ xs) ys n none (inr h) = inr (h.0, count_forth P xs ys n none h.1)
 
 module _ {S : Type 0} (entries more : List (Entry S)) (h g : ℕ) (later : h ≤ g) (late : (e : Entry S) → IsIn e more → h ≤ e.date) where
-  too_late : (t : ℤ) (d n : ℕ) → n ≤ d → t <ℤ pos n → pos d ≤ℤ t → ⊥
-  too_late t d n a b c = omega (arith, ints)
+  after : (t : ℤ) (d n : ℕ) → n ≤ d → t <ℤ pos n → t <ℤ pos d
+  after t d n l k = omega (arith, ints)
 
   not_in : (to : ℤ) (d n : ℕ) → n ≤ d → to ≤ℤ pos n → pos d <ℤ to → ⊥
   not_in to d n a b c = omega (arith, ints)
 
-  value_forth : (name : S) (args : List S) (t : ℤ) (v : S) → t <ℤ pos h → IsValue entries name args t v → IsValue (entries ++ more) name args t v
-  value_forth name args t v l val = record {
-    last = val.last;
-    given = in_append_left entries more val.last val.given;
-    changes = val.changes;
-    before = val.before;
-    rest = λ e w i c b. elim (in_append entries more e i) [ inl j ↦ val.rest e w j c b | inr j ↦ absurd (too_late t e.date h (late e j) l b) ];
-  }
-
   so_forth : (look : Binding S) (body : Body S) (from to : ℤ) → to ≤ℤ pos h → IsSo entries look body from to → IsSo (entries ++ more) look body from to
   so_forth look (NoEvent p) from to l so = count_forth _ entries more 0 (λ e i d. not_in to e.date h (late e i) l (d.0).1) so
   so_forth look (Occurs least most p) from to l so = (so.0, count_forth _ entries more so.0 (λ e i d. not_in to e.date h (late e i) l (d.0).1) so.1, so.2, so.3)
-  so_forth look (Hold name terms value) from to l so = λ args v is t a b. value_forth name args t v (omega (arith, ints)) (so args v is t a b)
+  so_forth look (Hold name terms value) from to l so = λ a v is t b c. value_forth a entries more t (λ e i. after t e.date h (late e i) (omega (arith, ints))) v (so a v is t b c)
 
   pub met_grows : (look : Binding S) (a : Partial S) (w : Window S) → IsMet look a entries h w → IsMet look a (entries ++ more) g w
   met_grows look a w m = record {

@@ -6,6 +6,7 @@ pub mod Verdicts
 pub mod Open
 pub mod Images
 pub mod Steps
+pub mod Levels
 pub mod Proper
 pub mod Seen
 pub mod Bindings

@@ -1,8 +1,9 @@
 -- Windows: their stretch of dates, and their verdict at a horizon over a list of entries.
-use Rattle.std.specs.Prelude.{◌≡◌, ◌≢◌, ◌⊎◌, ℕ, suc, ◌<◌, ◌≤◌, ℤ, pos, ◌+ℤ◌, ◌≤ℤ◌, ◌<ℤ◌, List, [], ◌∷◌, IfSome, IsSomeAnd}
+use Rattle.std.specs.Prelude.{◌≡◌, ◌⊎◌, ℕ, suc, ◌<◌, ◌≤◌, ℤ, pos, ◌+ℤ◌, ◌≤ℤ◌, ◌<ℤ◌, List, [], ◌∷◌, IfSome, IsSomeAnd}
 use Rattle.std.specs.List.{AllZip, AllByRecursion}
 use Rattle.crs_base.specs.Words.{IsIn}
 use Rattle.crs_base.specs.Entry.{Entry}
+use Rattle.crs_base.specs.Values.{Attribute, IsChange, NewIs, HasValue}
 use Rattle.crs_model.specs.Models.{Term, Value, Var, Any, Pattern, Window, Body, NoEvent, Occurs, Hold}
 use Rattle.crs_model.specs.Matching.{Binding, TermIs, PatternIs}
 use Rattle.crs_model.specs.Partial.{Partial, at}
@@ -17,35 +18,22 @@ module _ {S : Type 0} where
   abbrev pub IsDatedIn : ℤ → ℤ → Entry S → Type 0
   IsDatedIn from to e = (from ≤ℤ pos e.date) × (pos e.date <ℤ to)
 
-  -- the entry changes the attribute to v
-  pub record Changes (name : S) (args : List S) (v : S) (e : Entry S) : Type 0 where
-    pub named : e.name ≡ name
-    pub of : e.args ≡ args
-    pub to : IsSomeAnd e.change (λ c. c.1 ≡ v)
-
-  -- some change of the attribute is dated at or before t, and all its changes of the greatest such date have the new value v
-  pub record IsValue (entries : List (Entry S)) (name : S) (args : List S) (t : ℤ) (v : S) : Type 0 where
-    pub last : Entry S
-    pub given : IsIn last entries
-    pub changes : Changes name args v last
-    pub before : pos last.date ≤ℤ t
-    pub rest : (e : Entry S) (w : S) → IsIn e entries → Changes name args w e → pos e.date ≤ℤ t → (e.date < last.date) ⊎ ((e.date ≡ last.date) × (w ≡ v))
-
   -- the attribute has the wanted value at each date of the stretch that is before `until`
-  abbrev pub HasValue : List (Entry S) → S → List S → S → ℤ → ℤ → Type 0
-  HasValue entries name args v from until = (t : ℤ) → from ≤ℤ t → t <ℤ until → IsValue entries name args t v
+  abbrev pub HoldsOver : List (Entry S) → Attribute S → S → ℤ → ℤ → Type 0
+  HoldsOver entries a v from until = (t : ℤ) → from ≤ℤ t → t <ℤ until → HasValue a entries t v
 
   -- at some date of the stretch before h the value isn't v
-  abbrev pub IsUnlikeBefore : List (Entry S) → S → List S → S → ℤ → ℤ → ℤ → Type 0
-  IsUnlikeBefore entries name args v from to h = (t : ℤ) × (from ≤ℤ t) × (t <ℤ to) × (t <ℤ h) × (IsValue entries name args t v → ⊥)
+  abbrev pub IsUnlikeBefore : List (Entry S) → Attribute S → S → ℤ → ℤ → ℤ → Type 0
+  IsUnlikeBefore entries a v from to h = (t : ℤ) × (from ≤ℤ t) × (t <ℤ to) × (t <ℤ h) × (HasValue a entries t v → ⊥)
 
   -- some change of the attribute dated in the stretch has another new value
-  abbrev pub IsChangedFrom : List (Entry S) → S → List S → S → ℤ → ℤ → Type 0
-  IsChangedFrom entries name args v from to = (e : Entry S) × (w : S) × IsIn e entries × Changes name args w e × IsDatedIn from to e × (w ≢ v)
+  abbrev pub IsChangedFrom : List (Entry S) → Attribute S → S → ℤ → ℤ → Type 0
+  IsChangedFrom entries a v from to = (e : Entry S) × IsIn e entries × IsChange a e × IsDatedIn from to e × (NewIs v e → ⊥)
 
   -- the attribute of a `hold` under a binding, and the wanted value
-  pub record IsAttribute (look : Binding S) (terms : List (Term S)) (value : Term S) (args : List S) (v : S) : Type 0 where
-    pub args_are : AllZip (TermIs look) terms args
+  pub record IsHeld (look : Binding S) (name : S) (terms : List (Term S)) (value : Term S) (a : Attribute S) (v : S) : Type 0 where
+    pub name_is : a.name ≡ name
+    pub args_are : AllZip (TermIs look) terms a.args
     pub value_is : TermIs look value v
 
   -- the count of entries of the pattern dated in the stretch
@@ -57,14 +45,14 @@ module _ {S : Type 0} where
   IsSo entries look (NoEvent p) from to = IsCount entries look p from to 0
   IsSo entries look (Occurs least most p) from to = (n : ℕ) × IsCount entries look p from to n × (least ≤ n) × IfSome most (λ m. n ≤ m)
   IsSo entries look (Hold name terms value) from to =
-      (args : List S) (v : S) → IsAttribute look terms value args v → HasValue entries name args v from to
+      (a : Attribute S) (v : S) → IsHeld look name terms value a v → HoldsOver entries a v from to
 
   -- it can't be so any more, though the stretch isn't settled at h
   abbrev pub IsSpoilt : List (Entry S) → Binding S → Body S → ℤ → ℤ → ℤ → Type 0
   IsSpoilt entries look (NoEvent p) from to h = IsCount entries look p from to 0 → ⊥
   IsSpoilt entries look (Occurs least most p) from to h = IsSomeAnd most (λ m. (n : ℕ) → IsCount entries look p from to n → m < n)
   IsSpoilt entries look (Hold name terms value) from to h =
-      (args : List S) × (v : S) × IsAttribute look terms value args v × (IsUnlikeBefore entries name args v from to h ⊎ IsChangedFrom entries name args v from to)
+      (a : Attribute S) × (v : S) × IsHeld look name terms value a v × (IsUnlikeBefore entries a v from to h ⊎ IsChangedFrom entries a v from to)
 
   -- the dates of the stretch
   pub record IsStretch (a : Partial S) (w : Window S) (from to : ℤ) : Type 0 where

@@ -17,8 +17,11 @@ pub use binding::Binding;
 pub use chronicle::{Anchor, Body, Chronicle, EventDef, VarSet, Window};
 pub use date_window::DateWindow;
 pub use laws::recognised_stays;
-pub use matching::{bind_vars, fits};
+pub use matching::{accepts, bind_vars, fits};
 pub use models::{Kind, ModelRefused, ModelWord, Models, Name};
 pub use pattern::{Pattern, Term};
 pub use plan::{Plan, Plans};
 pub use recognition::{Mark, Recognition};
+
+#[cfg(test)]
+mod tests;

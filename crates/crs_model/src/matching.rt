@@ -1,13 +1,15 @@
-ghost use Rattle.std.specs.Prelude.{◌≡◌, ◌↔◌, ℕ, List, length, map, option_map, IsTrue, Some, IfSome};
+ghost use Rattle.std.specs.Prelude.{◌≡◌, ◌+◌, ◌↔◌, ℕ, List, length, map, option_map, IsTrue, Some, IfSome};
 ghost use Rattle.std.specs.List.{AllZip, AllByRecursion};
 ghost use Rattle.crs_model.specs.Bindings.{look_of, IsMatch, IsFit, TermIsBelow, PatternIsBelow, IsLeastWith};
 ghost use Rattle.crs_model.specs.Matching.{TermIs, ChangeIs, PatternIs};
 ghost use Rattle.crs_base.specs.Seen.{entry_of};
 ghost use Rattle.crs_model.specs.Seen.{term_of, pattern_of};
+ghost use Rattle.crs_model.specs.Verdicts.{PatternIsBound};
 
 use crate::binding::Binding;
 use crate::pattern::{Pattern, Term};
-use crs_base::{Entry, Sym};
+use crs_base::{Entry, Steps, Sym};
+use std::sync::ledger::Ledger;
 
 /// The least binding beyond this one by which the term equals the symbol.
 #[tactic(auto, using(crate::proofs::Matches::match_same, crate::proofs::Matches::match_new, crate::proofs::Matches::match_other))]
@@ -87,11 +89,26 @@ fn match_pattern(binding: Binding, pattern: &Pattern, entry: &Entry) -> Option<B
     match_change(next, pattern.change, entry.change)
 }
 
-/// Whether some extension of the binding makes the pattern equal to the entry.
+/// Whether some extension of the binding makes the pattern equal to the entry. It takes one step.
 #[tactic(auto, using(crate::proofs::FitSays::fits_says))]
-pub fn fits(pattern: &Pattern, binding: &Binding, entry: &Entry) -> bool
+pub fn fits<L: Ledger>(
+    pattern: &Pattern,
+    binding: &Binding,
+    entry: &Entry,
+    steps: &mut Steps<L>,
+) -> bool
     requires { PatternIsBelow (length binding.now) (pattern_of pattern.now) }
-    ensures { IsTrue result ↔ IsFit (pattern_of pattern.now) binding.now (entry_of entry.now) }
+    ensures fit { IsTrue result ↔ IsFit (pattern_of pattern.now) binding.now (entry_of entry.now) }
+    ensures step { steps.new ≡ steps.old + 1 }
+{
+    steps.tick();
+    match_pattern(binding.copy(), pattern, entry).is_some()
+}
+
+/// Whether the pattern, whose variables are bound, equals the entry.
+pub fn accepts(pattern: &Pattern, binding: &Binding, entry: &Entry) -> bool
+    requires { PatternIsBound (look_of binding.now) (pattern_of pattern.now) }
+    ensures { IsTrue result ↔ PatternIs (look_of binding.now) (pattern_of pattern.now) (entry_of entry.now) }
 {
     match_pattern(binding.copy(), pattern, entry).is_some()
 }

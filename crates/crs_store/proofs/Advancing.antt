@@ -20,7 +20,8 @@ use Rattle.crs_model.proofs.Offers.{recognised_full}
 use Rattle.crs_model.proofs.Marks.{InDates, marked, new_is_held, same_values}
 use Rattle.crs_instance.specs.Instances.{InstanceState, IsOf}
 use Rattle.crs_store.specs.Stores.{parts, StoreState, Stands, IsStore}
-use Rattle.crs_store.specs.Sweeps.{Waits, is_whole, Leaves, CanWait}
+use Rattle.crs_base.specs.Sifted.{Sifts}
+use Rattle.crs_store.specs.Sweeps.{Waits, is_whole, CanWait}
 use Rattle.crs_store.specs.Answers.{IsNew, IsAnswer, IsMarked, IsAdvanced, IsRecognitionOf, IsRecognitionOfOne, AreFoundInOrder}
 use Rattle.crs_store.proofs.Forking.{can_be}
 use Rattle.crs_store.proofs.Leaving.{leaves_image}
@@ -51,7 +52,7 @@ unwhole (x ∷ xs) [] e = absurd cc
 unwhole (x ∷ xs) (y ∷ ys) e = let s : x ≡ y = cc in let t : map Some xs ≡ map Some ys = cc in (λ i. s i ∷ unwhole xs ys t i)
 
 module _ (old new : StoreState) (is : IsStore old) (mark : Mark) (answer : List Recognition) (h : ℕ) (same : new.plan ≡ old.plan)
-    (found : AreFoundInOrder old.number mark old.held answer) (left : Leaves (CanWait old.plan h) old.held new.held)
+    (found : AreFoundInOrder old.number mark old.held answer) (left : Sifts (CanWait old.plan h) old.held new.held)
     (was pool entries : List (Entry Sym)) (d g : ℕ) (stands : Stands old was pool entries d g) (apart : AreDistinct pool) (later : d ≤ h) (dated : (e : Entry Sym) → IsIn e entries → e.date < h) (in_dates : InDates entries) where
   given_held : (a : Partial Sym) → IsIn a (parts old.held) → (e : ℕ) (y : Entry Sym) → at a e ≡ Some y → IsIn y pool
   given_held a i e y j = of_value (at a e) y j ((stands.each a i).0.partial.given e)
@@ -150,10 +151,10 @@ module _ (old new : StoreState) (is : IsStore old) (mark : Mark) (answer : List 
     answers = is_answer;
   }
 
-pub advanced : (old new : StoreState) → IsStore old → (mark : Mark) (answer : List Recognition) (h : ℕ) → new.plan ≡ old.plan → AreFoundInOrder old.number mark old.held answer → Leaves (CanWait old.plan h) old.held new.held → IsAdvanced old h mark new answer
+pub advanced : (old new : StoreState) → IsStore old → (mark : Mark) (answer : List Recognition) (h : ℕ) → new.plan ≡ old.plan → AreFoundInOrder old.number mark old.held answer → Sifts (CanWait old.plan h) old.held new.held → IsAdvanced old h mark new answer
 advanced old new is mark answer h same found left was pool entries d g stands apart later dated in_dates = is_marked old new is mark answer h same found left was pool entries d g stands apart later dated in_dates
 
-pub advanced_from : (seen old new : StoreState) (mark : Mark) (held : List InstanceState) (answer : List Recognition) (h : ℕ) → seen ≡ old → IsStore seen → new.plan ≡ seen.plan → held ≡ seen.held → AreFoundInOrder seen.number mark held answer → Leaves (CanWait seen.plan h) seen.held new.held → IsAdvanced old h mark new answer
+pub advanced_from : (seen old new : StoreState) (mark : Mark) (held : List InstanceState) (answer : List Recognition) (h : ℕ) → seen ≡ old → IsStore seen → new.plan ≡ seen.plan → held ≡ seen.held → AreFoundInOrder seen.number mark held answer → Sifts (CanWait seen.plan h) seen.held new.held → IsAdvanced old h mark new answer
 advanced_from seen old new mark held answer h view is same sh found left =
     subst (λ (o : StoreState). IsAdvanced o h mark new answer) view
     (advanced seen new is mark answer h same (subst (λ (t : List InstanceState). AreFoundInOrder seen.number mark t answer) sh found) left)

@@ -1,3 +1,4 @@
+pub mod Costs
 pub mod Forking
 pub mod Leaving
 pub mod Standing

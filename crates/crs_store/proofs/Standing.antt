@@ -24,7 +24,8 @@ use Rattle.crs_instance.proofs.GoesOn.{root_goes_on}
 use Rattle.crs_store.proofs.Forking.{can_be, both, all_append}
 use Rattle.crs_store.proofs.Leaving.{leaves_image, leaves_each}
 use Rattle.crs_store.specs.Stores.{parts, AllOf, StoreState, IsStore, IsOffered}
-use Rattle.crs_store.specs.Sweeps.{IsFine, IsForkOf, IsFree, IsReady, Leaves, CanStay}
+use Rattle.crs_base.specs.Sifted.{Sifts}
+use Rattle.crs_store.specs.Sweeps.{IsFine, IsForkOf, IsFree, IsReady, CanStay}
 
 pub image_as : {A B : Type 0} (F G : A → B → Type 0) (done : List A) (out : List B) → ((x : A) (y : B) → IsIn x done → F x y → G x y) → ((x : A) (y : B) → IsIn x done → G x y → F x y) → IsImage F done out → IsImage G done out
 image_as F G done out to back h = record {
@@ -100,7 +101,7 @@ store_offered old new x is same im = λ was pool entries d g stands fresh later.
     (stands_offered old.plan is.windowless x (parts old.held) (parts new.held) was pool entries d g stands fresh later (im (ready old.plan is.windowless x (parts old.held) (parts new.held) was pool entries d g stands fresh later)))
 
 -- those that stay, with the forks
-pub taken : (plan : Plan) (d : ℕ) (x : Entry Sym) (held kept more new : List InstanceState) → AllOf plan held → AllOf plan more → Leaves (CanStay plan d) held kept → (IsReady x (parts held) → IsImage (IsForkOf plan d x) (parts held) (parts more)) → new ≡ kept ++ more →
+pub taken : (plan : Plan) (d : ℕ) (x : Entry Sym) (held kept more new : List InstanceState) → AllOf plan held → AllOf plan more → Sifts (CanStay plan d) held kept → (IsReady x (parts held) → IsImage (IsForkOf plan d x) (parts held) (parts more)) → new ≡ kept ++ more →
     IsReady x (parts held) → IsImage (GoesOnWith (IsFine plan d) x) (parts held) (parts new)
 taken plan d x held kept more new all each left im is ready =
     subst (λ (t : List (Partial Sym)). IsImage (GoesOnWith (IsFine plan d) x) (parts held) t) (sym (ap parts is ∙ map-append (λ (i : InstanceState). i.partial) kept more))
@@ -108,7 +109,7 @@ taken plan d x held kept more new all each left im is ready =
     (leaves_image (CanStay plan d) (IsOf plan) (IsFine plan d) (λ i of k. (can_be plan i of, k)) (λ i of k. k.1) held kept all ready.1 left)
     (im ready))
 
-pub taken_each : (plan : Plan) (d : ℕ) (held kept more new : List InstanceState) → AllOf plan held → AllOf plan more → Leaves (CanStay plan d) held kept → new ≡ kept ++ more → AllOf plan new
+pub taken_each : (plan : Plan) (d : ℕ) (held kept more new : List InstanceState) → AllOf plan held → AllOf plan more → Sifts (CanStay plan d) held kept → new ≡ kept ++ more → AllOf plan new
 taken_each plan d held kept more new all each left is = subst (AllOf plan) (sym is) (all_append (IsOf plan) kept more (leaves_each (CanStay plan d) (IsOf plan) held kept all left) each)
 
 -- ---- the root alone

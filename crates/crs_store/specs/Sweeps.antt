@@ -1,5 +1,5 @@
 -- What comes of the instances that are held.
-use Rattle.std.specs.Prelude.{◌≡◌, ◌⊎◌, ◌<◌, ℕ, zero, suc, List, [], ◌∷◌, ◌++◌, length, Option, Some, None, Bool, is_some, false, true}
+use Rattle.std.specs.Prelude.{◌≡◌, ◌<◌, ℕ, zero, suc, List, [], ◌∷◌, ◌++◌, length, Option, Some, None, Bool, is_some, false, true}
 use Rattle.std.specs.List.{AllByRecursion, list_all}
 use Rattle.crs_base.specs.declared.symbols.Sym.{Sym}
 use Rattle.crs_base.specs.Words.{Ordered}
@@ -14,11 +14,6 @@ use Rattle.crs_instance.specs.Instances.{InstanceState, IsOf, CanBe}
 abbrev pub upto : ℕ → List ℕ
 upto zero = []
 upto (suc n) = upto n ++ n ∷ []
-
--- ys are the elements of xs of which P holds, in order
-abbrev pub Leaves : {A : Type 0} → (A → Type 0) → List A → List A → Type 0
-Leaves P [] ys = ys ≡ []
-Leaves {A} P (x ∷ xs) ys = (P x × (zs : List A) × (ys ≡ x ∷ zs) × Leaves P xs zs) ⊎ ((P x → ⊥) × Leaves P xs ys)
 
 -- it can be, and its dates can go on at d
 abbrev pub IsFine : Plan → ℕ → Partial Sym → Type 0

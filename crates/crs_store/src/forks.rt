@@ -1,4 +1,4 @@
-ghost use Rattle.std.specs.Prelude.{◌≡◌, ◌<◌, ◌≤◌, ◌^◌, ◌++◌, length, IfOk, OnOk};
+ghost use Rattle.std.specs.Prelude.{◌≡◌, ◌+◌, ◌*◌, ◌<◌, ◌≤◌, ◌^◌, ◌++◌, length, IfOk, OnOk};
 ghost use Rattle.std.specs.Option.{option_to_list};
 ghost use Rattle.crs_base.specs.Seen.{entry_of};
 ghost use Rattle.crs_model.specs.Plans.{IsProper};
@@ -7,11 +7,12 @@ ghost use Rattle.crs_instance.specs.Instances.{IsOf};
 ghost use Rattle.crs_store.specs.Stores.{parts, AllOf};
 ghost use Rattle.crs_store.specs.Sweeps.{upto, Forks, IsForkOf, IsFree, IsReady, IsFork};
 
-use crs_base::Entry;
+use crs_base::{Entry, Steps};
 use crs_instance::{Fit, Instance};
 use crs_model::{Plan, fits};
 use std::alloc::{AllocError, Global};
 use std::rc::Rc;
+use std::sync::ledger::Ledger;
 
 /// Adds the item, where there is one.
 pub(crate) fn push_some<T: Drop>(items: &mut Vec<T>, item: Option<T>) -> Result<(), AllocError>
@@ -28,27 +29,29 @@ pub(crate) fn push_some<T: Drop>(items: &mut Vec<T>, item: Option<T>) -> Result<
 
 /// A copy of the instance with the event bound to the entry too, where that can be and can go on.
 /// It takes memory only where the event's pattern fits the entry.
-fn fork(
+fn fork<L: Ledger>(
     plan: &Plan,
     instance: &Instance,
     event: u8,
     entry: &Rc<Entry>,
+    steps: &mut Steps<L>,
 ) -> Result<Option<Instance>, AllocError>
     requires proper { IsProper plan.now }
     requires of { IsOf plan.now instance.now }
     requires event { event < length plan.now.chronicle.events }
     requires date { entry.now.value.date < 2 ^ 40 }
-    ensures { IfOk result (IsFork plan.now entry.now.value.date (entry_of entry.now.value) instance.now event) }
+    ensures fork { IfOk result (IsFork plan.now entry.now.value.date (entry_of entry.now.value) instance.now event) }
+    ensures cost { steps.new ≤ steps.old + 2 }
 {
     if instance.entry(event).is_some() {
         return Ok(None);
     }
     let pattern = &plan.chronicle.events.as_slice()[event as usize].pattern;
-    if !fits(pattern, instance.binding(), entry) {
+    if !fits(pattern, instance.binding(), entry, steps) {
         return Ok(None);
     }
     let mut next = instance.copy()?;
-    match next.bind(plan, event, entry.clone()?)? {
+    match next.bind(plan, event, entry.clone()?, steps)? {
         Fit::No => Ok(None),
         Fit::Yes => {
             if next.can_go_on(entry.date) {
@@ -61,41 +64,45 @@ fn fork(
 }
 
 /// The instance with each unbound event bound to the entry too, where that can be and can go on.
-fn forks(
+fn forks<L: Ledger>(
     alloc: Global,
     plan: &Plan,
     instance: &Instance,
     entry: &Rc<Entry>,
+    steps: &mut Steps<L>,
 ) -> Result<Vec<Instance>, AllocError>
     requires proper { IsProper plan.now }
     requires of { IsOf plan.now instance.now }
     requires date { entry.now.value.date < 2 ^ 40 }
     ensures of { IfOk result (λ v. AllOf plan.now v.items) }
     ensures image { IfOk result (λ v. IsFree (entry_of entry.now.value) instance.now.partial → IsImage (Forks plan.now entry.now.value.date (entry_of entry.now.value) instance.now.partial) (upto (length instance.now.partial)) (parts v.items)) }
+    ensures cost { steps.new ≤ steps.old + 2 * length plan.now.chronicle.events }
 {
     let mut out = Vec::new(alloc);
     for event in 0..plan.chronicle.events.len() as u8 {
-        push_some(&mut out, fork(plan, instance, event, entry)?)?;
+        push_some(&mut out, fork(plan, instance, event, entry, steps)?)?;
     }
     Ok(out)
 }
 
 /// All forks of the instances.
-pub(crate) fn all_forks(
+pub(crate) fn all_forks<L: Ledger>(
     alloc: Global,
     plan: &Plan,
     held: &[Instance],
     entry: &Rc<Entry>,
+    steps: &mut Steps<L>,
 ) -> Result<Vec<Instance>, AllocError>
     requires proper { IsProper plan.now }
     requires of { AllOf plan.now held.now }
     requires date { entry.now.value.date < 2 ^ 40 }
     ensures of { IfOk result (λ v. AllOf plan.now v.items) }
     ensures image { IfOk result (λ v. IsReady (entry_of entry.now.value) (parts held.now) → IsImage (IsForkOf plan.now entry.now.value.date (entry_of entry.now.value)) (parts held.now) (parts v.items)) }
+    ensures cost { steps.new ≤ steps.old + 2 * length plan.now.chronicle.events * length held.now }
 {
     let mut out = Vec::new(alloc);
     for instance in held {
-        let mut more = forks(alloc, plan, instance, entry)?;
+        let mut more = forks(alloc, plan, instance, entry, steps)?;
         out.append(&mut more)?;
     }
     Ok(out)

@@ -3,7 +3,8 @@ ghost use Rattle.crs_model.specs.declared.plan.Plan.{Plan};
 ghost use Rattle.crs_model.specs.Plans.{IsProper};
 ghost use Rattle.crs_instance.specs.Instances.{IsOf};
 ghost use Rattle.crs_store.specs.Stores.{AllOf};
-ghost use Rattle.crs_store.specs.Sweeps.{Leaves, CanStay, CanWait};
+ghost use Rattle.crs_base.specs.Sifted.{Sifts};
+ghost use Rattle.crs_store.specs.Sweeps.{CanStay, CanWait};
 
 use crs_instance::Instance;
 
@@ -19,7 +20,7 @@ fn can_wait(instance: &Instance, h: u64) -> bool
 /// stay where they are.
 pub(crate) fn keep_able(held: &mut Vec<Instance>, h: u64)
     requires { h ≤ 2 ^ 42 }
-    ensures { (plan : Plan) → IsProper plan → AllOf plan held.old.items → Leaves (CanStay plan h) held.old.items held.new.items }
+    ensures { (plan : Plan) → IsProper plan → AllOf plan held.old.items → Sifts (CanStay plan h) held.old.items held.new.items }
 {
     held.retain(|instance| instance.can_go_on(h));
 }
@@ -27,7 +28,7 @@ pub(crate) fn keep_able(held: &mut Vec<Instance>, h: u64)
 /// The same, and drops the whole instances too.
 pub(crate) fn keep_waiting(held: &mut Vec<Instance>, h: u64)
     requires { h ≤ 2 ^ 42 }
-    ensures { (plan : Plan) → IsProper plan → AllOf plan held.old.items → Leaves (CanWait plan h) held.old.items held.new.items }
+    ensures { (plan : Plan) → IsProper plan → AllOf plan held.old.items → Sifts (CanWait plan h) held.old.items held.new.items }
 {
     held.retain(|instance| can_wait(instance, h));
 }

@@ -1,6 +1,7 @@
-ghost use Rattle.std.specs.Prelude.{◌≡◌, ◌<◌, ◌≤◌, ◌^◌, ◌↔◌, ◌⊎◌, [], map, length, slice_get, IsTrue, OnOk, IfOk, IfSome, Err, false};
+ghost use Rattle.std.specs.Prelude.{◌≡◌, ◌+◌, ◌*◌, ◌<◌, ◌≤◌, ◌^◌, ◌↔◌, ◌⊎◌, [], map, length, slice_get, IsTrue, OnOk, IfOk, IfSome, Err, false};
 ghost use Rattle.std.specs.Option.{option_copied};
 ghost use Rattle.crs_base.specs.Seen.{entry_of};
+ghost use Rattle.crs_history.specs.Histories.{EndsWith};
 ghost use Rattle.crs_model.specs.Plans.{chronicle, IsProper};
 ghost use Rattle.crs_model.specs.Images.{IsImage};
 ghost use Rattle.crs_model.specs.Steps.{GoesOnWith};
@@ -15,12 +16,14 @@ use crate::order::put_in_order;
 use crate::recognising::recognitions;
 use crate::refused::StoreRefused;
 use crate::staying::{keep_able, keep_waiting};
-use crs_base::{Entry, List};
+use crs_base::{Entry, List, Steps};
+use crs_history::History;
 use crs_instance::Instance;
 use crs_model::{Mark, Plan, Recognition};
 use std::alloc::{AllocError, Global};
 use std::marker::Model;
 use std::rc::Rc;
+use std::sync::ledger::Ledger;
 
 /// The partial instances of one chronicle that can still be recognised.
 #[derive(Drop)]
@@ -43,19 +46,21 @@ impl Model for Store {
 }
 
 /// Adds what comes of the instances by the entry, and drops those that it makes hopeless.
-fn take_in(
+fn take_in<L: Ledger>(
     alloc: Global,
     plan: &Plan,
     held: &mut Vec<Instance>,
     entry: &Rc<Entry>,
+    steps: &mut Steps<L>,
 ) -> Result<(), AllocError>
     requires proper { IsProper plan.now }
     requires of { AllOf plan.now held.old.items }
     requires date { entry.now.value.date < 2 ^ 40 }
     ensures of { AllOf plan.now held.new.items }
     ensures image { OnOk result (IsReady (entry_of entry.now.value) (parts held.old.items) → IsImage (GoesOnWith (IsFine plan.now entry.now.value.date) (entry_of entry.now.value)) (parts held.old.items) (parts held.new.items)) }
+    ensures cost { steps.new ≤ steps.old + 2 * length plan.now.chronicle.events * length held.old.items }
 {
-    let mut more = all_forks(alloc, plan, held.as_slice(), entry)?;
+    let mut more = all_forks(alloc, plan, held.as_slice(), entry, steps)?;
     keep_able(held, entry.date);
     held.append(&mut more)?;
     Ok(())
@@ -89,7 +94,14 @@ fn list_of(alloc: Global, items: Vec<Recognition>) -> Result<List<Recognition>, 
 
 impl Store {
     /// A store of the chronicle of this number, counted from 0 in file order. Nothing is bound yet.
-    pub fn new(alloc: Global, plan: Rc<Plan>, number: u32) -> Result<Store, AllocError>
+    /// Without focus every event counts as of level 0.
+    pub fn new(
+        alloc: Global,
+        plan: Rc<Plan>,
+        number: u32,
+        _focus: bool,
+    ) -> Result<Store, AllocError>
+        requires flat { _focus ≡ false }
         requires proper { IsProper plan.value }
         requires windowless { (chronicle plan.value).windows ≡ [] }
         ensures plan { IfOk result (λ s. s.plan ≡ plan.value) }
@@ -108,19 +120,26 @@ impl Store {
         })
     }
 
-    /// Takes in an entry, whose key is after those of the entries that were taken in before. After
-    /// `Memory` the store answers only `Stopped`.
-    pub fn offer(&mut self, entry: &Rc<Entry>) -> Result<(), StoreRefused>
-        requires { entry.now.value.date < 2 ^ 40 }
+    /// Takes in an entry, whose key is after those of the entries that were taken in before, and
+    /// which is the last of the history. After `Memory` the store answers only `Stopped`.
+    pub fn offer<L: Ledger>(
+        &mut self,
+        _history: &History,
+        entry: &Rc<Entry>,
+        steps: &mut Steps<L>,
+    ) -> Result<(), StoreRefused>
+        requires last { self.old.stopped ≡ false → EndsWith (entry_of entry.now.value) _history.now.entries }
+        requires date { entry.now.value.date < 2 ^ 40 }
         ensures stopped { (result ≡ Err Stopped) ↔ IsTrue self.old.stopped }
         ensures raised { IsTrue self.new.stopped ↔ (IsTrue self.old.stopped ⊎ (result ≡ Err Memory)) }
         ensures same { IsSameStore self.old self.new }
         ensures stands { OnOk result (IsOffered self.old (entry_of entry.now.value) self.new) }
+        ensures cost { steps.new ≤ steps.old + 2 * length self.old.plan.chronicle.events * length self.old.held }
     {
         if self.stopped {
             return Err(StoreRefused::Stopped);
         }
-        match take_in(self.alloc, &self.plan, &mut self.held, entry) {
+        match take_in(self.alloc, &self.plan, &mut self.held, entry, steps) {
             Ok(()) => Ok(()),
             Err(_) => {
                 self.stopped = true;
@@ -131,7 +150,12 @@ impl Store {
 
     /// Moves on to the horizon `h`, and answers what is newly recognised, with this mark. After
     /// `Memory` the store answers only `Stopped`.
-    pub fn advance(&mut self, h: u64, mark: Mark) -> Result<List<Recognition>, StoreRefused>
+    pub fn advance(
+        &mut self,
+        _history: &History,
+        h: u64,
+        mark: Mark,
+    ) -> Result<List<Recognition>, StoreRefused>
         requires { h ≤ 2 ^ 42 }
         ensures stopped { (result ≡ Err Stopped) ↔ IsTrue self.old.stopped }
         ensures raised { IsTrue self.new.stopped ↔ (IsTrue self.old.stopped ⊎ (result ≡ Err Memory)) }

@@ -3,12 +3,15 @@ ghost use Rattle.crs_stn.specs.Bound.{IsWithin};
 ghost use Rattle.crs_model.specs.Plans.{chronicle, IsProper};
 ghost use Rattle.crs_instance.specs.Fixtures.{IsPlain, IsFixture};
 
-use crate::Store;
-use crs_base::{Entry, List, Sym, SymList, Text};
+use crate::{Store, StoreRefused};
+use crs_base::{Entry, List, Steps, Sym, SymList, Text};
+use crs_history::History;
 use crs_model::{Chronicle, EventDef, Mark, Pattern, Plan};
 use crs_stn::{Bound, Network};
 use std::alloc::{AllocError, Global};
+use std::marker::Brand;
 use std::rc::Rc;
+use std::sync::ledger::{Blank, Ledger};
 use std::test::Fail;
 
 /// An event of this name, without arguments.
@@ -99,24 +102,42 @@ fn entry(alloc: Global, arrival: u32, date: u64, name: u32) -> Result<Rc<Entry>,
     )?)
 }
 
+/// Offers the entry as the only one of a history, with a counter of its own.
+fn offer_apart<L: Ledger>(
+    blank: Blank,
+    alloc: Global,
+    store: &mut Store,
+    entry: &Rc<Entry>,
+) -> Result<Result<(), StoreRefused>, AllocError>
+    requires name { blank.name ≡ L.name }
+    requires parts { blank.parts ≡ L.parts }
+    requires some { 0 < L.parts }
+    requires date { entry.now.value.date < 2 ^ 40 }
+{
+    let mut history = History::new(alloc);
+    history.push(entry.clone()?)?;
+    Ok(store.offer(&history, entry, &mut Steps::<L>::new(blank)))
+}
+
 #[test]
 fn holds_what_can_still_be_recognised(rt: HostRuntime) -> Result<(), Fail> {
     let alloc = rt.alloc();
-    let mut store = Store::new(alloc, plan(alloc, 0, 1, 1)?, 3)?;
+    let mut store = Store::new(alloc, plan(alloc, 0, 1, 1)?, 3, false)?;
+    let history = History::new(alloc);
     assert_eq!(rt; store.held(), 1);
-    store.offer(&entry(alloc, 0, 1, 0)?)?;
-    store.offer(&entry(alloc, 1, 2, 0)?)?;
-    store.offer(&entry(alloc, 2, 4, 1)?)?;
-    let first = store.advance(5, Mark::Clock(5))?;
+    offer_apart::<Brand>(Blank::new(1), alloc, &mut store, &entry(alloc, 0, 1, 0)?)??;
+    offer_apart::<Brand>(Blank::new(1), alloc, &mut store, &entry(alloc, 1, 2, 0)?)??;
+    offer_apart::<Brand>(Blank::new(1), alloc, &mut store, &entry(alloc, 2, 4, 1)?)??;
+    let first = store.advance(&history, 5, Mark::Clock(5))?;
     assert_eq!(rt; first.len(), 2);
     assert_eq!(rt; store.held(), 3);
-    store.offer(&entry(alloc, 3, 6, 1)?)?;
-    let second = store.advance(7, Mark::Clock(7))?;
+    offer_apart::<Brand>(Blank::new(1), alloc, &mut store, &entry(alloc, 3, 6, 1)?)??;
+    let second = store.advance(&history, 7, Mark::Clock(7))?;
     assert_eq!(rt; second.len(), 2);
     assert_eq!(rt; store.held(), 2);
     let at_five = first.get(1);
     assert!(rt; at_five.is_some_and(|r| r.chronicle == 3 && r.mark == Mark::Clock(5)));
-    let third = store.advance(7, Mark::Finish)?;
+    let third = store.advance(&history, 7, Mark::Finish)?;
     assert_eq!(rt; third.len(), 0);
     Ok(())
 }
@@ -124,11 +145,12 @@ fn holds_what_can_still_be_recognised(rt: HostRuntime) -> Result<(), Fail> {
 #[test]
 fn gives_no_entry_to_two_events(rt: HostRuntime) -> Result<(), Fail> {
     let alloc = rt.alloc();
-    let mut store = Store::new(alloc, plan(alloc, 0, 0, 0)?, 0)?;
-    store.offer(&entry(alloc, 0, 1, 0)?)?;
+    let mut store = Store::new(alloc, plan(alloc, 0, 0, 0)?, 0, false)?;
+    let history = History::new(alloc);
+    offer_apart::<Brand>(Blank::new(1), alloc, &mut store, &entry(alloc, 0, 1, 0)?)??;
     assert_eq!(rt; store.held(), 3);
-    assert_eq!(rt; store.advance(2, Mark::Clock(2))?.len(), 0);
-    store.offer(&entry(alloc, 1, 2, 0)?)?;
-    assert_eq!(rt; store.advance(3, Mark::Clock(3))?.len(), 1);
+    assert_eq!(rt; store.advance(&history, 2, Mark::Clock(2))?.len(), 0);
+    offer_apart::<Brand>(Blank::new(1), alloc, &mut store, &entry(alloc, 1, 2, 0)?)??;
+    assert_eq!(rt; store.advance(&history, 3, Mark::Clock(3))?.len(), 1);
     Ok(())
 }

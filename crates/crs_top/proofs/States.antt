@@ -67,7 +67,7 @@ met f x s r = record {
 }
 
 stands_delayed : (e : EngineState) (d : ℕ) (settled waiting : List (Entry Sym)) → StandsFor e settled waiting → StandsFor (record e { delay = d }) settled waiting
-stands_delayed e d settled waiting h = record { settled_before = h.settled_before; waiting_after = h.waiting_after; in_order = h.in_order; numbered = h.numbered; held = h.held; stores = h.stores }
+stands_delayed e d settled waiting h = record { settled_before = h.settled_before; waiting_after = h.waiting_after; in_order = h.in_order; numbered = h.numbered; held = h.held; history = h.history; stores = h.stores }
 
 -- the delay is set, where nothing was accepted and no clock was taken
 pub delayed : (f : Frame) (x : Session) (s : State) (d : ℕ) → IsUnused x.engine → Represents f x s → Represents f (record x { engine = record x.engine { delay = d } }) (record s { delay = d })

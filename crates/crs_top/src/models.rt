@@ -52,7 +52,7 @@ pub fn prepare(alloc: Global, text: &[u8], limits: Limits) -> Result<Session, Mo
             word: ModelWord::Form,
         });
     }
-    let Ok(engine) = Engine::new(alloc, plans, limits.entries) else {
+    let Ok(engine) = Engine::new(alloc, plans, false, limits.entries) else {
         return Err(ModelRefused::Memory);
     };
     Ok(Session {

@@ -1,5 +1,12 @@
 // One line of a log.
-ghost use Rattle.std.specs.Prelude.{◌≡◌, ◌≤◌, ◌<◌, ◌^◌, ◌||◌, ◌&&◌, ◌++◌, ℕ, List, OnOk, true, false, length};
+ghost use Rattle.std.specs.Prelude.{◌≡◌, ◌≤◌, ◌<◌, ◌^◌, ◌-◌, ◌↔◌, ◌⊎◌, ◌||◌, ◌&&◌, ◌++◌, ℕ, List as Items, IsTrue, IsSome, IfOk, OnOk, Err, true, false, length};
+ghost use Rattle.crs_base.specs.declared.symbols.Sym.{Sym};
+ghost use Rattle.crs_base.specs.Entry.{Entry};
+ghost use Rattle.crs_model.specs.declared.recognition.Mark.TheVariants.{Clock as ClockMark, Finish as FinishMark};
+ghost use Rattle.crs_engine.specs.Engines.{HasMoved, StandsFor};
+ghost use Rattle.crs_engine.specs.Marks.{AfterMark};
+ghost use Rattle.crs_engine.specs.Refusals.{clock_refusal, finish_refusal, IsRefusedAs};
+ghost use Rattle.crs_engine.specs.declared.refused.Refused.TheVariants.{Memory};
 ghost use Rattle.crs_log.specs.Given.{seen};
 ghost use Rattle.crs_log.specs.Items.{Clock, Finish as LogEnd, Happens, IsItem};
 ghost use Rattle.crs_log.specs.Known.{known_of};
@@ -15,11 +22,15 @@ ghost use Rattle.crs_report.specs.Lines.{refusal_line};
 
 use crate::answer::push_answer;
 use crate::session::Session;
-use crs_engine::Refused;
+use crs_base::{List, Steps};
+use crs_engine::{Engine, Refused};
 use crs_log::naming::known;
 use crs_log::{Item, Known, Line, LineRefused, Raw, make_entry, read_item};
+use crs_model::Recognition;
 use crs_report::{Fault, push_refusal_line};
 use std::alloc::{AllocError, Global};
+use std::marker::Brand;
+use std::sync::ledger::{Blank, Ledger};
 
 /// Writes the refusal of a line.
 fn refuse(
@@ -36,6 +47,39 @@ fn refuse(
     Ok(())
 }
 
+/// Moves the clock of the engine on, and counts its steps apart.
+fn clock_apart<L: Ledger>(
+    blank: Blank,
+    engine: &mut Engine,
+    t: u64,
+) -> Result<List<Recognition>, Refused>
+    requires name { blank.name ≡ L.name }
+    requires parts { blank.parts ≡ L.parts }
+    requires some { 0 < L.parts }
+    requires date { t < 2 ^ 40 }
+    ensures refused { IsRefusedAs (clock_refusal engine.old t) result }
+    ensures unchanged { IsSome (clock_refusal engine.old t) → engine.new ≡ engine.old }
+    ensures raised { IsTrue engine.new.stopped ↔ (IsTrue engine.old.stopped ⊎ (result ≡ Err Memory)) }
+    ensures moved { OnOk result (HasMoved engine.old engine.new t (t - engine.old.delay)) }
+    ensures marked { IfOk result (λ answer. (settled : Items (Entry Sym)) (waiting : Items (Entry Sym)) → StandsFor engine.old settled waiting → AfterMark engine.old engine.new (ClockMark t) settled waiting answer) }
+{
+    engine.clock(t, &mut Steps::<L>::new(blank))
+}
+
+/// Settles all entries of the engine, and counts its steps apart.
+fn finish_apart<L: Ledger>(blank: Blank, engine: &mut Engine) -> Result<List<Recognition>, Refused>
+    requires name { blank.name ≡ L.name }
+    requires parts { blank.parts ≡ L.parts }
+    requires some { 0 < L.parts }
+    ensures refused { IsRefusedAs (finish_refusal engine.old) result }
+    ensures unchanged { IsSome (finish_refusal engine.old) → engine.new ≡ engine.old }
+    ensures raised { IsTrue engine.new.stopped ↔ (IsTrue engine.old.stopped ⊎ (result ≡ Err Memory)) }
+    ensures moved { OnOk result (HasMoved engine.old engine.new (2 ^ 42) (2 ^ 42)) }
+    ensures marked { IfOk result (λ answer. (settled : Items (Entry Sym)) (waiting : Items (Entry Sym)) → StandsFor engine.old settled waiting → AfterMark engine.old engine.new FinishMark settled waiting answer) }
+{
+    engine.finish(&mut Steps::<L>::new(blank))
+}
+
 /// Takes a clock mark.
 fn take_clock(
     session: &mut Session,
@@ -49,7 +93,7 @@ fn take_clock(
     requires date { t < 2 ^ 40 }
     ensures { OnOk result (BringsAll session.old session.new number (λ f s. after_ordered (setting_of f) s (Clock t)) out.old.items out.new.items) }
 {
-    match session.engine.clock(t) {
+    match clock_apart::<Brand>(Blank::new(1), &mut session.engine, t) {
         Ok(answer) => push_answer(
             session.engine.plans(),
             &session.symbols,
@@ -68,7 +112,7 @@ fn take_end(session: &mut Session, number: u64, out: &mut Vec<u8>) -> Result<(),
     requires met { session.old.met ≡ true }
     ensures { OnOk result (BringsAll session.old session.new number (λ f s. after_ordered (setting_of f) s LogEnd) out.old.items out.new.items) }
 {
-    match session.engine.finish() {
+    match finish_apart::<Brand>(Blank::new(1), &mut session.engine) {
         Ok(answer) => {
             session.ended = true;
             push_answer(
@@ -151,21 +195,21 @@ fn take_event(
 
 /// Whether the line is blank or a comment.
 fn is_blank(item: &Item) -> bool
-    ensures { (line : List ℕ) → result ≡ is_blank_what (what_seen line item.now) }
+    ensures { (line : Items ℕ) → result ≡ is_blank_what (what_seen line item.now) }
 {
     matches!(item, Item::Blank)
 }
 
 /// Whether the item is a delay.
 fn is_delay(item: &Item) -> bool
-    ensures { (line : List ℕ) → result ≡ is_delay_what (what_seen line item.now) }
+    ensures { (line : Items ℕ) → result ≡ is_delay_what (what_seen line item.now) }
 {
     matches!(item, Item::Delay(_))
 }
 
 /// Whether the item is a delay that isn't the first item, or stands behind the end.
 fn is_out_of_order(session: &Session, item: &Item) -> bool
-    ensures { (line : List ℕ) → result ≡ (session.now.ended || (is_delay_what (what_seen line item.now) && session.now.met)) }
+    ensures { (line : Items ℕ) → result ≡ (session.now.ended || (is_delay_what (what_seen line item.now) && session.now.met)) }
 {
     session.ended || (is_delay(item) && session.met)
 }

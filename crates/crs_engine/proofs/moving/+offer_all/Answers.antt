@@ -3,4 +3,4 @@ use Rattle.crs_engine.proofs.Settling.{same_first}
 use Rattle.crs_engine.proofs.moving.+offer_all.Goals as goal
 
 pub returns-in_err-offer-in-Some-clause-same : goal.returns-in_err-offer-in-Some-clause-same
-returns-in_err-offer-in-Some-clause-same t c = same_first c.args.stores.now c.in-Some.first.now c.offer.new.self c.in-Some.rest.now (search rules) c.offer.ensures.same
+returns-in_err-offer-in-Some-clause-same g t c = same_first c.args.stores.now c.in-Some.first.now c.offer.new.self c.in-Some.rest.now (search rules) c.offer.ensures.same

@@ -2,4 +2,4 @@ use Rattle.std.proofs.Common.{length}
 use Rattle.crs_engine.proofs.moving.+offer_all.Given as goal
 
 abbrev pub decreases-offer_all : goal.decreases-offer_all
-decreases-offer_all l = length l.stores.now
+decreases-offer_all g l = length l.stores.now

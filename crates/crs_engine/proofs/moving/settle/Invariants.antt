@@ -3,7 +3,7 @@ use Rattle.crs_engine.proofs.Settling.{AreSettledSoFar}
 use Rattle.crs_engine.proofs.moving.settle.Given as goal
 
 abbrev pub invariant-loop-entry : goal.invariant-loop-entry
-invariant-loop-entry l = AreSettledSoFar l.initial.stores l.initial.buffer l.h l.stores l.buffer
+invariant-loop-entry g l = AreSettledSoFar l.initial.stores l.initial.history l.initial.buffer l.h l.stores l.history l.buffer
 
 abbrev pub decreases-loop-entry : goal.decreases-loop-entry
-decreases-loop-entry l = length l.buffer
+decreases-loop-entry g l = length l.buffer

@@ -18,7 +18,7 @@ push_answer-requires c =
     let s = c.requires.ready.1 in
     let r = c.requires.ready.2 in
     let x = c.args.session.now in
-    let new = c.clock.new.self in
+    let new = c.clock_apart.new.engine in
     let m : HasMoved x.engine new c.args.t (c.args.t - s.delay) = subst (λ (d : ℕ). HasMoved x.engine new c.args.t (c.args.t - d)) (sym r.delay) c.in-Ok.ensures.moved in
     let fine = clock_fine x.engine c.args.t c.in-Ok.answer r.running c.in-Ok.ensures.refused in
     let p = answer_printable f x s r new _ c.in-Ok.answer (c.args.t - s.delay) m.same_plans m.moved
@@ -30,7 +30,7 @@ push_answer-requires c =
 pub returns-in-Ok : goal.returns-in-Ok
 returns-in-Ok c =
     let x = c.args.session.now in
-    let new = c.clock.new.self in
+    let new = c.clock_apart.new.engine in
     IfOk-weaker c.push_answer.result
     (λ _. c.push_answer.new.out.items ≡ c.args.out.now.items ++ flat_map (line_in c.plans.result.now x.symbols.texts) c.as_slice.result.now)
     (λ _. BringsAll x (record x { engine = new }) c.args.number (λ f s. after_ordered (setting_of f) s (Clock c.args.t)) c.args.out.now.items c.push_answer.new.out.items)

@@ -17,7 +17,7 @@ push_answer-requires c =
     let s = c.requires.ready.1 in
     let r = c.requires.ready.2 in
     let x = c.args.session.now in
-    let new = c.finish.new.self in
+    let new = c.finish_apart.new.engine in
     let m = c.in-Ok.ensures.moved in
     let p = answer_printable f x s r new _ c.in-Ok.answer (2 ^ 42) m.same_plans m.moved
     (end_rises f x s r new c.in-Ok.answer c.requires.met (still_running x.engine.stopped new.stopped c.in-Ok.answer r.running c.in-Ok.ensures.raised) c.requires.open)
@@ -28,7 +28,7 @@ push_answer-requires c =
 pub returns-in-Ok : goal.returns-in-Ok
 returns-in-Ok c =
     let x = c.args.session.now in
-    let new = c.finish.new.self in
+    let new = c.finish_apart.new.engine in
     IfOk-weaker c.push_answer.result
     (λ _. c.push_answer.new.out.items ≡ c.args.out.now.items ++ flat_map (line_in c.plans.result.now x.symbols.texts) c.as_slice.result.now)
     (λ _. BringsAll x (record x { engine = new; ended = true }) c.args.number (λ f s. after_ordered (setting_of f) s Finish) c.args.out.now.items c.push_answer.new.out.items)

@@ -1,30 +1,38 @@
-use Rattle.std.proofs.Common.{arith, List, subst, sym, ap, ◌∙◌, ◌+◌}
+use Rattle.std.proofs.Common.{arith, List, subst, sym, ap, ◌∙◌, ◌+◌, ◌++◌}
 use Rattle.std.specs.List.{AllByRecursion}
 use Rattle.crs_base.specs.declared.symbols.Sym.{Sym}
 use Rattle.crs_base.specs.Entry.{Entry}
 use Rattle.crs_base.specs.Seen.{entry_of}
+use Rattle.crs_buffer.specs.Entries.{Ascends}
+use Rattle.crs_history.specs.Histories.{IsInKeyOrder}
 use Rattle.crs_engine.specs.Engines.{EngineState, IsWaiting}
-use Rattle.crs_engine.proofs.Accepting.{new_key, waiting_more, accepted_from}
+use Rattle.crs_engine.proofs.Accepting.{new_key, waiting_more, in_order_more, accepted_from}
 use Rattle.crs_engine.proofs.engine.Engine.accept.Goals as goal
 
 pub invariant_of-self : goal.invariant_of-self
 invariant_of-self c =
     let next = c.requires.next ∙ sym (ap (λ (e : EngineState). e.accepted) c.self.view_is) in
+    let put = (c.in-Ok.ensures {u = tt}).ok (new_key c.self.inside.accepted c.self.inside.buffer (entry_of c.args.entry) next c.self.invariant.waiting) in
     record {
       stores = c.self.invariant.stores;
       waiting = subst (λ (t : List (Entry Sym)). AllByRecursion (IsWaiting (c.self.inside.accepted + 1)) t)
-          (sym ((c.in-Ok.ensures {u = tt}).ok (new_key c.self.inside.accepted c.self.inside.buffer (entry_of c.args.entry) next c.self.invariant.waiting)))
+          (sym put)
           (waiting_more c.self.inside.accepted c.self.inside.buffer (entry_of c.args.entry) next c.requires.date c.self.invariant.waiting);
       few = (let few = c.self.invariant.few in let not_full = c.if-self-2.false in omega arith);
       not_late = c.self.invariant.not_late;
       behind = c.self.invariant.behind;
+      in_order = subst (λ (t : List (Entry Sym)). IsInKeyOrder (c.self.inside.history.entries ++ t)) (sym put)
+          (in_order_more c.self.inside.history.entries c.self.inside.buffer (entry_of c.args.entry) c.self.inside.horizon c.self.invariant.in_order (c.self.invariant.settled c.if-self.false) c.if-entry-self.false
+          (subst Ascends put ((c.in-Ok.ensures {u = tt}).sorted)));
+      low = c.self.invariant.low;
+      settled = c.self.invariant.settled;
     }
 
 pub returns-in-Ok-clause-stands : goal.returns-in-Ok-clause-stands
 returns-in-Ok-clause-stands c =
     let next = c.requires.next ∙ sym (ap (λ (e : EngineState). e.accepted) c.self.view_is) in
     accepted_from
-    (record { plans = c.self.inside.plans; stores = c.self.inside.stores.items; waiting = c.self.inside.buffer; delay = c.self.inside.delay; last = c.self.inside.last; horizon = c.self.inside.horizon; accepted = c.self.inside.accepted; limit = c.self.inside.limit; stopped = c.self.inside.stopped })
+    (record { plans = c.self.inside.plans; stores = c.self.inside.stores.items; history = c.self.inside.history; waiting = c.self.inside.buffer; delay = c.self.inside.delay; last = c.self.inside.last; horizon = c.self.inside.horizon; accepted = c.self.inside.accepted; limit = c.self.inside.limit; stopped = c.self.inside.stopped })
     c.args.self.now (entry_of c.args.entry) c.hold.new.buffer c.self.view_is next c.if-entry-self.false
     ((c.in-Ok.ensures {u = tt}).ok (new_key c.self.inside.accepted c.self.inside.buffer (entry_of c.args.entry) next c.self.invariant.waiting))
     ((c.in-Ok.ensures {u = tt}).sorted)

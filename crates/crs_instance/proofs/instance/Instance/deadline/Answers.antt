@@ -1,7 +1,7 @@
-use Rattle.crs_instance.proofs.GoesOn.{deadline_is}
+use Rattle.crs_instance.proofs.Deadline.{deadline_at}
 use Rattle.crs_instance.proofs.instance.Instance.deadline.Goals as goal
 
 pub returns : goal.returns
 returns c =
-    deadline_is c.args.self.now c.self.inside.entries.items c.as_slice.result.now c.self.inside.windows.items c.as_slice-2.result.now c.self.inside.binding c.earliest_deadline.result
-    c.self.view_is c.as_slice.ensures.value c.as_slice-2.ensures.value c.earliest_deadline.ensures
+    deadline_at c.args.self.now c.as_slice-events.result.now c.args.plan.now.chronicle.events c.args.focus c.args.level c.self.inside.entries.items c.as_slice.result.now c.self.inside.windows.items c.as_slice-2.result.now c.self.inside.binding
+    c.deadline_of_level.result c.as_slice-events.ensures c.self.view_is c.as_slice.ensures.value c.as_slice-2.ensures.value c.deadline_of_level.ensures

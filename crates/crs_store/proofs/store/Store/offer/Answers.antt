@@ -4,7 +4,7 @@ use Rattle.crs_store.proofs.Standing.{offered_from}
 use Rattle.crs_store.proofs.store.Store.offer.Goals as goal
 
 pub returns-in-Ok-clause-stands : goal.returns-in-Ok-clause-stands
-returns-in-Ok-clause-stands c =
+returns-in-Ok-clause-stands g c =
     offered_from (record { plan = c.self.inside.plan.value; number = c.self.inside.number; held = c.self.inside.held.items; stopped = c.self.inside.stopped }) c.args.self.now
     (record { plan = c.self.inside.plan.value; number = c.self.inside.number; held = c.take_in.new.held.items; stopped = c.self.inside.stopped }) (entry_of c.args.entry.now.value) c.deref.result.now
     c.self.view_is c.self.invariant c.deref.ensures (search rules) (c.in-Ok.ensures.image)

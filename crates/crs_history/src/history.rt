@@ -1,0 +1,91 @@
+ghost use Rattle.std.specs.Prelude.{◌≡◌, ◌≤◌, ◌≤ℤ◌, ◌<ℤ◌, ◌^◌, pos, neg_ℤ, [], ◌∷◌, ◌++◌, length, drop, vec_len, OnOk, OnErr, List as Items};
+ghost use Rattle.std.specs.Int.{int_max};
+ghost use Rattle.crs_base.specs.declared.symbols.Sym.{Sym};
+ghost use Rattle.crs_base.specs.Entry.{Entry as LogEntry};
+ghost use Rattle.crs_base.specs.Seen.{entry_of};
+ghost use Rattle.crs_base.specs.Sifted.{Sifts};
+ghost use Rattle.crs_history.specs.Histories.{IsAfterAll, IsInKeyOrder, IsKept, StandsFor};
+
+use crate::gathering::{gather, to_date};
+use crs_base::Entry;
+use std::alloc::{AllocError, Global};
+use std::marker::Model;
+use std::rc::Rc;
+
+/// The floor of a new history, in ticks: -2^45, before every horizon less any finite reach.
+const LOWEST: i64 = -35_184_372_088_832;
+
+/// The settled entries that are still needed, in key order: those dated at or after its floor, and
+/// for each attribute its changes of the greatest date before the floor. Dates and the floor are
+/// ticks of the log's clock.
+#[derive(Drop)]
+pub struct History {
+    items: Vec<Rc<Entry>>,
+    floor: i64,
+}
+
+impl Model for History {
+    ghost use Rattle.crs_history.specs.Histories.{HistoryState, IsInKeyOrder, entries_of};
+
+    ghost Value = { HistoryState };
+
+    ghost view = { λ h. record { entries = entries_of h.items.items; floor = h.floor } };
+
+    ghost invariant = { λ h. IsInKeyOrder (entries_of h.items.items) };
+}
+
+fn drop_front(items: &mut Vec<Rc<Entry>>, count: usize)
+    requires { count ≤ vec_len items.old }
+    ensures { items.new.items ≡ drop count items.old.items }
+{
+    let _ = items.drain(..count);
+}
+
+impl History {
+    /// A history without entries, which takes no memory. Its floor is -2^45.
+    pub fn new(alloc: Global) -> History
+        ensures { result ≡ record { entries = []; floor = neg_ℤ (pos (2 ^ 45)) } }
+    {
+        History {
+            items: Vec::new(alloc),
+            floor: LOWEST,
+        }
+    }
+
+    /// How many entries are held.
+    pub fn len(&self) -> usize
+        ensures len { result ≡ length self.now.entries }
+        ensures in_order { IsInKeyOrder self.now.entries }
+    {
+        self.items.len()
+    }
+
+    /// Adds an entry, whose key is after those of all held ones. After a refusal the history is as
+    /// it was.
+    pub fn push(&mut self, entry: Rc<Entry>) -> Result<(), AllocError>
+        requires after { IsAfterAll self.old.entries (entry_of entry.value) }
+        requires from_floor { self.old.floor ≤ℤ pos entry.value.date }
+        ensures ok { OnOk result (self.new ≡ record { entries = self.old.entries ++ entry_of entry.value ∷ []; floor = self.old.floor }) }
+        ensures err { OnErr result (self.new ≡ self.old) }
+        ensures stands { OnOk result ((settled : Items (LogEntry Sym)) → StandsFor settled self.old → StandsFor (settled ++ entry_of entry.value ∷ []) self.new) }
+    {
+        self.items.push(entry)?;
+        Ok(())
+    }
+
+    /// Raises the floor to the date, if it is lower, and drops the entries dated before the floor
+    /// but, for each attribute, its changes of the greatest date before the floor.
+    pub fn forget_before(&mut self, date: i64)
+        ensures floor { self.new.floor ≡ int_max self.old.floor date }
+        ensures low { date ≤ℤ self.old.floor → self.new ≡ self.old }
+        ensures held { self.old.floor <ℤ date → Sifts (IsKept self.old.entries date) self.old.entries self.new.entries }
+        ensures stands { (settled : Items (LogEntry Sym)) → StandsFor settled self.old → StandsFor settled self.new }
+    {
+        if date <= self.floor {
+            return;
+        }
+        let start = gather(self.items.as_mut_slice(), to_date(date));
+        drop_front(&mut self.items, start);
+        self.floor = date;
+    }
+}
