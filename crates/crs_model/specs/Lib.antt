@@ -7,6 +7,7 @@ pub mod Open
 pub mod Images
 pub mod Steps
 pub mod Proper
+pub mod ProperModels
 pub mod Seen
 pub mod Bindings
 pub mod Plans
