@@ -6,18 +6,21 @@ use Rattle.crs_model.specs.declared.chronicle.Chronicle.{Chronicle}
 use Rattle.crs_model.specs.declared.plan.Plan.{Plan}
 use Rattle.crs_model.specs.declared.models.ModelRefused.{ModelRefused}
 use Rattle.crs_model.specs.declared.models.ModelRefused.TheVariants.{At, Memory}
+use Rattle.crs_base.specs.declared.symbols.Sym.{Sym}
+use Rattle.crs_model.specs.Models.{Name}
+use Rattle.crs_model.specs.ProperModels.{IsProperChronicle}
 use Rattle.crs_model.specs.Seen.{chronicle_of}
-use Rattle.crs_compile.specs.Proper.{IsProperChronicle}
 use Rattle.crs_compile.specs.Compiled.{IsPlan, IsAdded, ClosesFirst, IsRefusal}
 
 -- the plans are those of the first chronicles, and `rest` are the others
 pub record IsPlanned (all : List Chronicle) (plans : List Plan) (rest : List Chronicle) : Type 0 where
   pub parts : map (λ p. p.chronicle) plans ++ rest ≡ all
   pub plans_are : AllByRecursion IsPlan plans
-  pub proper : AllByRecursion IsProperChronicle (map chronicle_of rest)
+  pub names : List (Name Sym)
+  pub proper : AllByRecursion (IsProperChronicle names) (map chronicle_of rest)
 
-pub planned_none : (all : List Chronicle) → AllByRecursion IsProperChronicle (map chronicle_of all) → IsPlanned all [] all
-planned_none all h = record { parts = refl; plans_are = tt; proper = h }
+pub planned_none : (all : List Chronicle) (names : List (Name Sym)) → AllByRecursion (IsProperChronicle names) (map chronicle_of all) → IsPlanned all [] all
+planned_none all names h = record { parts = refl; plans_are = tt; names = names; proper = h }
 
 all_push : (P : Plan → Type 0) (xs : List Plan) (x : Plan) → AllByRecursion P xs → P x → AllByRecursion P (xs ++ x ∷ [])
 all_push P [] x h p = (p, tt)
@@ -28,6 +31,7 @@ pub planned_more : (all : List Chronicle) (plans : List Plan) (c : Chronicle) (r
 planned_more all plans c rest new a h = record {
   parts = rw (a.last, map-append, a.chronicle, append_assoc) h.parts;
   plans_are = rw a.last (all_push IsPlan plans a.plan h.plans_are a.proper);
+  names = h.names;
   proper = h.proper.1;
 }
 

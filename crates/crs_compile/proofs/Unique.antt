@@ -7,8 +7,8 @@ use Rattle.std.proofs.lemmas.List.{length-map, length-append}
 use Rattle.crs_base.specs.Words.{IsIn}
 use Rattle.crs_stn.specs.declared.bound.Bound.{Bound}
 use Rattle.crs_stn.specs.Network.{IsMost, IsMinimal, IsEarliest, negated}
-use Rattle.crs_model.specs.Models.{Anchor, Window, Chronicle}
-use Rattle.crs_compile.specs.Proper.{IsProperWindow, IsProperChronicle}
+use Rattle.crs_model.specs.Models.{Anchor, Window, Chronicle, Name}
+use Rattle.crs_model.specs.ProperModels.{IsProperWindow, IsProperChronicle}
 use Rattle.crs_compile.specs.Reach.{Bounds, IsLongest, IsZero, IsPairSpan, IsStartSpan, IsReach}
 use Rattle.crs_compile.specs.Minimal.{pair_line, lines_of_point, pair_lines, head_text, earliest_text, points_of, point_count, IsChronicleText, IsMinimalText}
 
@@ -47,10 +47,10 @@ minimal_agree bounds n f g h k p q a b = one_most bounds p q (f p q) (g p q) (h 
 abbrev AreBelow : ℕ → List Anchor → Type 0
 AreBelow n starts = (a : Anchor) → IsIn a starts → a.event < n
 
-starts_below : {S : Type 0} (n m : ℕ) (ws : List (Window S)) → AllByRecursion (IsProperWindow n m) ws → AreBelow n (map (λ w. w.from) ws)
-starts_below n m [] h a i = absurd i
-starts_below n m (w ∷ ws) h a (inl e) = subst (λ b. b.event < n) (sym e) h.0.from.event
-starts_below n m (w ∷ ws) h a (inr i) = starts_below n m ws h.1 a i
+starts_below : {S : Type 0} (names : List (Name S)) (c : Chronicle S) (ws : List (Window S)) → AllByRecursion (IsProperWindow names c) ws → AreBelow (length c.events) (map (λ w. w.from) ws)
+starts_below names c [] h a i = absurd i
+starts_below names c (w ∷ ws) h a (inl e) = subst (λ b. b.event < length c.events) (sym e) h.0.from.event
+starts_below names c (w ∷ ws) h a (inr i) = starts_below names c ws h.1 a i
 
 spans_same : (k n : ℕ) (f g : ℕ → ℕ → Option ℤ) (starts : List Anchor) (s : Option ℤ) → k ≤ n → Agree n f g → AreBelow k starts
     → IsZero s ⊎ (IsPairSpan k k f s ⊎ IsStartSpan k f starts s) → IsZero s ⊎ (IsPairSpan k k g s ⊎ IsStartSpan k g starts s)
@@ -89,10 +89,10 @@ earliest_same bounds n d e h k p l =
 length_points : (c : Chronicle (List ℕ)) → length (map (λ t. t) (points_of c)) ≡ point_count c
 length_points c = simp (length-map, length-append)
 
-one_chronicle_text : (c : Chronicle (List ℕ)) (x y : List ℕ) → IsProperChronicle c → IsChronicleText (λ t. t) c x → IsChronicleText (λ t. t) c y → x ≡ y
-one_chronicle_text c x y h a b =
+one_chronicle_text : (names : List (Name (List ℕ))) (c : Chronicle (List ℕ)) (x y : List ℕ) → IsProperChronicle names c → IsChronicleText (λ t. t) c x → IsChronicleText (λ t. t) c y → x ≡ y
+one_chronicle_text names c x y h a b =
     let same = minimal_agree c.bounds (point_count c) a.most b.most a.minimal b.minimal in
-    let below = starts_below (length c.events) (length c.variables) c.windows h.windows in
+    let below = starts_below names c c.windows h.windows in
     let reach : a.reach ≡ b.reach = one_reach (length c.events) b.most (map (λ w. w.from) c.windows) a.reach b.reach (reach_same (length c.events) (point_count c) a.most b.most (map (λ w. w.from) c.windows) a.reach (omega arith) same below a.longest) b.longest in
     let dates : a.dates ≡ b.dates = dates_same a.dates b.dates (a.each ∙ sym b.each)
     (λ p l. earliest_same c.bounds (point_count c) (λ q. slice_index_or a.dates q (pos 0)) (λ q. slice_index_or b.dates q (pos 0)) a.earliest b.earliest p (subst (λ n. p < n) a.each l)) in
@@ -100,6 +100,6 @@ one_chronicle_text c x y h a b =
     ∙ (λ t. head_text c.name (reach t) ++ pairs_same (point_count c) a.most b.most 0 (map (λ t. t) (points_of c)) (omega (arith, length_points c)) same t ++ earliest_text (map (λ t. t) (points_of c)) (dates t))
     ∙ sym b.is
 
-pub one_text : (cs : List (Chronicle (List ℕ))) (x y : List ℕ) → AllByRecursion IsProperChronicle cs → IsMinimalText (λ t. t) cs x → IsMinimalText (λ t. t) cs y → x ≡ y
-one_text [] x y h a b = a ∙ sym b
-one_text (c ∷ cs) x y h (p, q, s, t, e) (u, v, m, n, f) = e ∙ (λ i. one_chronicle_text c p u h.0 s m i ++ one_text cs q v h.1 t n i) ∙ sym f
+pub one_text : (names : List (Name (List ℕ))) (cs : List (Chronicle (List ℕ))) (x y : List ℕ) → AllByRecursion (IsProperChronicle names) cs → IsMinimalText (λ t. t) cs x → IsMinimalText (λ t. t) cs y → x ≡ y
+one_text names [] x y h a b = a ∙ sym b
+one_text names (c ∷ cs) x y h (p, q, s, t, e) (u, v, m, n, f) = e ∙ (λ i. one_chronicle_text names c p u h.0 s m i ++ one_text names cs q v h.1 t n i) ∙ sym f

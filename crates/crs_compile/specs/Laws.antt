@@ -1,8 +1,8 @@
 -- Laws of the definitions.
 use Rattle.std.specs.Prelude.{◌≡◌, ℕ, ℤ, List, Option}
 use Rattle.std.specs.List.{AllByRecursion}
-use Rattle.crs_model.specs.Models.{Anchor, Chronicle}
-use Rattle.crs_compile.specs.Proper.{IsProperChronicle}
+use Rattle.crs_model.specs.Models.{Anchor, Chronicle, Name}
+use Rattle.crs_model.specs.ProperModels.{IsProperChronicle}
 use Rattle.crs_compile.specs.Reach.{IsReach}
 use Rattle.crs_compile.specs.Minimal.{IsMinimalText}
 
@@ -12,4 +12,4 @@ ReachIsOne = (n : ℕ) (most : ℕ → ℕ → Option ℤ) (starts : List Anchor
 
 -- proper chronicles have one text of their least bounds
 abbrev pub MinimalTextIsOne : Type 0
-MinimalTextIsOne = (cs : List (Chronicle (List ℕ))) (x y : List ℕ) → AllByRecursion IsProperChronicle cs → IsMinimalText (λ t. t) cs x → IsMinimalText (λ t. t) cs y → x ≡ y
+MinimalTextIsOne = (names : List (Name (List ℕ))) (cs : List (Chronicle (List ℕ))) (x y : List ℕ) → AllByRecursion (IsProperChronicle names) cs → IsMinimalText (λ t. t) cs x → IsMinimalText (λ t. t) cs y → x ≡ y

@@ -1,4 +1,3 @@
-pub mod Proper
 pub mod Reach
 pub mod Compiled
 pub mod Minimal

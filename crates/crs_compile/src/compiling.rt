@@ -1,7 +1,9 @@
-ghost use Rattle.std.specs.Prelude.{◌≡◌, length, map, [], ◌∷◌, ◌++◌, IfOk, OnOk, IfErr};
+ghost use Rattle.std.specs.Prelude.{◌≡◌, List as Items, length, map, [], ◌∷◌, ◌++◌, IfOk, OnOk, IfErr};
 ghost use Rattle.std.specs.List.{AllByRecursion};
+ghost use Rattle.crs_base.specs.declared.symbols.Sym.{Sym};
+ghost use Rattle.crs_model.specs.Models.{Name};
+ghost use Rattle.crs_model.specs.ProperModels.{IsProperChronicle, AreProper};
 ghost use Rattle.crs_model.specs.Seen.{chronicle_of, models_of};
-ghost use Rattle.crs_compile.specs.Proper.{IsProperChronicle, AreProper};
 ghost use Rattle.crs_compile.specs.Reach.{IsReachOfAll};
 ghost use Rattle.crs_compile.specs.Compiled.{IsPlan, IsAdded, plans_in, chronicles_in, IsRefusal, refusal_of};
 
@@ -27,7 +29,7 @@ fn refusal(line: u32, why: StnRefused) -> ModelRefused
 
 /// The plan of a chronicle.
 fn plan_of(alloc: Global, chronicle: Chronicle) -> Result<Plan, ModelRefused>
-    requires { IsProperChronicle (chronicle_of chronicle) }
+    requires { (names : Items (Name Sym)) × IsProperChronicle names (chronicle_of chronicle) }
     ensures chronicle { IfOk result (λ plan. plan.chronicle ≡ chronicle) }
     ensures plan { IfOk result IsPlan }
     ensures refused { IfErr result (IsRefusal (chronicle ∷ [])) }
@@ -59,7 +61,7 @@ fn push_plan(
     plans: &mut List<Rc<Plan>>,
     chronicle: Chronicle,
 ) -> Result<(), ModelRefused>
-    requires { IsProperChronicle (chronicle_of chronicle) }
+    requires { (names : Items (Name Sym)) × IsProperChronicle names (chronicle_of chronicle) }
     ensures plan { OnOk result (IsAdded chronicle (plans_in plans.old) (plans_in plans.new)) }
     ensures refused { IfErr result (IsRefusal (chronicle ∷ [])) }
 {
@@ -69,7 +71,7 @@ fn push_plan(
 
 /// The plans of the chronicles, in order.
 fn plans_of(alloc: Global, chronicles: List<Chronicle>) -> Result<List<Rc<Plan>>, ModelRefused>
-    requires { AllByRecursion IsProperChronicle (map chronicle_of chronicles) }
+    requires { (names : Items (Name Sym)) × AllByRecursion (IsProperChronicle names) (map chronicle_of chronicles) }
     ensures chronicles { IfOk result (λ plans. chronicles_in plans ≡ chronicles) }
     ensures plans { IfOk result (λ plans. AllByRecursion IsPlan (plans_in plans)) }
     ensures refused { IfErr result (IsRefusal chronicles) }

@@ -2,7 +2,7 @@ ghost use Rattle.std.specs.Prelude.{◌≡◌, ◌⊎◌, ℕ, ℤ, pos, ◌<ℤ
 ghost use Rattle.std.specs.List.{AllByRecursion};
 ghost use Rattle.crs_stn.specs.Table.{most_of};
 ghost use Rattle.crs_model.specs.Seen.{anchor_of, window_of, chronicle_of};
-ghost use Rattle.crs_compile.specs.Proper.{IsAnchorBelow};
+ghost use Rattle.crs_model.specs.ProperModels.{IsProperAnchor};
 ghost use Rattle.crs_compile.specs.Reach.{IsLongest, IsZero, span_of, IsSpanFrom, IsPairSpan, IsStartSpan, IsReachOf, IsReachOfAll, IsSmallSpan};
 ghost use Rattle.crs_compile.specs.Compiled.{plans_in};
 
@@ -22,7 +22,7 @@ fn longer(a: Option<i64>, b: Option<i64>) -> Option<i64>
 
 /// The most that an event's date lies behind an anchor.
 fn span(network: &Network, from: Anchor, event: u8) -> Option<i64>
-    requires from { IsAnchorBelow network.now.points (anchor_of from) }
+    requires from { IsProperAnchor network.now.points (anchor_of from) }
     requires event { event < network.now.points }
     ensures value { result ≡ span_of (most_of network.now) (anchor_of from) event }
     ensures small { IsSmallSpan result }
@@ -33,7 +33,7 @@ fn span(network: &Network, from: Anchor, event: u8) -> Option<i64>
 
 /// The longest of 0 and of the spans from an anchor to each event.
 fn furthest(network: &Network, from: Anchor, events: u8) -> Option<i64>
-    requires from { IsAnchorBelow events (anchor_of from) }
+    requires from { IsProperAnchor events (anchor_of from) }
     requires events { events ≤ network.now.points }
     ensures longest { IsLongest (λ s. IsZero s ⊎ IsSpanFrom events (most_of network.now) (anchor_of from) s) result }
     ensures small { IsSmallSpan result }
@@ -61,7 +61,7 @@ fn event_reach(network: &Network, events: u8) -> Option<i64>
 
 /// The longest of 0 and of the spans from each window's start to each event.
 fn window_reach(network: &Network, windows: &[Window], events: u8) -> Option<i64>
-    requires windows { AllByRecursion (λ w. IsAnchorBelow events w.from) (map window_of windows.now) }
+    requires windows { AllByRecursion (λ w. IsProperAnchor events w.from) (map window_of windows.now) }
     requires events { events ≤ network.now.points }
     ensures longest { IsLongest (λ s. IsZero s ⊎ IsStartSpan events (most_of network.now) (map (λ w. w.from) (map window_of windows.now)) s) result }
     ensures small { IsSmallSpan result }
@@ -79,7 +79,7 @@ fn window_reach(network: &Network, windows: &[Window], events: u8) -> Option<i64
 pub(crate) fn reach_of(network: &Network, chronicle: &Chronicle) -> Option<i64>
     requires few { length chronicle.now.events ≤ 16 }
     requires events { length chronicle.now.events ≤ network.now.points }
-    requires windows { AllByRecursion (λ w. IsAnchorBelow (length chronicle.now.events) w.from) (map window_of chronicle.now.windows) }
+    requires windows { AllByRecursion (λ w. IsProperAnchor (length chronicle.now.events) w.from) (map window_of chronicle.now.windows) }
     ensures reach { IsReachOf (chronicle_of chronicle.now) (most_of network.now) result }
     ensures small { IsSmallSpan result }
 {

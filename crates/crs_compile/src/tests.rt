@@ -1,14 +1,15 @@
-ghost use Rattle.std.specs.Prelude.{◌≡◌, ◌<◌, ℕ, List, [], ◌∷◌, length, map, Some, None, IfOk};
+ghost use Rattle.std.specs.Prelude.{◌≡◌, ◌<◌, ◌≤◌, ℕ, List, [], ◌∷◌, length, map, Some, None, IfOk};
 ghost use Rattle.std.specs.List.{AllByRecursion};
 ghost use Rattle.crs_stn.specs.Bound.{IsWithin};
-ghost use Rattle.crs_model.specs.Seen.{chronicle_of, window_of};
-ghost use Rattle.crs_compile.specs.Proper.{IsProperWindow, IsProperChronicle};
+ghost use Rattle.crs_model.specs.declared.models.Kind.TheVariants.{Message};
+ghost use Rattle.crs_model.specs.ProperModels.{IsProperBody, IsProperAnchor, IsProperChronicle, AreProper};
+ghost use Rattle.crs_model.specs.Seen.{name_of, chronicle_of, window_of, models_of};
 ghost use Rattle.crs_compile.specs.Minimal.{IsPrintable};
 
 use crate::{compile, minimal_text};
 use crs_base::{List, Sym, Symbols, Text, is_symbol};
 use crs_model::{
-    Anchor, Body, Chronicle, EventDef, ModelRefused, ModelWord, Models, Pattern, Window,
+    Anchor, Body, Chronicle, EventDef, Kind, ModelRefused, ModelWord, Models, Name, Pattern, Window,
 };
 use crs_stn::Bound;
 use std::alloc::{AllocError, Global};
@@ -24,7 +25,30 @@ fn at_most(from: u8, to: u8, most: i64) -> Bound
     }
 }
 
+fn message(name: Sym) -> Name
+    ensures name { result.name ≡ name }
+    ensures plain { (result.arity ≡ 0) × (result.kind ≡ Message) }
+{
+    Name {
+        name,
+        arity: 0,
+        kind: Kind::Message,
+    }
+}
+
+/// `message a 0` and `message b 0`.
+fn two_messages(alloc: Global) -> Result<List<Name>, AllocError>
+    ensures symbols { IfOk result (λ names. map (λ n. n.name.0) names ≡ 1 ∷ 2 ∷ []) }
+    ensures plain { IfOk result (AllByRecursion (λ n. (n.arity ≡ 0) × (n.kind ≡ Message))) }
+{
+    let mut names = List::new(alloc);
+    names.push(message(Sym(1)))?;
+    names.push(message(Sym(2)))?;
+    Ok(names)
+}
+
 fn pattern(alloc: Global, name: Sym) -> Pattern
+    ensures name { result.name ≡ name }
     ensures terms { result.terms ≡ [] }
     ensures change { result.change ≡ None }
 {
@@ -36,9 +60,11 @@ fn pattern(alloc: Global, name: Sym) -> Pattern
 }
 
 fn event(alloc: Global, name: Sym, point: Sym) -> EventDef
+    ensures name { result.pattern.name ≡ name }
     ensures terms { result.pattern.terms ≡ [] }
     ensures change { result.pattern.change ≡ None }
     ensures point { result.point ≡ point }
+    ensures level { result.level ≡ 0 }
 {
     EventDef {
         pattern: pattern(alloc, name),
@@ -49,7 +75,9 @@ fn event(alloc: Global, name: Sym, point: Sym) -> EventDef
 
 /// `event(a, t1)` and `event(b, t2)`.
 fn two_events(alloc: Global) -> Result<List<EventDef>, AllocError>
+    ensures symbols { IfOk result (λ events. map (λ v. v.pattern.name.0) events ≡ 1 ∷ 2 ∷ []) }
     ensures points { IfOk result (λ events. map (λ v. v.point.0) events ≡ 3 ∷ 4 ∷ []) }
+    ensures levels { IfOk result (AllByRecursion (λ v. v.level ≤ 7)) }
     ensures plain { IfOk result (AllByRecursion (λ v. (v.pattern.terms ≡ []) × (v.pattern.change ≡ None))) }
 {
     let mut events = List::new(alloc);
@@ -80,13 +108,18 @@ fn listed(alloc: Global, bounds: &[Bound]) -> Result<List<Bound>, AllocError>
 /// Two events and a free point with these bounds and windows, closed at this line.
 fn chronicle(
     alloc: Global,
+    names: &List<Name>,
     line: u32,
     bounds: &[Bound],
     windows: List<Window>,
 ) -> Result<Chronicle, AllocError>
+    requires symbols { map (λ n. n.name.0) names.now ≡ 1 ∷ 2 ∷ [] }
+    requires plain { AllByRecursion (λ n. (n.arity ≡ 0) × (n.kind ≡ Message)) names.now }
+    requires few { length bounds.now ≤ 4 }
     requires bounds { IsWithin 3 bounds.now }
-    requires windows { AllByRecursion (IsProperWindow 2 0) (map window_of windows) }
-    ensures proper { IfOk result (λ c. IsProperChronicle (chronicle_of c)) }
+    requires windows_few { length windows ≤ 1 }
+    requires windows { AllByRecursion (λ w. IsProperBody (map name_of names.now) 0 w.body × IsProperAnchor 2 w.from × IsProperAnchor 2 w.to) (map window_of windows) }
+    ensures proper { IfOk result (λ c. IsProperChronicle (map name_of names.now) (chronicle_of c)) }
     ensures printable { (texts : List (List ℕ)) → 5 < length texts → IfOk result (λ c. IsPrintable texts (chronicle_of c)) }
 {
     Ok(Chronicle {
@@ -102,24 +135,36 @@ fn chronicle(
     })
 }
 
+/// The models of two messages and these chronicles.
+fn together(names: List<Name>, chronicles: List<Chronicle>) -> Models
+    requires symbols { map (λ n. n.name.0) names ≡ 1 ∷ 2 ∷ [] }
+    requires plain { AllByRecursion (λ n. (n.arity ≡ 0) × (n.kind ≡ Message)) names }
+    requires few { length chronicles ≤ 64 }
+    requires proper { AllByRecursion (IsProperChronicle (map name_of names)) (map chronicle_of chronicles) }
+    ensures chronicles { result.chronicles ≡ chronicles }
+    ensures proper { AreProper (models_of result) }
+{
+    Models { names, chronicles }
+}
+
 /// The models of one chronicle.
-fn alone(alloc: Global, chronicle: Chronicle) -> Result<Models, AllocError>
-    ensures { IfOk result (λ models. models.chronicles ≡ chronicle ∷ []) }
+fn alone(alloc: Global, names: List<Name>, chronicle: Chronicle) -> Result<Models, AllocError>
+    requires symbols { map (λ n. n.name.0) names ≡ 1 ∷ 2 ∷ [] }
+    requires plain { AllByRecursion (λ n. (n.arity ≡ 0) × (n.kind ≡ Message)) names }
+    requires proper { IsProperChronicle (map name_of names) (chronicle_of chronicle) }
+    ensures chronicles { IfOk result (λ models. models.chronicles ≡ chronicle ∷ []) }
+    ensures proper { IfOk result (λ models. AreProper (models_of models)) }
 {
     let mut chronicles = List::new(alloc);
     chronicles.push(chronicle)?;
-    Ok(Models {
-        names: List::new(alloc),
-        chronicles,
-    })
+    Ok(together(names, chronicles))
 }
 
-/// The text of a chronicle's least bounds.
-fn text_of(alloc: Global, chronicle: Chronicle, symbols: &Symbols) -> Result<Text, Fail>
-    requires proper { IsProperChronicle (chronicle_of chronicle) }
-    requires printable { IsPrintable symbols.now.texts (chronicle_of chronicle) }
+/// The text of the least bounds of the models of one chronicle.
+fn text_of(alloc: Global, models: Models, symbols: &Symbols) -> Result<Text, Fail>
+    requires proper { AreProper (models_of models) }
+    requires printable { AllByRecursion (IsPrintable symbols.now.texts) (map chronicle_of models.chronicles) }
 {
-    let models = alone(alloc, chronicle)?;
     let plans = compile(alloc, models)?;
     Ok(minimal_text(alloc, &plans, symbols)?)
 }
@@ -148,15 +193,19 @@ fn two_events_near_a_free_point(rt: HostRuntime) -> Result<(), Fail> {
         at_most(2, 1, 3),
         at_most(1, 2, 0),
     ];
-    let near = chronicle(alloc, 8, &bounds, List::new(alloc))?;
-    let text = text_of(alloc, near, &symbols)?;
+    let names = two_messages(alloc)?;
+    let near = chronicle(alloc, &names, 8, &bounds, List::new(alloc))?;
+    let models = alone(alloc, names, near)?;
+    let text = text_of(alloc, models, &symbols)?;
     assert!(rt;
         text.bytes()
             == b"chronicle f reach 3\n  t2 - t1 in [-3, 3]\n  z - t1 in [-3, 0]\n  z - t2 in [-3, 0]\n  earliest t1=0 t2=0 z=0\n".as_slice()
     );
     // t2 - t1 in [-inf, 5]
-    let loose = chronicle(alloc, 8, &[at_most(0, 1, 5)], List::new(alloc))?;
-    let text = text_of(alloc, loose, &symbols)?;
+    let names = two_messages(alloc)?;
+    let loose = chronicle(alloc, &names, 8, &[at_most(0, 1, 5)], List::new(alloc))?;
+    let models = alone(alloc, names, loose)?;
+    let text = text_of(alloc, models, &symbols)?;
     assert!(rt;
         text.bytes()
             == b"chronicle f reach inf\n  t2 - t1 in [-inf, 5]\n  z - t1 in [-inf, inf]\n  z - t2 in [-inf, inf]\n  earliest t1=0 t2=0 z=0\n".as_slice()
@@ -165,8 +214,11 @@ fn two_events_near_a_free_point(rt: HostRuntime) -> Result<(), Fail> {
 }
 
 /// `noevent(b, (t1 - 7, t1 + 10))`.
-fn early_window(alloc: Global) -> Result<List<Window>, AllocError>
-    ensures { IfOk result (λ windows. AllByRecursion (IsProperWindow 2 0) (map window_of windows)) }
+fn early_window(alloc: Global, names: &List<Name>) -> Result<List<Window>, AllocError>
+    requires symbols { map (λ n. n.name.0) names.now ≡ 1 ∷ 2 ∷ [] }
+    requires plain { AllByRecursion (λ n. (n.arity ≡ 0) × (n.kind ≡ Message)) names.now }
+    ensures few { IfOk result (λ windows. length windows ≤ 1) }
+    ensures proper { IfOk result (λ windows. AllByRecursion (λ w. IsProperBody (map name_of names.now) 0 w.body × IsProperAnchor 2 w.from × IsProperAnchor 2 w.to) (map window_of windows)) }
 {
     let mut windows = List::new(alloc);
     windows.push(Window {
@@ -188,9 +240,10 @@ fn a_window_reaches_back(rt: HostRuntime) -> Result<(), Fail> {
     let alloc = rt.alloc();
     // t2 - t1 in [1, 2]
     let bounds = [at_most(0, 1, 2), at_most(1, 0, -1)];
-    let windows = early_window(alloc)?;
-    let early = chronicle(alloc, 8, &bounds, windows)?;
-    let models = alone(alloc, early)?;
+    let names = two_messages(alloc)?;
+    let windows = early_window(alloc, &names)?;
+    let early = chronicle(alloc, &names, 8, &bounds, windows)?;
+    let models = alone(alloc, names, early)?;
     let plans = compile(alloc, models)?;
     assert!(rt; plans.reach == Some(9));
     Ok(())
@@ -199,8 +252,9 @@ fn a_window_reaches_back(rt: HostRuntime) -> Result<(), Fail> {
 #[test]
 fn the_first_inconsistent_chronicle_is_named(rt: HostRuntime) -> Result<(), Fail> {
     let alloc = rt.alloc();
+    let names = two_messages(alloc)?;
     let mut chronicles = List::new(alloc);
-    chronicles.push(chronicle(alloc, 5, &[], List::new(alloc))?)?;
+    chronicles.push(chronicle(alloc, &names, 5, &[], List::new(alloc))?)?;
     // t2 - t1 in [5, 10], and t2 - t1 in [0, 4]
     let bounds = [
         at_most(0, 1, 10),
@@ -208,12 +262,9 @@ fn the_first_inconsistent_chronicle_is_named(rt: HostRuntime) -> Result<(), Fail
         at_most(0, 1, 4),
         at_most(1, 0, 0),
     ];
-    chronicles.push(chronicle(alloc, 9, &bounds, List::new(alloc))?)?;
-    chronicles.push(chronicle(alloc, 14, &bounds, List::new(alloc))?)?;
-    let models = Models {
-        names: List::new(alloc),
-        chronicles,
-    };
+    chronicles.push(chronicle(alloc, &names, 9, &bounds, List::new(alloc))?)?;
+    chronicles.push(chronicle(alloc, &names, 14, &bounds, List::new(alloc))?)?;
+    let models = together(names, chronicles);
     let refused = ModelRefused::At {
         line: 9,
         word: ModelWord::Inconsistent,

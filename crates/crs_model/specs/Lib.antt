@@ -8,6 +8,7 @@ pub mod Images
 pub mod Steps
 pub mod Levels
 pub mod Proper
+pub mod ProperModels
 pub mod Seen
 pub mod Bindings
 pub mod Plans

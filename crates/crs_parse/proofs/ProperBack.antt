@@ -12,7 +12,7 @@ use Rattle.crs_model.specs.Models.{Term, Value, Var, Any, Pattern, EventDef, Anc
 use Rattle.crs_model.specs.Bindings.{TermIsBelow, PatternIsBelow}
 use Rattle.crs_model.specs.Proper.{term_has, terms_have, change_has, pattern_has, IsNamed}
 use Rattle.crs_model.specs.Renaming.{text_in, renamed_term, renamed_pattern, renamed_event, renamed_set, renamed_body, renamed_window, renamed_chronicle, renamed_kind, renamed_name, renamed_models, IsPatternOf, IsBodyOf, IsChronicleOf, IsNameOf, AreModelsOf}
-use Rattle.crs_parse.specs.Proper.{IsProperAnchor, IsAttribute, Suits, Declares, IsDeclared, IsProperBody, IsProperWindow, IsProperEvent, IsProperChronicle, AreProper}
+use Rattle.crs_model.specs.ProperModels.{IsProperAnchor, IsAttribute, Suits, Declares, IsDeclared, IsProperBody, IsProperWindow, IsProperEvent, IsProperChronicle, AreProper}
 use Rattle.crs_parse.proofs.Numbered.{each_back}
 
 at_back : {A B : Type 0} (g : A → B) (xs : List A) (e : ℕ) (y : B) → slice_get (map g xs) e ≡ Some y → (x : A) × (slice_get xs e ≡ Some x) × (g x ≡ y)

@@ -6,4 +6,3 @@ pub mod Steps
 pub mod Grows
 pub mod Meant
 pub mod Held
-pub mod Proper

@@ -6,7 +6,7 @@ ghost use Rattle.crs_base.specs.Lines.{lines_of};
 ghost use Rattle.crs_parse.specs.Grows.{Grows, AreAmong, lines_symbols};
 ghost use Rattle.crs_parse.specs.Meant.{models_read};
 ghost use Rattle.crs_model.specs.Renaming as renamed;
-ghost use Rattle.crs_parse.specs.Proper.{AreProper};
+ghost use Rattle.crs_model.specs.ProperModels.{AreProper};
 ghost use Rattle.crs_parse.specs.SeenReading as see;
 ghost use Rattle.crs_parse.specs.Steps as steps;
 

@@ -16,16 +16,14 @@ use Rattle.crs_model.specs.declared.models.ModelRefused.{ModelRefused}
 use Rattle.crs_model.specs.declared.models.ModelRefused.TheVariants.{At, Memory}
 use Rattle.crs_model.specs.declared.plan.Plan.{Plan}
 use Rattle.crs_model.specs.declared.plan.Plans.{Plans}
-use Rattle.crs_model.specs.Models.{Chronicle, Models, Body, NoEvent, Occurs, Hold, Window, Name}
-use Rattle.crs_model.specs.Bindings.{PatternIsBelow}
+use Rattle.crs_model.specs.Models.{Chronicle, Window, Name}
 use Rattle.crs_model.specs.Plans.{chronicle, IsProper}
+use Rattle.crs_model.specs.ProperModels.{AreProper}
 use Rattle.crs_model.specs.Renaming.{text_in, renamed_chronicle, renamed_window, renamed_name, renamed_models, AreModelsOf, IsChronicleOf}
 use Rattle.crs_model.specs.Seen.{chronicle_of, name_of, models_of}
 use Rattle.crs_log.specs.Run.{at_start}
 use Rattle.crs_log.specs.SeenNames.{name_seen, AreNamesIn}
-use Rattle.crs_parse.specs.Proper as parsed
 use Rattle.crs_parse.specs.Meant.{models_read}
-use Rattle.crs_compile.specs.Proper as compiled
 use Rattle.crs_compile.specs.Compiled.{IsPlan, chronicles_in, ClosesFirst, IsRefusal}
 use Rattle.crs_engine.specs.Engines.{EngineState, StandsFor, plans_of}
 use Rattle.crs_top.specs.Session.{HasText, chronicle_in, HasModels, Represents}
@@ -38,34 +36,6 @@ use Rattle.crs_top.specs.Texts.{Frame}
 all_from : {A : Type 0} (F G : A → Type 0) (xs : List A) → ((x : A) → F x → G x) → AllByRecursion F xs → AllByRecursion G xs
 all_from F G [] e h = tt
 all_from F G (x ∷ xs) e h = (e x h.0, all_from F G xs e h.1)
-
--- what is proper as it is read is proper for compiling
-module _ {S : Type 0} where
-  proper_body : (names : List (Name S)) (n : ℕ) (b : Body S) → parsed.IsProperBody names n b → compiled.BodyIsBelow n b
-  proper_body names n (NoEvent p) h = h.1
-  proper_body names n (Occurs least most p) h = h.1
-  proper_body names n (Hold name terms value) h = (h.1, h.2)
-
-  proper_chronicle : (names : List (Name S)) (c : Chronicle S) → parsed.IsProperChronicle names c → compiled.IsProperChronicle c
-  proper_chronicle names c h = record {
-    events_some = h.events_some;
-    events_few = h.events_few;
-    points_few = h.points_few;
-    variables_few = h.variables_few;
-    within = h.within;
-    named = h.named;
-    below = all_from (parsed.IsProperEvent names c) (λ v. PatternIsBelow (length c.variables) v.pattern) c.events (λ v k. k.below) h.events;
-    sets = h.sets;
-    differs = h.differs;
-    windows = all_from (parsed.IsProperWindow names c) (compiled.IsProperWindow (length c.events) (length c.variables)) c.windows (λ w k. record {
-      from = record { event = k.from.event; not_large = k.from.not_large; not_small = k.from.not_small };
-      to = record { event = k.to.event; not_large = k.to.not_large; not_small = k.to.not_small };
-      body = proper_body names (length c.variables) w.body k.body;
-    }) h.windows;
-  }
-
-  pub proper_models : (m : Models S) → parsed.AreProper m → compiled.AreProper m
-  proper_models m h = all_from (parsed.IsProperChronicle m.names) compiled.IsProperChronicle m.chronicles (proper_chronicle m.names) h.chronicles
 
 -- the refusals
 pub closes_inconsistent : (texts : List (List ℕ)) (cs : List CodeChronicle) (line : ℕ) → ClosesFirst cs line → ClosesInconsistent (map (renamed_chronicle (text_in texts)) (map chronicle_of cs)) line
@@ -142,7 +112,7 @@ plans_proper ps h = all_from IsPlan IsProper ps (λ p k. k.proper) h
 -- the models of a text, as they were read and compiled
 module _ (symbols entries : ℕ) (text : List ℕ) (m : CodeModels) (table : Table) (plans : Plans)
     (read : models_read symbols [] text ≡ Ok (renamed_models (text_in table.texts) (models_of m), table.texts))
-    (numbered : AreModelsOf (HasText table.texts) (models_of m)) (proper : parsed.AreProper (models_of m))
+    (numbered : AreModelsOf (HasText table.texts) (models_of m)) (proper : AreProper (models_of m))
     (names : plans.names ≡ m.names) (chronicles : chronicles_in plans.plans ≡ m.chronicles) (made : AllByRecursion IsPlan (plans_of plans)) where
   abbrev pub frame : Frame
   frame = record { models = renamed_models (text_in table.texts) (models_of m); texts = table.texts; symbols = symbols; entries = entries }

@@ -1,11 +1,8 @@
 use Rattle.std.proofs.Common.{refl}
 use Rattle.crs_model.specs.Renaming.{text_in, renamed_models}
 use Rattle.crs_model.specs.Seen.{models_of}
-use Rattle.crs_top.proofs.Preparing.{proper_models, compile_faulty, read_faulty, consistent_models}
+use Rattle.crs_top.proofs.Preparing.{compile_faulty, read_faulty, consistent_models}
 use Rattle.crs_top.proofs.listing.canonical.Goals as goal
-
-pub compile-requires : goal.compile-requires
-compile-requires c = proper_models (models_of c.in-Ok-read_models.models) c.in-Ok-read_models.ensures.proper
 
 pub returns-in-Err-clause-refused : goal.returns-in-Err-clause-refused
 returns-in-Err-clause-refused c = read_faulty c.args.limit c.args.text.now c.in-Err.refused (rw c.in-Ok.ensures.ok at c.in-Err.ensures.refused)

@@ -1,12 +1,8 @@
 use Rattle.std.proofs.Common.{◌≡◌, ◌∙◌, ap, refl, []}
 use Rattle.crs_model.specs.Plans.{IsProper, chronicle}
 use Rattle.crs_engine.specs.Engines.{plans_of}
-use Rattle.crs_model.specs.Seen.{models_of}
-use Rattle.crs_top.proofs.Preparing.{by_value, proper_models, compile_faulty, faulty_is_refused, read_faulty, plans_proper, plans_windowless, rejected_windowed, accepted, represented, frame}
+use Rattle.crs_top.proofs.Preparing.{by_value, compile_faulty, faulty_is_refused, read_faulty, plans_proper, plans_windowless, rejected_windowed, accepted, represented, frame}
 use Rattle.crs_top.proofs.models.prepare.Goals as goal
-
-pub compile-requires : goal.compile-requires
-compile-requires c = proper_models (models_of c.in-Ok-read_models.models) c.in-Ok-read_models.ensures.proper
 
 pub returns-in-Err-clause-refused : goal.returns-in-Err-clause-refused
 returns-in-Err-clause-refused c = faulty_is_refused c.args.limits.symbols c.args.text.now c.in-Err.refused (read_faulty c.args.limits.symbols c.args.text.now c.in-Err.refused (rw c.in-Ok.ensures.ok at c.in-Err.ensures.refused))
