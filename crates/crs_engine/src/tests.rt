@@ -184,6 +184,13 @@ fn recognises_in_order(rt: HostRuntime) -> Result<(), Fail> {
     assert!(rt; tells(&answer, 3, 1, 2, 4));
     assert_eq!(rt; engine.kept(), 6);
     assert_eq!(rt; engine.history().len(), 3);
+    // b at 6: a at 1 and 2 wait no longer than 6 and 7
+    let _ = feed(&mut engine, rt.alloc(), 6, 1)?;
+    assert_eq!(rt; engine.kept(), 6);
+    let answer = clock_apart::<Brand>(Blank::new(1), &mut engine, 7)?;
+    assert!(rt; tells(&answer, 0, 0, 1, 6));
+    assert!(rt; tells(&answer, 1, 0, 2, 6));
+    assert_eq!(rt; engine.kept(), 4);
     Ok(())
 }
 

@@ -17,6 +17,22 @@ fn at_most(from: u8, to: u8, most: i64) -> Bound
     }
 }
 
+/// The bound from one point to another, where there is one.
+fn between(bounds: &[Bound], from: Option<u8>, to: Option<u8>) -> Option<i64> {
+    let bound = bounds
+        .iter()
+        .find(|b| Some(b.from) == from && Some(b.to) == to)?;
+    bound.most
+}
+
+/// The bounds along a cycle of three points, summed.
+fn length_of(bounds: &[Bound], cycle: &[Option<u8>; 3]) -> Option<i64> {
+    let first = between(bounds, cycle[0], cycle[1])?;
+    let second = between(bounds, cycle[1], cycle[2])?;
+    let third = between(bounds, cycle[2], cycle[0])?;
+    first.checked_add(second)?.checked_add(third)
+}
+
 #[test]
 fn three_points_in_a_cycle(rt: HostRuntime) -> Result<(), Fail> {
     let alloc = rt.alloc();
@@ -40,6 +56,7 @@ fn three_points_in_a_cycle(rt: HostRuntime) -> Result<(), Fail> {
     assert_eq!(rt; cycle.get(3), None);
     let got = [cycle.get(0), cycle.get(1), cycle.get(2)];
     assert!(rt; turns.iter().any(|turn| got == [Some(turn[0]), Some(turn[1]), Some(turn[2])]));
+    assert_eq!(rt; length_of(&bounds, &got), Some(-2));
     Ok(())
 }
 

@@ -102,6 +102,24 @@ fn worked_logs(rt: HostRuntime) -> Result<(), Fail> {
             Status::Rejected,
             "model line 2 twice\n",
         ),
+        (
+            MODELS,
+            "1 a\n2 a\n4 b\nclock 5\n6 b\nclock 7\n",
+            Status::Done,
+            "c at 5 t1=1 t2=4\nc at 5 t1=2 t2=4\nc at 7 t1=1 t2=6\nc at 7 t1=2 t2=6\n",
+        ),
+        (
+            MODELS,
+            "delay 1\n10 a\n11 b[x]\n11 b\nclock 13\n",
+            Status::Refusals,
+            "line 3 arity\nc at 13 t1=10 t2=11\n",
+        ),
+        (
+            "message a 0\nmessage b 0\nchronicle f {\nevent(a, t1)\nevent(b, t2)\npoint z\nt1 - z in [0, 3]\nt2 - z in [0, 3]\n}\n",
+            "0 a\n3 b\n4 b\nclock 5\n",
+            Status::Done,
+            "f at 5 t1=0 t2=3\n",
+        ),
     ] {
         for piece in [1, 4096] {
             let mut desk = desk_of(alloc, models, log)?;
@@ -113,6 +131,23 @@ fn worked_logs(rt: HostRuntime) -> Result<(), Fail> {
             assert!(rt; desk.written() == output.as_bytes(), "in pieces of {piece}");
         }
     }
+    Ok(())
+}
+
+#[test]
+fn long_line(rt: HostRuntime) -> Result<(), Fail> {
+    let alloc = rt.alloc();
+    let words = words_of(alloc)?;
+    let mut log = vec![in alloc; b'x'; 4097]?;
+    log.extend_from_slice(b"\n3 unknown\n4 a[x]\n5 a\n6 b\nclock 7\n")?;
+    let mut desk = MemoryDesk::new(alloc);
+    desk.add_file("m", MODELS.as_bytes())?;
+    desk.add_file("l", &log)?;
+    assert_eq!(rt;
+        run_with(alloc, words.as_slice(), STANDARD, &mut desk),
+        Status::Refusals
+    );
+    assert!(rt; desk.written() == b"line 1 long\nline 3 arity\nc at 7 t1=5 t2=6\n");
     Ok(())
 }
 
