@@ -1,6 +1,6 @@
 -- Whether some binding fits, and which is the least.
 use Rattle.std.proofs.Common.{◌≡◌, ◌≢◌, ℕ, ◌<◌, List, [], ◌∷◌, length, refl, sym, subst, zero, suc, arith}
-use Rattle.std.specs.Prelude.{Option, Some, None, is_some, IsTrue, IfSome, IsSomeAnd, slice_index_or, ◌↔◌}
+use Rattle.std.specs.Prelude.{Option, Some, None, is_some, IsTrue, IfSome, IsSomeAnd, ◌↔◌}
 use Rattle.std.specs.List.{AllZip, AllByRecursion}
 use Rattle.crs_base.specs.declared.symbols.Sym.{Sym}
 use Rattle.crs_model.specs.Matching.{TermIs, ChangeIs, PatternIs}

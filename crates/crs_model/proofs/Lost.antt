@@ -1,10 +1,10 @@
 -- Lost windows stay lost.
-use Rattle.std.proofs.Common.{◌≡◌, ℕ, suc, ◌≤◌, ◌<◌, List, [], ◌∷◌, ◌++◌, refl, sym, ap, subst, ◌∙◌, inl, inr, ◌⊎◌, arith}
+use Rattle.std.proofs.Common.{◌≡◌, ℕ, suc, ◌≤◌, ◌<◌, List, [], ◌∷◌, ◌++◌, refl, sym, ap, subst, ◌∙◌, inl, inr, arith}
 use Rattle.std.specs.Prelude.{ℤ, pos, ◌≤ℤ◌, ◌<ℤ◌, Option, Some, None, IfSome, IsSomeAnd}
 use Rattle.std.specs.List.{AllZip, AllByRecursion}
 use Rattle.std.proofs.lemmas.Int.{ints, by_lt_z}
 use Rattle.crs_base.specs.Words.{IsIn}
-use Rattle.crs_base.proofs.Words.{in_append, in_append_left}
+use Rattle.crs_base.proofs.Words.{in_append_left}
 use Rattle.crs_base.specs.Entry.{Entry}
 use Rattle.crs_base.specs.Values.{Attribute, HasValue}
 use Rattle.crs_base.proofs.Values.{value_back, change_agrees}

@@ -1,4 +1,4 @@
-use Rattle.std.proofs.Common.{rules, arith, length, ◌*◌}
+use Rattle.std.proofs.Common.{rules, length, ◌*◌}
 use Rattle.crs_base.specs.Seen.{entry_of}
 use Rattle.crs_store.proofs.Costs.{one_more}
 use Rattle.crs_store.proofs.Forking.{all_forks_on}
