@@ -147,7 +147,7 @@ fn long_line(rt: HostRuntime) -> Result<(), Fail> {
         run_with(alloc, words.as_slice(), STANDARD, &mut desk),
         Status::Refusals
     );
-    assert!(rt; desk.written() == b"line 1 long\nline 3 arity\nc at 7 t1=5 t2=6\n");
+    assert!(rt; desk.written() == "line 1 long\nline 3 arity\nc at 7 t1=5 t2=6\n".as_bytes());
     Ok(())
 }
 
