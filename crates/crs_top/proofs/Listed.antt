@@ -1,14 +1,11 @@
 -- What is printed of models that were read and compiled.
-use Rattle.std.proofs.Common.{◌≡◌, ◌∙◌, ap, sym, refl, subst, ℕ, ◌<◌, List, [], ◌∷◌, ◌++◌, map, length, Ok, Global}
+use Rattle.std.proofs.Common.{◌≡◌, ◌∙◌, ap, sym, refl, ℕ, List, [], ◌∷◌, ◌++◌, map}
 use Rattle.std.specs.List.{AllByRecursion}
-use Rattle.std.specs.declared.rc.Rc.{Rc}
 use Rattle.std.proofs.lemmas.List.{length-map, map-append}
 use Rattle.crs_base.specs.declared.symbols.Sym.{Sym}
-use Rattle.crs_stn.specs.Network.{IsMinimal, IsEarliest}
 use Rattle.crs_model.specs.Models.{Chronicle, EventDef, Window, Anchor}
 use Rattle.crs_model.specs.Renaming.{AreKnown, IsChronicleOf, renamed_event, renamed_window, renamed_chronicle}
-use Rattle.crs_compile.specs.Reach.{IsReach}
-use Rattle.crs_compile.specs.Minimal.{points_of, point_count, plan_text, IsChronicleText, IsMinimalText, IsPrintable}
+use Rattle.crs_compile.specs.Minimal.{points_of, point_count, IsChronicleText, IsMinimalText, IsPrintable}
 use Rattle.crs_top.specs.Session.{HasText}
 
 -- with other symbols the points are the same, and so are the starts of windows

@@ -1,5 +1,5 @@
 -- The whole of a listing, by its parts.
-use Rattle.std.proofs.Common.{◌≡◌, ◌⊎◌, ◌∙◌, ap, sym, refl, inl, inr, ℕ, ◌+◌, ◌≤◌, List, [], ◌∷◌, ◌++◌, length, arith, append-nil}
+use Rattle.std.proofs.Common.{◌≡◌, ◌⊎◌, ◌∙◌, sym, refl, inl, inr, ℕ, ◌+◌, List, [], arith, append-nil}
 use Rattle.std.proofs.Math.Seq.{take-length}
 use Rattle.crs_desk.specs.Desk.{Told}
 use Rattle.crs_desk.specs.declared.turn.Turn.{Turn}

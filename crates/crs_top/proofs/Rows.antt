@@ -1,12 +1,11 @@
 -- A log worked by hand, down to its settled entries, its recognitions and its text.
 use Rattle.std.proofs.lemmas.Int.{ints}
-use Rattle.std.proofs.Common.{lit<, get_or, ◌≡◌, ◌⊎◌, ◌∙◌, ap, sym, refl, inl, inr, ℕ, ◌+◌, ℤ, pos, negsuc, zero, suc, ◌+ℤ◌, ◌≤ℤ◌, List, [], ◌∷◌, ◌++◌, length, None, Some, ◌≢◌, arith}
+use Rattle.std.proofs.Common.{lit<, get_or, ◌≡◌, ◌∙◌, ap, refl, inl, inr, ℕ, ℤ, pos, negsuc, zero, suc, ◌+ℤ◌, ◌≤ℤ◌, List, [], ◌∷◌, ◌++◌, length, None, Some, arith}
 use Rattle.std.specs.Prelude.{codes, slice_get}
 use Rattle.std.specs.Fmt.{digits}
 use Rattle.std.specs.List.{AllByRecursion, AllZip}
 use Rattle.crs_base.specs.Lines.{lines_of}
 use Rattle.crs_base.specs.Words.{IsIn}
-use Rattle.crs_stn.specs.declared.bound.Bound.{Bound}
 use Rattle.crs_stn.specs.Bound.{Keeps, Meets, Agrees}
 use Rattle.std.proofs.lemmas.List.Elements.{All-from_recursion}
 use Rattle.crs_model.specs.declared.recognition.Mark.TheVariants.{Clock}

@@ -1,5 +1,5 @@
 -- What a call of the program does, by the command that its words are.
-use Rattle.std.specs.Prelude.{ℕ, List}
+use Rattle.std.specs.Prelude.{ℕ}
 use Rattle.crs_desk.specs.Desk.{Told}
 use Rattle.crs_top.specs.declared.status.Status.{Status}
 use Rattle.crs_top.specs.Words.{Command, Run, Print}

@@ -15,7 +15,7 @@ use Rattle.crs_top.specs.declared.words.Listing.{Listing}
 use Rattle.crs_top.specs.declared.words.Listing.TheVariants.{Canonical, Minimal}
 use Rattle.crs_top.specs.Logs.{Appends, AppendsFront}
 use Rattle.crs_top.specs.Models.{AreModelsIn, IsFaulty}
-use Rattle.crs_top.specs.Run.{Most, bytes_of, IsRefusalFront}
+use Rattle.crs_top.specs.Run.{bytes_of, IsRefusalFront}
 
 -- what is printed of models
 abbrev pub IsListing : Listing → Models (List ℕ) → List ℕ → Type 0

@@ -1,4 +1,3 @@
-use Rattle.std.proofs.Common.{refl}
 use Rattle.crs_model.specs.Renaming.{text_in, renamed_models}
 use Rattle.crs_model.specs.Seen.{models_of}
 use Rattle.crs_top.proofs.Preparing.{compile_faulty, read_faulty, consistent_models}

@@ -1,8 +1,5 @@
-use Rattle.std.proofs.Common.{ap, subst, List, map}
-use Rattle.std.specs.List.{AllByRecursion}
 use Rattle.crs_model.specs.Renaming.{text_in, renamed_models}
-use Rattle.crs_model.specs.Seen.{models_of, chronicle_of}
-use Rattle.crs_compile.specs.Minimal.{IsPrintable}
+use Rattle.crs_model.specs.Seen.{models_of}
 use Rattle.crs_top.proofs.Preparing.{compile_faulty, read_faulty, consistent_models}
 use Rattle.crs_top.proofs.Listed.{printables, minimal_named}
 use Rattle.crs_top.proofs.listing.minimal.Goals as goal
