@@ -1,3 +1,7 @@
+pub mod Alls
+pub mod Texts
+pub mod WithTexts
+pub mod DistinctTexts
 pub mod Words
 pub mod Sifted
 pub mod Lists

@@ -1,9 +1,11 @@
 -- Entries, their canonical text, and their order.
 -- S is the type of symbols: texts in the theorems of the program, numbers of a table in the crates below it.
-use Rattle.std.specs.Prelude.{ℕ, List, [], ◌∷◌, ◌++◌, Option, Some, None, codes}
+use Rattle.std.specs.Prelude.{◌≡◌, ℕ, List, [], ◌∷◌, ◌++◌, Option, Some, None, codes}
 use Rattle.std.specs.Ordering.{nat_cmp, on, then_cmp}
 use Rattle.std.specs.Cmp.Lexicographic.{slice_cmp}
 use Rattle.std.specs.declared.cmp.Ordering.{Ordering}
+use Rattle.std.specs.declared.cmp.Ordering.TheVariants.{Less}
+use Rattle.crs_base.specs.Words.{Ordered}
 
 -- an accepted event line; its arrival number is the count of entries accepted before it, and its change is from an old to a new value
 pub record Entry (S : Type 0) : Type 0 where
@@ -31,6 +33,10 @@ module _ {S : Type 0} where
   -- entries compare by their keys
   abbrev pub entry_cmp : Entry S → Entry S → Ordering
   entry_cmp = on key_of key_cmp
+
+  -- each entry's key is below those of all later ones
+  abbrev pub IsInKeyOrder : List (Entry S) → Type 0
+  IsInKeyOrder es = Ordered (λ d e. entry_cmp d e ≡ Less) es
 
 -- `,b,c]` behind a first argument
 abbrev pub more_text : List (List ℕ) → List ℕ

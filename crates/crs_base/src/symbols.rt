@@ -1,4 +1,4 @@
-ghost use Rattle.std.specs.Prelude.{◌≡◌, ℕ, ◌<◌, ◌≤◌, ◌-◌, ◌^◌, List, [], ◌∷◌, ◌++◌, length, IfOk, OnErr, OnOk, IsErrOf, IsTrue, position, bytes_eq, option_map, false, true, is_some, IfSome, IfErr, IsOk, Err, ◌+◌};
+ghost use Rattle.std.specs.Prelude.{◌≡◌, ℕ, ◌<◌, ◌≤◌, ◌-◌, ◌^◌, List, [], ◌∷◌, ◌++◌, length, IfOk, OnErr, OnOk, IsTrue, position, bytes_eq, option_map, false, true, is_some, IfSome, IfErr, IsOk, Err, ◌+◌};
 ghost use Rattle.std.specs.List.{position_or_len, IsDistinct, list_all};
 ghost use Rattle.crs_base.specs.Symbols.{is_symbol, is_symbol_byte, is_known, with_text, text_at, AreDistinct};
 ghost use Rattle.crs_base.specs.TextSet.{texts_of};

@@ -1,15 +1,10 @@
 -- Entries in key order. S is the type of symbols.
 use Rattle.std.specs.Prelude.{◌≡◌, ℕ, List, [], ◌∷◌, Option, Some, None, nat_lt, cond}
 use Rattle.std.specs.List.{AllByRecursion}
-use Rattle.std.specs.declared.cmp.Ordering.TheVariants.{Less, Equal}
-use Rattle.crs_base.specs.Words.{Ordered}
+use Rattle.std.specs.declared.cmp.Ordering.TheVariants.{Equal}
 use Rattle.crs_base.specs.Entry.{Entry, entry_cmp}
 
 module _ {S : Type 0} where
-  -- each entry's key is below those of all later ones
-  abbrev pub Ascends : List (Entry S) → Type 0
-  Ascends es = Ordered (λ a b. entry_cmp a b ≡ Less) es
-
   -- no entry of the list has the key of e
   abbrev pub IsNewKey : Entry S → List (Entry S) → Type 0
   IsNewKey e es = AllByRecursion (λ x. entry_cmp e x ≡ Equal → ⊥) es

@@ -1,8 +1,9 @@
 ghost use Rattle.std.specs.Prelude.{◌≡◌, ◌≤◌, [], ◌↔◌, OnOk, OnErr, IsNone, option_map};
 ghost use Rattle.std.specs.List.{AllByRecursion};
+ghost use Rattle.crs_base.specs.Entry.{IsInKeyOrder};
 ghost use Rattle.crs_base.specs.Seen.{entry_of};
 ghost use Rattle.crs_model.specs.Order.{put_in_order};
-ghost use Rattle.crs_buffer.specs.Entries.{released, left, Ascends, IsNewKey};
+ghost use Rattle.crs_buffer.specs.Entries.{released, left, IsNewKey};
 
 use crate::held::Held;
 use crs_base::Entry;
@@ -44,7 +45,7 @@ impl Buffer {
     pub fn put(&mut self, entry: Rc<Entry>) -> Result<(), AllocError>
         ensures ok { IsNewKey (entry_of entry.value) self.old → OnOk result (self.new ≡ put_in_order (entry_of entry.value) self.old) }
         ensures err { OnErr result (self.new ≡ self.old) }
-        ensures sorted { Ascends self.new }
+        ensures sorted { IsInKeyOrder self.new }
     {
         let _ = self.set.insert(Held { entry })?;
         Ok(())
@@ -55,7 +56,7 @@ impl Buffer {
         ensures first { option_map (λ r. entry_of r.value) result ≡ released self.old h }
         ensures rest { self.new ≡ left self.old h }
         ensures none { IsNone result ↔ AllByRecursion (λ e. h ≤ e.date) self.old }
-        ensures sorted { Ascends self.new }
+        ensures sorted { IsInKeyOrder self.new }
     {
         if self.set.len() == 0 {
             return None;

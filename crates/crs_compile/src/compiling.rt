@@ -1,4 +1,4 @@
-ghost use Rattle.std.specs.Prelude.{◌≡◌, List as Items, length, map, [], ◌∷◌, ◌++◌, IfOk, OnOk, IfErr};
+ghost use Rattle.std.specs.Prelude.{◌≡◌, List as Items, map, [], ◌∷◌, ◌++◌, IfOk, OnOk, IfErr};
 ghost use Rattle.std.specs.List.{AllByRecursion};
 ghost use Rattle.crs_base.specs.declared.symbols.Sym.{Sym};
 ghost use Rattle.crs_model.specs.Models.{Name};
@@ -66,7 +66,8 @@ fn push_plan(
     ensures refused { IfErr result (IsRefusal (chronicle ∷ [])) }
 {
     let plan = plan_of(alloc, chronicle)?;
-    push_shared(alloc, plans, plan).map_err(|_error| ModelRefused::Memory)
+    push_shared(alloc, plans, plan)?;
+    Ok(())
 }
 
 /// The plans of the chronicles, in order.

@@ -5,7 +5,7 @@ ghost use Rattle.crs_stn.specs.Table.{most_of};
 ghost use Rattle.crs_model.specs.Seen.{chronicle_of};
 ghost use Rattle.crs_compile.specs.Compiled.{IsPlan, plans_in, chronicles_in};
 ghost use Rattle.crs_model.specs.Renaming.{text_in, AreKnown};
-ghost use Rattle.crs_compile.specs.Minimal.{pair_line, lines_of_point, pair_lines, date_text, head_text, earliest_text, plan_text, points_of, IsChronicleText, IsMinimalText, IsPrintable, Appends};
+ghost use Rattle.crs_compile.specs.Minimal.{pair_line, lines_of_point, pair_lines, date_text, head_text, earliest_text, points_of, IsChronicleText, IsMinimalText, IsPrintable, Appends};
 
 use crate::writing::{push_bytes, push_end, push_number};
 use crs_base::{Sym, Symbols, Text};

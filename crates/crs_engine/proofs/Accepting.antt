@@ -1,24 +1,26 @@
 -- What an engine stands for when an entry was accepted.
 use Rattle.std.proofs.Common.{◌≡◌, ◌≢◌, ℕ, ◌<◌, ◌≤◌, ◌+◌, ◌^◌, List, ◌++◌, map, sym, ap, subst, ◌∙◌, inl, inr, arith}
 use Rattle.std.specs.List.{AllByRecursion}
-use Rattle.std.specs.declared.cmp.Ordering.TheVariants.{Less, Equal}
+use Rattle.std.specs.declared.cmp.Ordering.TheVariants.{Less}
 use Rattle.std.proofs.lemmas.Bool.{cases_lt}
 use Rattle.crs_base.specs.declared.symbols.Sym.{Sym}
 use Rattle.crs_base.specs.Words.{IsIn, Ordered}
-use Rattle.crs_base.specs.Entry.{Entry, entry_cmp}
+use Rattle.crs_base.specs.Entry.{Entry, entry_cmp, IsInKeyOrder}
 use Rattle.crs_base.proofs.Words.{in_append, in_append_left, in_append_right, in_from_each, each_from_in, in_map, in_map_back, ordered_append}
+use Rattle.crs_base.proofs.Alls.{all_each}
+use Rattle.crs_base.proofs.KeyOrder.{less_by_date}
 use Rattle.crs_model.specs.Matching.{AreDistinct}
 use Rattle.crs_model.specs.Order.{put_in_order}
-use Rattle.crs_buffer.specs.Entries.{Ascends, IsNewKey}
+use Rattle.crs_buffer.specs.Entries.{IsNewKey}
 use Rattle.crs_engine.specs.Engines.{EngineState, StandsFor, HaveNumbersBelow, IsWaiting}
-use Rattle.crs_engine.proofs.Order.{ordered_left, ordered_right, ordered_cross, less_by_date, keys_differ, put_each, put_distinct, in_put_new, in_put_old, each_to}
+use Rattle.crs_engine.proofs.Order.{ordered_left, ordered_right, ordered_cross, keys_differ, put_each, put_distinct, in_put_new, in_put_old}
 
 -- no waiting entry has the key of the next one
 pub new_key : (n : ℕ) (ws : List (Entry Sym)) (x : Entry Sym) → x.arrival ≡ n → AllByRecursion (IsWaiting n) ws → IsNewKey x ws
-new_key n ws x e h = each_to (IsWaiting n) (λ y. entry_cmp x y ≡ Equal → ⊥) (λ y w. keys_differ x y (λ s. let a = w.arrived in absurd (omega (arith, e, s)))) ws h
+new_key n ws x e h = all_each {P = IsWaiting n} ws (λ y w. keys_differ x y (λ s. let a = w.arrived in absurd (omega (arith, e, s)))) h
 
 pub waiting_more : (n : ℕ) (ws : List (Entry Sym)) (x : Entry Sym) → x.arrival ≡ n → x.date < 2 ^ 40 → AllByRecursion (IsWaiting n) ws → AllByRecursion (IsWaiting (n + 1)) (put_in_order x ws)
-waiting_more n ws x e d h = put_each x (IsWaiting (n + 1)) ws (record { dated = d; arrived = omega (arith, e) }) (each_to (IsWaiting n) (IsWaiting (n + 1)) (λ y w. record { dated = w.dated; arrived = (let a = w.arrived in omega arith) }) ws h)
+waiting_more n ws x e d h = put_each x (IsWaiting (n + 1)) ws (record { dated = d; arrived = omega (arith, e) }) (all_each {P = IsWaiting n} ws (λ y w. record { dated = w.dated; arrived = (let a = w.arrived in omega arith) }) h)
 
 abbrev pub arrivals : List (Entry Sym) → List ℕ
 arrivals es = map (λ e. e.arrival) es
@@ -67,7 +69,7 @@ in_order_more s w x h order before_h late up =
     in_from_each (λ t. entry_cmp y t ≡ Less) (put_in_order x w)
     (put_each x (λ t. entry_cmp y t ≡ Less) w (less_by_date y x (let a = in_from_each (λ t. t.date < h) s before_h y i in omega arith)) (each_from_in (λ t. entry_cmp y t ≡ Less) w (λ t k. ordered_cross (λ a b. entry_cmp a b ≡ Less) s w order y t i k))) z j)
 
-pub accepted_from : (seen old : EngineState) (x : Entry Sym) (ws : List (Entry Sym)) → seen ≡ old → x.arrival ≡ seen.accepted → seen.horizon ≤ x.date → ws ≡ put_in_order x seen.waiting → Ascends ws →
+pub accepted_from : (seen old : EngineState) (x : Entry Sym) (ws : List (Entry Sym)) → seen ≡ old → x.arrival ≡ seen.accepted → seen.horizon ≤ x.date → ws ≡ put_in_order x seen.waiting → IsInKeyOrder ws →
     (s w : List (Entry Sym)) → StandsFor old s w →
     StandsFor (record { plans = seen.plans; stores = seen.stores; history = seen.history; waiting = ws; delay = seen.delay; last = seen.last; horizon = seen.horizon; accepted = seen.accepted + 1; limit = seen.limit; stopped = seen.stopped }) s (put_in_order x w)
 accepted_from seen old x ws view is late put sorted s w stands =

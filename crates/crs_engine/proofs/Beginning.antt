@@ -3,12 +3,14 @@ use Rattle.std.proofs.Common.{◌≡◌, ℕ, zero, suc, ◌<◌, ◌≤◌, ◌
 use Rattle.std.specs.List.{AllByRecursion}
 use Rattle.std.specs.declared.rc.Rc.{Rc}
 use Rattle.std.proofs.lemmas.List.{map-append, take_more}
+use Rattle.std.proofs.Math.Seq.{take-length}
 use Rattle.crs_model.specs.declared.plan.Plan.{Plan}
 use Rattle.crs_history.specs.Histories.{HistoryState}
 use Rattle.crs_store.specs.Stores.{StoreState, Stands}
 use Rattle.std.specs.Prelude.{false}
 use Rattle.crs_base.specs.declared.symbols.Sym.{Sym}
 use Rattle.crs_base.specs.Entry.{Entry}
+use Rattle.crs_base.proofs.Alls.{all_put}
 use Rattle.crs_model.specs.declared.plan.Plans.{Plans}
 use Rattle.crs_engine.specs.Engines.{StandsFor, AreStoresOf, plans_of}
 use Rattle.crs_engine.proofs.Marking.{stores_at}
@@ -30,10 +32,6 @@ stores_more [] n (t ∷ ss) p s h a b = absurd h
 stores_more (q ∷ ps) n [] p s h a b = absurd h
 stores_more (q ∷ ps) n (t ∷ ss) p s h a b = (h.0, h.1, stores_more ps (suc n) ss p s h.2 a (omega (arith, b)))
 
-each_more : {A : Type 0} (P : A → Type 0) (xs : List A) (x : A) → AllByRecursion P xs → P x → AllByRecursion P (xs ++ x ∷ [])
-each_more P [] x h p = (p, tt)
-each_more P (y ∷ xs) x h p = (h.0, each_more P xs x h.1 p)
-
 length_take : (k : ℕ) (plans : List (Rc Plan Global)) → k ≤ length plans → length (planned (take k plans)) ≡ k
 length_take zero plans l = refl
 length_take (suc k) [] l = absurd (omega arith)
@@ -46,16 +44,12 @@ started_more k plans out new r s l at_k q h a b stands =
     let long = length_take k plans (omega arith) in
     rw q (record {
       of = subst (λ (t : List Plan). AreStoresOf t 0 (out ++ s ∷ [])) (sym cut) (stores_more (planned (take k plans)) 0 out r.value s h.of a (omega (arith, b)));
-      stand = each_more (λ t. Stands t [] [] [] 0 0) out s h.stand stands;
+      stand = all_put (λ t. Stands t [] [] [] 0 0) out s h.stand stands;
     })
-
-take_all : {A : Type 0} (xs : List A) → take (length xs) xs ≡ xs
-take_all [] = refl
-take_all {A} (x ∷ xs) = ap (λ (t : List A). x ∷ t) (take_all xs)
 
 pub started_all : (plans : List (Rc Plan Global)) (n : ℕ) (stores : List StoreState) → n ≡ length plans → AreStartedBelow n plans stores → AreStoresOf (planned plans) 0 stores × AllByRecursion (λ s. Stands s [] [] [] 0 0) stores
 started_all plans n stores e h =
-    (subst (λ (t : List (Rc Plan Global)). AreStoresOf (planned t) 0 stores) (ap (λ (m : ℕ). take m plans) e ∙ take_all plans) h.of, h.stand)
+    (subst (λ (t : List (Rc Plan Global)). AreStoresOf (planned t) 0 stores) (ap (λ (m : ℕ). take m plans) e ∙ take-length plans) h.of, h.stand)
 
 pub new_stands : (plans : Plans) (stores : List StoreState) (limit : ℕ) → AreStoresOf (plans_of plans) 0 stores → AllByRecursion (λ s. Stands s [] [] [] 0 0) stores → (past : HistoryState) → past.entries ≡ [] → (ws : List (Entry Sym)) → ws ≡ [] →
     StandsFor (record { plans = plans; stores = stores; history = past; waiting = ws; delay = 0; last = 0; horizon = 0; accepted = 0; limit = limit; stopped = false }) [] []

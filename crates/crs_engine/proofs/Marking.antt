@@ -2,10 +2,13 @@
 use Rattle.std.proofs.Common.{◌≡◌, ◌≢◌, ℕ, zero, suc, ◌<◌, ◌≤◌, ◌-◌, ◌^◌, List, [], ◌∷◌, ◌++◌, length, map, refl, sym, ap, subst, ◌∙◌, inl, arith, append_assoc, append-nil, take, drop, Bool}
 use Rattle.std.specs.List.{AllByRecursion, AllZip}
 use Rattle.std.specs.declared.cmp.Ordering.TheVariants.{Less}
+use Rattle.std.proofs.lemmas.List.{take_all}
 use Rattle.crs_base.specs.declared.symbols.Sym.{Sym}
 use Rattle.crs_base.specs.Words.{IsIn, Ordered}
-use Rattle.crs_base.specs.Entry.{Entry, entry_cmp}
+use Rattle.crs_base.specs.Entry.{Entry, entry_cmp, IsInKeyOrder}
 use Rattle.crs_base.proofs.Words.{in_from_each}
+use Rattle.crs_base.proofs.Alls.{all_left, all_right, all_append, all_each}
+use Rattle.crs_base.proofs.KeyOrder.{in_dates}
 use Rattle.crs_model.specs.declared.plan.Plan.{Plan}
 use Rattle.crs_model.specs.declared.recognition.Mark.{Mark}
 use Rattle.crs_model.specs.declared.recognition.Recognition.{Recognition}
@@ -17,13 +20,13 @@ use Rattle.crs_model.specs.Seen.{assignment_of}
 use Rattle.crs_store.specs.Stores.{StoreState, Stands}
 use Rattle.crs_store.specs.Answers.{IsAnswer, IsMarked}
 use Rattle.std.specs.Prelude.{ℤ, pos, ◌≤ℤ◌, false, Result, Ok, Err, IfOk, OnOk}
-use Rattle.crs_history.specs.Histories.{HistoryState, IsInKeyOrder}
+use Rattle.crs_history.specs.Histories.{HistoryState}
 use Rattle.crs_model.specs.Models.{Chronicle}
 use Rattle.crs_engine.specs.declared.refused.Refused.{Refused}
 use Rattle.crs_engine.specs.Engines.{HasMoved, EngineState, StandsFor, HaveNumbersBelow, IsStoreAt, AreStoresOf, IsWaiting, IsEngine, plans_of, since}
 use Rattle.crs_engine.specs.Marks.{ListsNew, ListsAllNew, AfterMark}
 use Rattle.crs_engine.specs.Moves.{AreSameStores, AreOffered, AreOfferedAll, AreAdvanced, AreMarked, IsRestOf}
-use Rattle.crs_engine.proofs.Order.{ordered_left, ordered_right, ordered_cross, each_parts, each_join, each_to, in_dates, before_parts, since_parts}
+use Rattle.crs_engine.proofs.Order.{ordered_left, ordered_right, ordered_cross, before_parts, since_parts}
 
 abbrev pub AllStand : List StoreState → List (Entry Sym) → List (Entry Sym) → ℕ → ℕ → Type 0
 AllStand ss was pool d g = AllByRecursion (λ s. Stands s was pool pool d g) ss
@@ -124,10 +127,10 @@ module _ (seen new : EngineState) (mark : Mark) (answer : List Recognition) (sam
   apart = ordered_left (λ a b. a.arrival ≢ b.arrival) (s ++ (marked.settled).done) new.waiting numbered.distinct
 
   done_after : AllByRecursion (λ x. seen.horizon ≤ x.date) (marked.settled).done
-  done_after = (each_parts (λ x. seen.horizon ≤ x.date) (marked.settled).done new.waiting (subst (λ (t : List (Entry Sym)). AllByRecursion (λ x. seen.horizon ≤ x.date) t) parted stands.waiting_after)).0
+  done_after = all_left (λ x. seen.horizon ≤ x.date) (marked.settled).done new.waiting (subst (λ (t : List (Entry Sym)). AllByRecursion (λ x. seen.horizon ≤ x.date) t) parted stands.waiting_after)
 
   all_before : AllByRecursion (λ x. x.date < new.horizon) (s ++ (marked.settled).done)
-  all_before = each_join (λ x. x.date < new.horizon) s (marked.settled).done (each_to (λ x. x.date < seen.horizon) (λ x. x.date < new.horizon) (λ x l. omega arith) s stands.settled_before) (marked.settled).done_before
+  all_before = all_append (λ x. x.date < new.horizon) s (marked.settled).done (all_each {P = λ x. x.date < seen.horizon} s (λ x l. omega arith) stands.settled_before) (marked.settled).done_before
 
   offers : (e : ℕ) × AllStand marked.between s (s ++ (marked.settled).done) e seen.horizon × (e ≤ new.horizon)
   offers = offered_all (marked.settled).done seen.stores marked.between s s seen.horizon seen.horizon new.horizon (all_stand s seen.horizon (plans_of seen.plans) seen.stores stands.stores) (marked.settled).offered apart done_after
@@ -170,26 +173,20 @@ drop_all [] (suc n) e = refl
 drop_all (x ∷ xs) zero e = absurd (omega arith)
 drop_all (x ∷ xs) (suc n) e = drop_all xs n (omega arith)
 
-take_all : (xs : List StoreState) (n : ℕ) → n ≡ length xs → take n xs ≡ xs
-take_all [] zero e = refl
-take_all [] (suc n) e = refl
-take_all (x ∷ xs) zero e = absurd (omega arith)
-take_all (x ∷ xs) (suc n) e = ap (λ (t : List StoreState). x ∷ t) (take_all xs n (omega arith))
-
 -- the history once the settled entries are added
 pub history_before : (h g : ℕ) (past now : HistoryState) (olds news : List StoreState) (held rest : List (Entry Sym)) (mark : Mark) (answer : List Recognition) → AllByRecursion (λ x. x.date < g) past.entries → g ≤ h → AreMarked h mark olds past held news now rest answer → AllByRecursion (λ x. x.date < h) now.entries
 history_before h g past now olds news held rest mark answer before_g later m =
     subst (λ (t : List (Entry Sym)). AllByRecursion (λ x. x.date < h) t) (sym (m.settled).kept)
-    (each_join (λ x. x.date < h) past.entries (m.settled).done (each_to (λ x. x.date < g) (λ x. x.date < h) (λ x l. omega arith) past.entries before_g) (m.settled).done_before)
+    (all_append (λ x. x.date < h) past.entries (m.settled).done (all_each {P = λ x. x.date < g} past.entries (λ x l. omega arith) before_g) (m.settled).done_before)
 
 -- a slice of all stores is written back whole
 pub written_back : (olds news : List StoreState) (n : ℕ) → n ≡ length olds → AreSameStores olds news → take n (news ++ drop (length news) olds) ≡ news
 written_back olds news n e same =
     let l = same_length olds news same in
-    ap (λ (t : List StoreState). take n (news ++ t)) (drop_all olds (length news) l) ∙ ap (take n) (append-nil news) ∙ take_all news n (e ∙ sym l)
+    ap (λ (t : List StoreState). take n (news ++ t)) (drop_all olds (length news) l) ∙ ap (take n) (append-nil news) ∙ take_all n news (let q : n ≡ length news = e ∙ sym l in omega (arith, q))
 
 pub rest_waiting : (n : ℕ) (held rest : List (Entry Sym)) → AllByRecursion (IsWaiting n) held → IsRestOf held rest → AllByRecursion (IsWaiting n) rest
-rest_waiting n held rest h r = (each_parts (IsWaiting n) r.0 rest (subst (AllByRecursion (IsWaiting n)) r.1 h)).1
+rest_waiting n held rest h r = all_right (IsWaiting n) r.0 rest (subst (AllByRecursion (IsWaiting n)) r.1 h)
 
 pub engine_on : (seen : EngineState) (news : List StoreState) (now : HistoryState) (rest : List (Entry Sym)) (t h : ℕ) (stopped : Bool) → IsEngine seen → AreSameStores seen.stores news → IsRestOf seen.waiting rest → h ≤ 2 ^ 42 → (t < 2 ^ 40 → h ≤ t - seen.delay) →
     IsInKeyOrder (now.entries ++ rest) → now.floor ≡ seen.history.floor → (stopped ≡ false → AllByRecursion (λ x. x.date < h) now.entries) →

@@ -1,9 +1,8 @@
 -- Entries in key order, and parted at a date.
-use Rattle.std.proofs.Common.{◌≡◌, ◌≢◌, ℕ, ◌<◌, ◌≤◌, List, [], ◌∷◌, ◌++◌, refl, sym, ap, subst, ◌∙◌, inl, inr, cond, not, Bool, true, false, ◌==◌}
+use Rattle.std.proofs.Common.{◌≡◌, ◌≢◌, ℕ, ◌<◌, ◌≤◌, List, [], ◌∷◌, ◌++◌, refl, sym, ap, subst, ◌∙◌, inl, inr, cond, not, Bool, true, false}
 use Rattle.std.specs.List.{AllByRecursion}
-use Rattle.std.specs.Ordering.{is_lt, ordering_then, nat_cmp}
-use Rattle.std.specs.Cmp.Lexicographic.{slice_cmp}
-use Rattle.std.specs.declared.cmp.Ordering.TheVariants.{Less, Equal, Greater}
+use Rattle.std.specs.Ordering.{is_lt}
+use Rattle.std.specs.declared.cmp.Ordering.TheVariants.{Equal}
 use Rattle.std.proofs.lemmas.Bool.{lt-ltb, le-ltb}
 use Rattle.crs_base.specs.declared.symbols.Sym.{Sym}
 use Rattle.crs_base.specs.Words.{IsIn, Ordered}
@@ -13,7 +12,6 @@ use Rattle.crs_base.proofs.KeyOrder.{key_exact}
 use Rattle.crs_model.specs.Matching.{AreDistinct}
 use Rattle.crs_model.specs.Order.{put_in_order}
 use Rattle.crs_model.specs.Open.{before}
-use Rattle.crs_buffer.proofs.Sorted.{date_of_less}
 use Rattle.crs_engine.specs.Engines.{since}
 
 -- ---- parts of an ordered list
@@ -40,32 +38,10 @@ module _ {A : Type 0} (R : A → A → Type 0) where
     ordered_without xs y ys h.1,
   )
 
-  pub ordered_to : (Q : A → A → Type 0) → ((x y : A) → R x y → Q x y) → (xs : List A) → Ordered R xs → Ordered Q xs
-  ordered_to Q f [] h = tt
-  ordered_to Q f (x ∷ xs) h = (each_from_in (Q x) xs (λ y i. f x y (in_from_each (R x) xs h.0 y i)), ordered_to Q f xs h.1)
-
-pub each_parts : {A : Type 0} (P : A → Type 0) (xs ys : List A) → AllByRecursion P (xs ++ ys) → AllByRecursion P xs × AllByRecursion P ys
-each_parts P [] ys h = (tt, h)
-each_parts P (x ∷ xs) ys h = let r = each_parts P xs ys h.1 in ((h.0, r.0), r.1)
-
-pub each_join : {A : Type 0} (P : A → Type 0) (xs ys : List A) → AllByRecursion P xs → AllByRecursion P ys → AllByRecursion P (xs ++ ys)
-each_join P [] ys h k = k
-each_join P (x ∷ xs) ys h k = (h.0, each_join P xs ys h.1 k)
-
-pub each_to : {A : Type 0} (P Q : A → Type 0) → ((x : A) → P x → Q x) → (xs : List A) → AllByRecursion P xs → AllByRecursion Q xs
-each_to P Q f [] h = tt
-each_to P Q f (x ∷ xs) h = (f x h.0, each_to P Q f xs h.1)
-
 -- ---- keys
-
-pub less_by_date : (a b : Entry Sym) → a.date < b.date → entry_cmp a b ≡ Less
-less_by_date a b l = ap (λ (t : Bool). ordering_then (cond t Less (cond (a.date == b.date) Equal Greater)) (ordering_then (slice_cmp nat_cmp a.text b.text) (nat_cmp a.arrival b.arrival))) (lt-ltb a.date b.date l)
 
 pub keys_differ : (a b : Entry Sym) → (a.arrival ≡ b.arrival → ⊥) → entry_cmp a b ≡ Equal → ⊥
 keys_differ a b never e = never (ap (λ (k : Key). k.arrival) (key_exact (key_of a) (key_of b) e))
-
-pub in_dates : (es : List (Entry Sym)) → Ordered (λ x y. entry_cmp x y ≡ Less) es → Ordered (λ x y. x.date ≤ y.date) es
-in_dates es h = ordered_to (λ x y. entry_cmp x y ≡ Less) (λ x y. x.date ≤ y.date) date_of_less es h
 
 -- ---- one more in order
 

@@ -4,13 +4,14 @@ use Rattle.std.specs.Prelude.{Some, None}
 use Rattle.std.specs.List.{AllByRecursion}
 use Rattle.std.proofs.lemmas.Bool.{ltb-true}
 use Rattle.crs_base.specs.declared.symbols.Sym.{Sym}
-use Rattle.crs_base.specs.Entry.{Entry, entry_cmp}
+use Rattle.crs_base.specs.Entry.{Entry, entry_cmp, IsInKeyOrder}
 use Rattle.crs_base.proofs.Words.{each_from_in}
+use Rattle.crs_base.proofs.Alls.{all_put}
 use Rattle.std.specs.declared.cmp.Ordering.TheVariants.{Less}
 use Rattle.crs_model.specs.declared.recognition.Mark.{Mark}
 use Rattle.crs_model.specs.declared.recognition.Recognition.{Recognition}
 use Rattle.crs_buffer.specs.Entries.{released, left}
-use Rattle.crs_history.specs.Histories.{HistoryState, EndsWith, IsAfterAll, IsInKeyOrder, StandsFor}
+use Rattle.crs_history.specs.Histories.{HistoryState, EndsWith, IsAfterAll, StandsFor}
 use Rattle.crs_store.specs.Stores.{StoreState, IsSameStore}
 use Rattle.crs_store.specs.Answers.{IsAdvanced}
 use Rattle.crs_engine.specs.Moves.{AreSameStores, AreOffered, AreOfferedAll, AreSettled, IsRestOf, AreAdvanced}
@@ -31,10 +32,6 @@ same_on (x ∷ xs) (y ∷ ys) (z ∷ zs) h k = (record { plan = (k.0).plan ∙ (
 offered_more : (olds : List StoreState) (xs : List (Entry Sym)) (x : Entry Sym) (news next : List StoreState) → AreOfferedAll olds xs news → AreOffered news x next → AreOfferedAll olds (xs ++ x ∷ []) next
 offered_more olds [] x news next h k = (next, subst (λ (t : List StoreState). AreOffered t x next) h k, refl)
 offered_more olds (y ∷ xs) x news next h k = (h.0, h.1, offered_more h.0 xs x news next h.2 k)
-
-each_more : {A : Type 0} (P : A → Type 0) (xs : List A) (x : A) → AllByRecursion P xs → P x → AllByRecursion P (xs ++ x ∷ [])
-each_more P [] x h p = (p, tt)
-each_more P (y ∷ xs) x h p = (h.0, each_more P xs x h.1 p)
 
 abbrev pub IsSmall : Entry Sym → Type 0
 IsSmall x = x.date < 2 ^ 40
@@ -132,7 +129,7 @@ module _ (olds : List StoreState) (past : HistoryState) (held : List (Entry Sym)
         small = (subst (AllByRecursion IsSmall) cut so.small).1;
         done = so.done ++ x ∷ [];
         parted = parted_more;
-        done_before = each_more (λ y. y.date < h) so.done x so.done_before (came_out rest h x e).1;
+        done_before = all_put (λ y. y.date < h) so.done x so.done_before (came_out rest h x e).1;
         kept = entries_are ∙ ap (λ (t : List (Entry Sym)). t ++ x ∷ []) so.kept ∙ append_assoc past.entries so.done (x ∷ []);
         stands = stands_with;
         order = order_with;

@@ -4,11 +4,11 @@ use Rattle.std.specs.List.{AllByRecursion, AllZip}
 use Rattle.std.specs.declared.cmp.Ordering.TheVariants.{Less}
 use Rattle.crs_base.specs.declared.symbols.Sym.{Sym}
 use Rattle.crs_base.specs.Words.{IsIn, Ordered}
-use Rattle.crs_base.specs.Entry.{Entry, entry_cmp}
+use Rattle.crs_base.specs.Entry.{Entry, entry_cmp, IsInKeyOrder}
 use Rattle.crs_model.specs.declared.plan.Plan.{Plan}
 use Rattle.crs_model.specs.declared.plan.Plans.{Plans}
 use Rattle.crs_model.specs.Matching.{AreDistinct}
-use Rattle.crs_history.specs.Histories.{HistoryState, IsInKeyOrder, StandsFor as HistoryStandsFor}
+use Rattle.crs_history.specs.Histories.{HistoryState, StandsFor as HistoryStandsFor}
 use Rattle.crs_store.specs.Stores.{StoreState, Stands}
 
 -- an engine, as contracts see it

@@ -6,7 +6,7 @@ ghost use Rattle.crs_base.specs.Seen.{entry_of};
 ghost use Rattle.crs_model.specs.Order.{put_in_order};
 ghost use Rattle.crs_model.specs.Plans.{chronicle, IsProper};
 ghost use Rattle.crs_model.specs.declared.recognition.Mark.TheVariants.{Clock, Finish};
-ghost use Rattle.crs_engine.specs.Engines.{EngineState, StandsFor, IsNewEngine, HasAccepted, HasMoved, kept_of, plans_of};
+ghost use Rattle.crs_engine.specs.Engines.{EngineState, StandsFor, IsNewEngine, HasAccepted, HasMoved, kept_of};
 ghost use Rattle.crs_engine.specs.Refusals.{test_refusal, accept_refusal, clock_refusal, finish_refusal, answer_by, IsRefusedAs};
 ghost use Rattle.crs_engine.specs.Marks.{AfterMark};
 ghost use Rattle.crs_engine.specs.declared.refused.Refused.{Refused};

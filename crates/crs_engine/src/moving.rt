@@ -1,10 +1,11 @@
 ghost use Rattle.std.specs.Prelude.{◌≡◌, ◌<◌, ◌≤◌, ◌≤ℤ◌, ◌^◌, ◌++◌, pos, OnOk, OnErr, IfOk, List as Items};
 ghost use Rattle.std.specs.List.{AllByRecursion};
+ghost use Rattle.crs_base.specs.Entry.{IsInKeyOrder};
 ghost use Rattle.crs_base.specs.Seen.{entry_of};
-ghost use Rattle.crs_history.specs.Histories.{EndsWith, IsInKeyOrder};
+ghost use Rattle.crs_history.specs.Histories.{EndsWith};
 ghost use Rattle.crs_model.specs.declared.recognition.Recognition.{Recognition};
 ghost use Rattle.crs_engine.specs.Moves.{AreSameStores, AreOffered, AreSettled, IsRestOf, AreAdvanced, AreMarked};
-ghost use Rattle.crs_buffer.specs.Entries.{Ascends, IsNewKey};
+ghost use Rattle.crs_buffer.specs.Entries.{IsNewKey};
 ghost use Rattle.crs_model.specs.Order.{put_in_order};
 
 use crate::refused::NoMemory;
@@ -140,7 +141,7 @@ pub(crate) fn mark_all<L: Ledger>(
 /// Puts the entry into the buffer.
 pub(crate) fn hold(alloc: Global, buffer: &mut Buffer, entry: Entry) -> Result<(), AllocError>
     ensures ok { IsNewKey (entry_of entry) buffer.old → OnOk result (buffer.new ≡ put_in_order (entry_of entry) buffer.old) }
-    ensures sorted { OnOk result (Ascends buffer.new) }
+    ensures sorted { OnOk result (IsInKeyOrder buffer.new) }
     ensures err { OnErr result (buffer.new ≡ buffer.old) }
 {
     buffer.put(Rc::new(alloc, entry)?)

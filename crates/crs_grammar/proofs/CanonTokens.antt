@@ -5,7 +5,7 @@ use Rattle.std.specs.Fmt.{signed_decimal}
 use Rattle.std.specs.List.{AllByRecursion, flat_map, list_all, prefix_len}
 use Rattle.std.specs.Int.Digits.{digits_of, AllBelowBase, number_from_digits_after}
 use Rattle.std.specs.Int.RustNames.{unsigned_abs}
-use Rattle.std.proofs.lemmas.Bool.{le-leb}
+use Rattle.std.proofs.lemmas.Bool.{le-leb, and_parts}
 use Rattle.std.proofs.lemmas.Fmt.{decimal-digits_of, decimal_digit}
 use Rattle.std.proofs.lemmas.Int.Digits.{all_below_base_digits_of, number_digits_of, length-digits_of-le, first_digits_of}
 use Rattle.std.proofs.lemmas.List.{length-map}
@@ -18,8 +18,8 @@ use Rattle.crs_grammar.specs.Canon.{part_text}
 use Rattle.crs_grammar.specs.Forms.{Part, Keyword, Sign, Symbol, Number, Integer, Gap, Missing, AreWritten, term_form, terms_form, change_form, pattern_form, shift_form, anchor_form, listed, symbol_form, values_form, level_form, values_in_form, low_part, high_part, most_part, body_form, span_form, form_of}
 use Rattle.crs_grammar.specs.Laws.{IsWritable, CanonicalIsRead}
 use Rattle.crs_grammar.specs.Statements.{Term, Value, Variable, Any, Pattern, Shift, Here, Later, Earlier, Anchor, Body, NoEvent, Occurs, Hold, Statement, Message, Attribute, Begin, Happens, Point, Between, Among, Differ, Over, Close, is_inside}
-use Rattle.crs_grammar.proofs.Decided.{and_true}
 use Rattle.crs_grammar.proofs.TakesStatements.{meant_is_read}
+use Rattle.crs_grammar.proofs.Gives.{range_shape, hold_shape}
 
 -- Numbers.
 
@@ -68,7 +68,7 @@ not_minus c h = by (c == 45) refl
 integer_numeral : (n : ℕ) (w : List ℕ) → IsNumeralOf n w → integer_of w ≡ Some (pos n)
 integer_numeral n [] h = let k = h.some in absurd (omega arith)
 integer_numeral n (c ∷ cs) h =
-    let d = and_true (is_digit c) (list_all is_digit cs) h.digits in
+    let d = and_parts (is_digit c) (list_all is_digit cs) h.digits in
     (λ i. cond (not_minus c d.0 i) (option_map (λ n. neg_ℤ (pos n)) (number_of cs)) (option_map pos (number_of (c ∷ cs)))) ∙ ap (option_map pos) h.is
 
 -- Words.
@@ -82,7 +82,7 @@ digit_symbol c h = ap (λ a. a || (nat_le 65 c && nat_le c 90) || (nat_le 97 c &
 
 digits_symbols : (w : List ℕ) → list_all is_digit w ≡ true → list_all is_symbol_byte w ≡ true
 digits_symbols [] h = refl
-digits_symbols (c ∷ cs) h = let d = and_true (is_digit c) (list_all is_digit cs) h in (λ i. digit_symbol c d.0 i && digits_symbols cs d.1 i)
+digits_symbols (c ∷ cs) h = let d = and_parts (is_digit c) (list_all is_digit cs) h in (λ i. digit_symbol c d.0 i && digits_symbols cs d.1 i)
 
 numeral_word : (n : ℕ) (w : List ℕ) → IsNumeralOf n w → IsWordText w
 numeral_word n w h = record { some = h.some; bytes = digits_symbols w h.digits }
@@ -104,7 +104,7 @@ prefix_front : (w rest : List ℕ) → list_all is_symbol_byte w ≡ true → be
 prefix_front [] [] h k = refl
 prefix_front [] (c ∷ cs) h k = λ i. cond (k i) (1 + prefix_len is_symbol_byte cs) 0
 prefix_front (b ∷ w) rest h k =
-    let p = and_true (is_symbol_byte b) (list_all is_symbol_byte w) h in
+    let p = and_parts (is_symbol_byte b) (list_all is_symbol_byte w) h in
     (λ i. cond (p.0 i) (1 + prefix_len is_symbol_byte (w ++ rest)) 0) ∙ one-add (prefix_len is_symbol_byte (w ++ rest)) ∙ ap suc (prefix_front w rest p.1 k)
 
 take_front : (w rest : List ℕ) → take (length w) (w ++ rest) ≡ w
@@ -122,7 +122,7 @@ read bs = tokens_behind is_model_mark false bs
 front_word : (w rest : List ℕ) → IsWordText w → begins_word rest ≡ false → read (w ++ rest) ≡ option_map (λ ts. Word w ∷ ts) (read rest)
 front_word [] rest h k = let s = h.some in absurd (omega arith)
 front_word (b ∷ w) rest h k =
-    let p = and_true (is_symbol_byte b) (list_all is_symbol_byte w) h.bytes in
+    let p = and_parts (is_symbol_byte b) (list_all is_symbol_byte w) h.bytes in
     let n = prefix_front (b ∷ w) rest h.bytes k in
     word_front is_model_mark b (w ++ rest) p.0
     ∙ (λ i. option_map (λ ts. Word (take (n i) (b ∷ w ++ rest)) ∷ ts) (read (drop (n i) (b ∷ w ++ rest))))
@@ -280,9 +280,6 @@ shift_then (Earlier n) rest h b = (tt, tt, (refl, record { some = omega arith; b
 anchor_then : (a : Anchor) (rest : List Part) → Any_ rest → Parted false (anchor_form a ++ rest)
 anchor_then a rest h = (refl, tt, shift_then a.shift rest h true)
 
-range_shape : (f t : List Part) → f ++ Sign 44 ∷ Gap ∷ (t ++ Sign 41 ∷ Sign 41 ∷ []) ≡ f ++ Sign 44 ∷ Gap ∷ t ++ Sign 41 ∷ Sign 41 ∷ []
-range_shape f t = simp append_assoc
-
 span_any : (f t : Anchor) → Any_ (span_form f t)
 span_any f t b = (
   tt,
@@ -315,9 +312,6 @@ low_parted (Some z) rest h = (refl, tt, h)
 high_parted : (z : Option ℤ) (rest : List Part) → Parted true rest → Parted false (high_part z ∷ rest)
 high_parted None rest h = (refl, record { some = omega arith; bytes = refl }, h)
 high_parted (Some z) rest h = (refl, tt, h)
-
-hold_shape : (xs ys zs : List Part) → xs ++ Sign 58 ∷ Gap ∷ (ys ++ zs) ≡ (xs ++ Sign 58 ∷ Gap ∷ ys) ++ zs
-hold_shape xs ys zs = simp append_assoc
 
 body_then : (b : Body) (rest : List Part) → Any_ rest → Parted false (body_form b ++ rest)
 body_then (NoEvent p) rest h = (refl, record { some = omega arith; bytes = refl }, (tt, (refl, refl, refl), pattern_then p rest h))

@@ -188,3 +188,10 @@ pattern_gives ts p back rest e h =
     (subst (λ ps. AreWritten ps a.0.1) (sym (append_assoc (terms_form b.0.0) (change_form d.0.0) rest))
     (arguments_give a.0.1 b.0.0 b.0.1 (change_form d.0.0 ++ rest) b.1
     (change_gives b.0.1 d.0.0 d.0.1 rest d.1 (subst (AreWritten rest) (sym q.1) h)))))
+
+-- how two anchors and what holds are written, bracketed in two ways
+pub range_shape : (f t : List Part) → f ++ Sign 44 ∷ Gap ∷ (t ++ Sign 41 ∷ Sign 41 ∷ []) ≡ f ++ Sign 44 ∷ Gap ∷ t ++ Sign 41 ∷ Sign 41 ∷ []
+range_shape f t = simp append_assoc
+
+pub hold_shape : (xs ys zs : List Part) → xs ++ Sign 58 ∷ Gap ∷ (ys ++ zs) ≡ (xs ++ Sign 58 ∷ Gap ∷ ys) ++ zs
+hold_shape xs ys zs = simp append_assoc

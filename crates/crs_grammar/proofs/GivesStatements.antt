@@ -4,13 +4,13 @@ use Rattle.std.specs.Prelude.{bytes_eq, codes}
 use Rattle.crs_base.specs.Symbols.{is_symbol}
 use Rattle.crs_base.specs.Tokens.{Token, Word, Mark}
 use Rattle.crs_base.specs.Numbers.{number_of, integer_of}
+use Rattle.crs_base.proofs.Texts.{bytes_same}
 use Rattle.crs_grammar.specs.Forms.{Part, Keyword, Sign, Symbol, Number, Integer, Gap, AreWritten, term_form, terms_form, pattern_form, anchor_form, listed, symbol_form, values_form, level_form, values_in_form, low_part, high_part, most_part, span_form, form_of}
 use Rattle.crs_grammar.specs.Statements.{Event, Anchor, Body, NoEvent, Occurs, Hold, Statement, Message, Attribute, Begin, Happens, Point, Between, Among, Differ, Over, Close, is_inside}
 use Rattle.crs_grammar.specs.Reading.{◌>>=◌, whole, symbol_at, number_at, keyword_at, closed_at, values_on, span_of, level_of, event_of, noevent_of, most_at, occurs_of, hold_of, end_at, distance_of, values_of, differ_of, of_variable, variable_of, called_of, point_of, worded_of, inside_of, attribute_of, named_of, outside_of}
 use Rattle.crs_grammar.specs.Laws.{ReadIsMeant}
-use Rattle.crs_grammar.proofs.Gives.{then, cond_passed, cond_either, some_inj, same_pair, option_map_some, symbol_gives, sign_gives, number_gives, term_gives, closed_gives, comma_gives, arguments_give, pattern_gives}
+use Rattle.crs_grammar.proofs.Gives.{then, cond_passed, cond_either, some_inj, same_pair, option_map_some, symbol_gives, sign_gives, number_gives, term_gives, closed_gives, comma_gives, arguments_give, pattern_gives, range_shape, hold_shape}
 use Rattle.crs_grammar.proofs.GivesAnchors.{anchor_gives}
-use Rattle.crs_grammar.proofs.Decided.{bytes_same}
 
 pub whole_is : {A : Type 0} (x y : A) (ts : List Token) → whole x ts ≡ Some y → (x ≡ y) × AreWritten [] ts
 whole_is x y [] e = (some_inj x y e, tt)
@@ -26,9 +26,6 @@ keyword_gives k (Word w ∷ ts) back rest e h =
 -- what a body's form and a range write
 abbrev SpanOf : Body → Statement → List Token → Type 0
 SpanOf body s ts = (from : Anchor) × (to : Anchor) × (s ≡ Over (record { body = body; from = from; to = to })) × AreWritten (span_form from to) ts
-
-range_shape : (f t : List Part) → f ++ Sign 44 ∷ Gap ∷ (t ++ Sign 41 ∷ Sign 41 ∷ []) ≡ f ++ Sign 44 ∷ Gap ∷ t ++ Sign 41 ∷ Sign 41 ∷ []
-range_shape f t = simp append_assoc
 
 span_gives : (body : Body) (ts : List Token) (s : Statement) → span_of body ts ≡ Some s → SpanOf body s ts
 unfolding span_of
@@ -121,9 +118,6 @@ occurs_called k ts s is e =
         ),
       ),
     )
-
-hold_shape : (xs ys zs : List Part) → xs ++ Sign 58 ∷ Gap ∷ (ys ++ zs) ≡ (xs ++ Sign 58 ∷ Gap ∷ ys) ++ zs
-hold_shape xs ys zs = simp append_assoc
 
 hold_called : (k : List ℕ) (ts : List Token) (s : Statement) → k ≡ codes "hold" → hold_of ts ≡ Some s → IsCalled k s ts
 unfolding hold_of

@@ -1,4 +1,3 @@
-pub mod Decided
 pub mod Gives
 pub mod GivesAnchors
 pub mod GivesStatements

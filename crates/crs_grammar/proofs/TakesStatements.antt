@@ -4,12 +4,13 @@ use Rattle.std.specs.Prelude.{bytes_eq, codes}
 use Rattle.crs_base.specs.Symbols.{is_symbol}
 use Rattle.crs_base.specs.Tokens.{Token, Word, Mark}
 use Rattle.crs_base.specs.Numbers.{number_of, integer_of}
+use Rattle.crs_base.proofs.Texts.{bytes_same, same_bytes}
 use Rattle.crs_grammar.specs.Forms.{Part, Keyword, Sign, Symbol, Number, Integer, Gap, Missing, AreWritten, term_form, terms_form, change_form, pattern_form, shift_form, anchor_form, listed, symbol_form, values_form, level_form, values_in_form, low_part, high_part, most_part, body_form, span_form, form_of}
 use Rattle.crs_grammar.specs.Statements.{Term, Pattern, Event, Shift, Here, Later, Earlier, Anchor, Body, NoEvent, Occurs, Hold, Distance, Statement, Message, Attribute, Begin, Happens, Point, Between, Among, Differ, Over, Close, is_inside}
 use Rattle.crs_grammar.specs.Reading.{◌>>=◌, whole, symbol_at, number_at, mark_at, keyword_at, terms_on, arguments_at, pair_at, change_at, pattern_at, shift_at, anchor_at, span_of, level_of, event_of, noevent_of, most_at, occurs_of, hold_of, end_at, distance_of, values_of, differ_of, of_variable, variable_of, called_of, point_of, worded_of, inside_of, attribute_of, named_of, outside_of}
 use Rattle.crs_grammar.specs.Laws.{MeantIsRead}
-use Rattle.crs_grammar.proofs.Decided.{same_bytes, bytes_same}
 use Rattle.crs_grammar.proofs.Takes.{on, Listed, symbol_takes, number_takes, sign_takes, keyword_takes, term_takes, terms_take, values_take}
+use Rattle.crs_grammar.proofs.Gives.{range_shape}
 
 -- the reader gives x, and the tokens behind it write the rest
 record Listed2 {A : Type 0} (o : Option (A × List Token)) (x : A) (rest : List Part) (back : List Token) : Type 0 where
@@ -99,15 +100,12 @@ nothing_left : {A : Type 0} (x : A) (ts : List Token) → AreWritten [] ts → w
 nothing_left x [] h = refl
 nothing_left x (t ∷ ts) h = absurd h
 
-range_shape : (f t : List Part) → f ++ Sign 44 ∷ Gap ∷ t ++ Sign 41 ∷ Sign 41 ∷ [] ≡ f ++ Sign 44 ∷ Gap ∷ (t ++ Sign 41 ∷ Sign 41 ∷ [])
-range_shape f t = simp append_assoc
-
 span_takes : (body : Body) (f t : Anchor) (ts : List Token) → AreWritten (span_form f t) ts → span_of body ts ≡ Some (Over (record { body = body; from = f; to = t }))
 unfolding span_of
 span_takes body f t ts h =
     let a = sign_takes 44 ts (Gap ∷ Sign 40 ∷ anchor_form f ++ Sign 44 ∷ Gap ∷ anchor_form t ++ Sign 41 ∷ Sign 41 ∷ []) h in
     let b = sign_takes 40 a.0 (anchor_form f ++ Sign 44 ∷ Gap ∷ anchor_form t ++ Sign 41 ∷ Sign 41 ∷ []) a.1.left in
-    let x = anchor_takes f 44 b.0 (Gap ∷ (anchor_form t ++ Sign 41 ∷ Sign 41 ∷ [])) refl (subst (λ ps. AreWritten ps b.0) (range_shape (anchor_form f) (anchor_form t)) b.1.left) in
+    let x = anchor_takes f 44 b.0 (Gap ∷ (anchor_form t ++ Sign 41 ∷ Sign 41 ∷ [])) refl (subst (λ ps. AreWritten ps b.0) (sym (range_shape (anchor_form f) (anchor_form t))) b.1.left) in
     let c = sign_takes 44 x.0 (Gap ∷ (anchor_form t ++ Sign 41 ∷ Sign 41 ∷ [])) x.1.left in
     let y = anchor_takes t 41 c.0 (Sign 41 ∷ []) refl c.1.left in
     let d = sign_takes 41 y.0 (Sign 41 ∷ []) y.1.left in

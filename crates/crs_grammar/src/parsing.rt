@@ -1,4 +1,4 @@
-ghost use Rattle.std.specs.Prelude.{◌≡◌, ◌<◌, length, map};
+ghost use Rattle.std.specs.Prelude.{◌<◌, map};
 ghost use Rattle.crs_grammar.specs.Gives.{Gives};
 ghost use Rattle.crs_grammar.specs.Reading.{symbol_at, number_at, mark_at, whole, term_at, closed_at, terms_on, values_on, arguments_at, pair_at, change_at, pattern_at, shift_at, anchor_at, span_of, level_of, event_of, noevent_of, most_at, occurs_of, hold_of, keyword_at, end_at, distance_of, values_of, differ_of, of_variable, variable_of, called_of, point_of, worded_of, inside_of, attribute_of, named_of, outside_of, statement_of};
 ghost use Rattle.crs_grammar.specs.SeenTokens.{seen};

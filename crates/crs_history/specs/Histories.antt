@@ -6,7 +6,6 @@ use Rattle.std.specs.declared.rc.Rc.{Rc}
 use Rattle.std.proofs.Common.{Global}
 use Rattle.crs_base.specs.declared.symbols.Sym.{Sym}
 use Rattle.crs_base.specs.declared.entry.Entry.{Entry as CodeEntry}
-use Rattle.crs_base.specs.Words.{Ordered}
 use Rattle.crs_base.specs.Sifted.{Sifts}
 use Rattle.crs_base.specs.Entry.{Entry, entry_cmp}
 use Rattle.crs_base.specs.Seen.{entry_of}
@@ -24,10 +23,6 @@ abbrev pub entries_of : List Shared → List (Entry Sym)
 entries_of items = map (λ r. entry_of r.value) items
 
 module _ {S : Type 0} where
-  -- each entry's key is below those of all later ones
-  abbrev pub IsInKeyOrder : List (Entry S) → Type 0
-  IsInKeyOrder es = Ordered (λ d e. entry_cmp d e ≡ Less) es
-
   -- the entry's key is after theirs
   abbrev pub IsAfterAll : List (Entry S) → Entry S → Type 0
   IsAfterAll es e = AllByRecursion (λ d. entry_cmp d e ≡ Less) es

@@ -1,10 +1,10 @@
 ghost use Rattle.std.specs.Prelude.{◌≡◌, ◌≤◌, ◌≤ℤ◌, ◌<ℤ◌, ◌^◌, pos, neg_ℤ, [], ◌∷◌, ◌++◌, length, drop, vec_len, OnOk, OnErr, List as Items};
 ghost use Rattle.std.specs.Int.{int_max};
 ghost use Rattle.crs_base.specs.declared.symbols.Sym.{Sym};
-ghost use Rattle.crs_base.specs.Entry.{Entry as LogEntry};
+ghost use Rattle.crs_base.specs.Entry.{Entry as LogEntry, IsInKeyOrder};
 ghost use Rattle.crs_base.specs.Seen.{entry_of};
 ghost use Rattle.crs_base.specs.Sifted.{Sifts};
-ghost use Rattle.crs_history.specs.Histories.{IsAfterAll, IsInKeyOrder, IsKept, StandsFor};
+ghost use Rattle.crs_history.specs.Histories.{IsAfterAll, IsKept, StandsFor};
 
 use crate::gathering::{gather, to_date};
 use crs_base::Entry;
@@ -25,7 +25,8 @@ pub struct History {
 }
 
 impl Model for History {
-    ghost use Rattle.crs_history.specs.Histories.{HistoryState, IsInKeyOrder, entries_of};
+    ghost use Rattle.crs_base.specs.Entry.{IsInKeyOrder};
+    ghost use Rattle.crs_history.specs.Histories.{HistoryState, entries_of};
 
     ghost Value = { HistoryState };
 

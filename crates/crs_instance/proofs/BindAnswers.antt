@@ -2,7 +2,7 @@
 use Rattle.std.proofs.Common.{◌≡◌, ◌≢◌, ℕ, zero, suc, ◌<◌, ◌+◌, List, [], ◌∷◌, length, map, refl, sym, ap, subst, ◌∙◌, arith}
 use Rattle.std.specs.Prelude.{ℤ, pos, Option, Some, None, option_map, IfSome, IsSomeAnd, slice_get, slice_index_or, Bool, true, false, IsTrue, ◌↔◌, replicate}
 use Rattle.std.specs.List.{AllByRecursion}
-use Rattle.std.proofs.lemmas.List.{get_or_default}
+use Rattle.std.proofs.lemmas.List.{get_or_default, length-replicate}
 use Rattle.crs_base.specs.declared.symbols.Sym.{Sym}
 use Rattle.crs_stn.specs.Table.{most_of}
 use Rattle.crs_stn.proofs.Partial.{least_of, after}
@@ -19,7 +19,7 @@ use Rattle.crs_model.specs.Bindings.{look_of, PatternIsBelow}
 use Rattle.crs_model.specs.Plans.{chronicle, IsProper}
 use Rattle.crs_base.specs.Seen.{entry_of}
 use Rattle.crs_model.specs.Seen.{event_of, pattern_of}
-use Rattle.crs_model.proofs.Options.{some_if}
+use Rattle.crs_model.proofs.Options.{some_if, none_if}
 use Rattle.crs_base.proofs.Words.{each_from_in}
 use Rattle.crs_instance.specs.Instances.{InstanceState, IsOf, IsInside, CanBe, window_at, no_window, IsBoundBy, seen_entry, partial_of}
 use Rattle.std.specs.declared.rc.Rc.{Rc}
@@ -74,18 +74,10 @@ module _ (plan : Plan) (proper : IsProper plan) (i j : InstanceState) (same : i 
 
 -- ---- nothing bound
 
-none_if : {A : Type 0} (o : Option A) (P : A → Type 0) → o ≡ None → IfSome o P
-none_if None P e = tt
-none_if (Some x) P e = absurd cc
-
-get-replicate : {A : Type 0} (n k : ℕ) (x : A) → slice_index_or (replicate n x) k x ≡ x
+pub get-replicate : {A : Type 0} (n k : ℕ) (x : A) → slice_index_or (replicate n x) k x ≡ x
 get-replicate zero k x = refl
 get-replicate (suc n) zero x = refl
 get-replicate (suc n) (suc k) x = get-replicate n k x
-
-length-replicate : {A : Type 0} (n : ℕ) (x : A) → length (replicate n x) ≡ n
-length-replicate zero x = refl
-length-replicate (suc n) x = ap suc (length-replicate n x)
 
 pub map-none : (n : ℕ) → map seen_entry (replicate n None) ≡ replicate n None
 map-none zero = refl

@@ -11,6 +11,7 @@ use Rattle.crs_base.specs.Entry.{Entry}
 use Rattle.crs_model.specs.Partial.{at, dates_of, CanGoOn}
 use Rattle.crs_model.specs.Plans.{chronicle, IsProper}
 use Rattle.crs_model.specs.Steps.{flat}
+use Rattle.crs_model.proofs.Options.{none_if}
 use Rattle.crs_instance.specs.Instances.{InstanceState, IsOf, IsDeadline, window_at}
 use Rattle.std.specs.Prelude.{option_map}
 use Rattle.crs_stn.specs.Table.{most_of}
@@ -81,10 +82,6 @@ root_goes_on plan proper i of free =
     let late : (r : ℕ) → r < plan.network.points → IsLatest plan.chronicle.bounds (dates_of i.partial) r None = (λ r l.
     subst (λ (o : Option ℤ). IsLatest plan.chronicle.bounds (dates_of i.partial) r o)
     (least_none (λ p. after (dates_of i.partial p) (most_of plan.network p r)) plan.network.points (λ p. ap (λ (o : Option ℤ). after o (most_of plan.network p r)) (dateless p)))
-    (IsLatest-latest plan.chronicle.bounds plan.network.points (most_of plan.network) (dates_of i.partial) proper.within proper.consistent proper.minimal (λ p. if_none (dates_of i.partial p) _ (dateless p)) (λ p q. if_none (dates_of i.partial p) _ (dateless p)) r l)) in
+    (IsLatest-latest plan.chronicle.bounds plan.network.points (most_of plan.network) (dates_of i.partial) proper.within proper.consistent proper.minimal (λ p. none_if (dates_of i.partial p) _ (dateless p)) (λ p q. none_if (dates_of i.partial p) _ (dateless p)) r l)) in
     let joint = joint_demand plan.chronicle.bounds (length i.partial) (dates_of i.partial) (λ r. true) (pos 0) of.dates (λ r k t. late r (let a = of.len in let b = proper.points in omega arith) (pos 0)) in
     (joint.0, joint.1, joint.2, λ f w. joint.3 f w.within refl)
-  where
-    if_none : {A : Type 0} (o : Option A) (P : A → Type 0) → o ≡ None → IfSome o P
-    if_none None P e = tt
-    if_none (Some x) P e = absurd cc

@@ -1,4 +1,4 @@
-ghost use Rattle.std.specs.Prelude.{◌≡◌, ◌≢◌, ◌<◌, ◌≤◌, ◌^◌, ◌==◌, ℕ, ℤ, length, map, replicate, IfOk, OnOk, IfSome, ◌++◌, IsTrue, IsSomeAnd, None, false, is_some};
+ghost use Rattle.std.specs.Prelude.{◌≡◌, ◌≢◌, ◌<◌, ◌≤◌, ◌^◌, ◌==◌, ℕ, length, map, replicate, IfOk, OnOk, IfSome, ◌++◌, IsTrue, IsSomeAnd, None, false, is_some};
 ghost use Rattle.std.specs.List.{list_all};
 ghost use Rattle.std.specs.Option.{option_to_list};
 ghost use Rattle.crs_stn.proofs.Partial.{least_of};
@@ -6,7 +6,7 @@ ghost use Rattle.crs_model.specs.Partial.{at};
 ghost use Rattle.crs_model.specs.Levels.{level_in};
 ghost use Rattle.crs_model.specs.Seen.{event_of};
 ghost use Rattle.crs_instance.specs.Instances.{partial_of, seen_entry, window_at, AreAllEntries};
-ghost use Rattle.crs_instance.specs.Deadlines.{end_of, end_if, bit_of, HasBits};
+ghost use Rattle.crs_instance.specs.Deadlines.{end_of, end_if, HasBits};
 
 use crate::narrowing::earlier;
 use crs_base::{Entry, List};

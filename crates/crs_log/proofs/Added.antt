@@ -4,30 +4,20 @@ use Rattle.std.proofs.Math.ListN.{get_or-append}
 use Rattle.std.proofs.Math.Seq.{get_or-append_seam}
 use Rattle.std.specs.Prelude.{bytes_eq}
 use Rattle.std.specs.List.{list_any, position_or_len}
-use Rattle.std.proofs.lemmas.Slice.Eq.{bytes_eq-Decides}
 use Rattle.std.proofs.lemmas.List.{map-append, take_more}
 use Rattle.std.proofs.lemmas.List.Folds.{list_any-append}
-use Rattle.crs_base.specs.Symbols.{is_known, with_text, text_at}
+use Rattle.std.proofs.Math.Bool.{or-false, or_assoc}
+use Rattle.crs_base.specs.Symbols.{is_known, with_text, text_at, with_texts}
 use Rattle.crs_base.specs.declared.symbols.Sym.{Sym}
-use Rattle.crs_log.specs.Known.{new_texts, with_texts, one_if_new}
+use Rattle.crs_base.proofs.Texts.{bytes_same}
+use Rattle.crs_log.specs.Known.{new_texts, one_if_new}
 use Rattle.crs_model.specs.Renaming.{text_in}
 use Rattle.crs_model.specs.Renaming.{AreKnown}
 
-pub same_bytes : (t x : List ℕ) → bytes_eq t x ≡ true → t ≡ x
-same_bytes t x h = (bytes_eq-Decides t x).0 h
-
-or_false : (b : Bool) → (b || false) ≡ b
-or_false true = refl
-or_false false = refl
-
-or_step : (a b c : Bool) → ((a || b) || c) ≡ (a || (b || c))
-or_step true b c = refl
-or_step false b c = refl
-
 known_by : (K : List (List ℕ)) (t x : List ℕ) (k s : Bool) → is_known K x ≡ k → bytes_eq t x ≡ s → is_known (cond k K (K ++ x ∷ [])) t ≡ (is_known K t || s)
-known_by K t x true true e f = ap (is_known K) (same_bytes t x f) ∙ e ∙ sym (ap (λ b. b || true) (ap (is_known K) (same_bytes t x f) ∙ e))
-known_by K t x true false e f = sym (or_false (is_known K t))
-known_by K t x false s e f = list_any-append (bytes_eq t) K (x ∷ []) ∙ ap (λ b. is_known K t || b) (ap (λ b. b || false) f ∙ or_false s)
+known_by K t x true true e f = ap (is_known K) (bytes_same t x f) ∙ e ∙ sym (ap (λ b. b || true) (ap (is_known K) (bytes_same t x f) ∙ e))
+known_by K t x true false e f = sym (or-false (is_known K t))
+known_by K t x false s e f = list_any-append (bytes_eq t) K (x ∷ []) ∙ ap (λ b. is_known K t || b) (ap (λ b. b || false) f ∙ or-false s)
 
 -- what is known once x is
 pub known_with : (K : List (List ℕ)) (t x : List ℕ) → is_known (with_text K x) t ≡ (is_known K t || bytes_eq t x)
@@ -35,8 +25,8 @@ known_with K t x = known_by K t x (is_known K x) (bytes_eq t x) refl refl
 
 -- what is known once all of these are
 pub known_with_all : (xs K : List (List ℕ)) (t : List ℕ) → is_known (with_texts K xs) t ≡ (is_known K t || list_any (bytes_eq t) xs)
-known_with_all [] K t = sym (or_false (is_known K t))
-known_with_all (x ∷ xs) K t = known_with_all xs (with_text K x) t ∙ ap (λ b. b || list_any (bytes_eq t) xs) (known_with K t x) ∙ or_step (is_known K t) (bytes_eq t x) (list_any (bytes_eq t) xs)
+known_with_all [] K t = sym (or-false (is_known K t))
+known_with_all (x ∷ xs) K t = known_with_all xs (with_text K x) t ∙ ap (λ b. b || list_any (bytes_eq t) xs) (known_with K t x) ∙ or_assoc (is_known K t) (bytes_eq t x) (list_any (bytes_eq t) xs)
 
 pub with_append : (xs ys K : List (List ℕ)) → with_texts K (xs ++ ys) ≡ with_texts (with_texts K xs) ys
 with_append [] ys K = refl
@@ -93,7 +83,7 @@ IsPlaced t xs n = (n < length xs) × (text_at xs n ≡ t)
 
 place_step : (x t : List ℕ) (xs : List (List ℕ)) (b : Bool) → bytes_eq t x ≡ b → (list_any (bytes_eq t) xs ≡ true → IsPlaced t xs (position_or_len (bytes_eq t) xs))
     → (b || list_any (bytes_eq t) xs) ≡ true → IsPlaced t (x ∷ xs) (cond (not b) (1 + position_or_len (bytes_eq t) xs) 0)
-place_step x t xs true e rest h = (omega arith, sym (same_bytes t x e))
+place_step x t xs true e rest h = (omega arith, sym (bytes_same t x e))
 place_step x t xs false e rest h = let k : IsPlaced t xs (position_or_len (bytes_eq t) xs) = rest h in
     subst (λ n. IsPlaced t (x ∷ xs) n) (sym (one-add (position_or_len (bytes_eq t) xs))) (omega (arith, k.0), k.1)
 

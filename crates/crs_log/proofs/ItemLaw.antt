@@ -1,13 +1,14 @@
 -- The item that a line is, and the relation between lines and items.
 use Rattle.std.proofs.Common.{◌≡◌, ℕ, Bool, true, false, cond, ◌&&◌, List, [], ◌∷◌, refl, sym, ap, subst, ◌∙◌, Option, Some, None, option_map, true≢false, eqb-true}
 use Rattle.std.specs.Prelude.{option_and_then, codes, bytes_eq}
+use Rattle.std.proofs.lemmas.Bool.{and_parts}
 use Rattle.crs_base.specs.Symbols.{is_symbol}
 use Rattle.crs_base.specs.Tokens.{Token, Word, Mark, tokens_of}
 use Rattle.crs_log.specs.Items.{log_number_of}
 use Rattle.crs_base.specs.Tokens.{is_log_mark}
+use Rattle.crs_base.proofs.Texts.{bytes_same}
 use Rattle.crs_log.specs.Items.{Item, Delay, Clock, Finish, Happens, Event, Change, more_tokens, args_tokens, change_tokens, AreSymbols, IsChange, IsEvent, IsStatement, IsItem}
 use Rattle.crs_log.specs.ItemOf.{Parted, with_arg, symbol_of, is_mark, more_of, args_of, pair_of, change_of, event_with, event_of, number_in, statement_of, item_of}
-use Rattle.crs_log.proofs.Added.{same_bytes}
 
 module _ {A B : Type 0} where
   mapped : (f : A → B) (o : Option A) (y : B) → option_map f o ≡ Some y → (x : A) × (o ≡ Some x) × (f x ≡ y)
@@ -84,10 +85,6 @@ ReadsChange ts c = (ts ≡ change_tokens c) × IsChange c
 change_same : (p q : Option Change) → Some p ≡ Some q → p ≡ q
 change_same p q e = cc
 
-and_both : (a b : Bool) → (a && b) ≡ true → (a ≡ true) × (b ≡ true)
-and_both true b e = (refl, e)
-and_both false b e = absurd (true≢false (sym e))
-
 pair_sound : (o n : Option (List ℕ)) (c : Option Change) → pair_of o n ≡ Some c → (x : Change) × (o ≡ Some x.0) × (n ≡ Some x.1) × (Some x ≡ c)
 pair_sound (Some o) (Some n) c e = ((o, n), refl, refl, change_same (Some (o, n)) c e)
 pair_sound (Some o) None c e = cc
@@ -102,9 +99,9 @@ change_sound (a ∷ b ∷ o ∷ k ∷ []) c e = cc
 change_sound (a ∷ b ∷ o ∷ k ∷ n ∷ []) c e = cc
 change_sound (a ∷ b ∷ o ∷ k ∷ n ∷ d ∷ []) c e =
     let g = guarded (is_mark 58 a && is_mark 40 b && is_mark 44 k && is_mark 41 d) (pair_of (symbol_of o) (symbol_of n)) c e in
-    let l = and_both (is_mark 58 a && is_mark 40 b && is_mark 44 k) (is_mark 41 d) g.0 in
-    let m = and_both (is_mark 58 a && is_mark 40 b) (is_mark 44 k) l.0 in
-    let f = and_both (is_mark 58 a) (is_mark 40 b) m.0 in
+    let l = and_parts (is_mark 58 a && is_mark 40 b && is_mark 44 k) (is_mark 41 d) g.0 in
+    let m = and_parts (is_mark 58 a && is_mark 40 b) (is_mark 44 k) l.0 in
+    let f = and_parts (is_mark 58 a) (is_mark 40 b) m.0 in
     let p = pair_sound (symbol_of o) (symbol_of n) c g.1 in
     let x = symbol_is o p.0.0 p.1 in
     let y = symbol_is n p.0.1 p.2 in
@@ -135,7 +132,7 @@ statement_sound : (ts : List Token) (item : Item) → statement_of ts ≡ Some i
 statement_sound [] item e = cc
 statement_sound (Mark m ∷ ts) item e = cc
 statement_sound (Word a ∷ []) item e = let g = guarded (bytes_eq a (codes "end")) (Some Finish) item e in
-    subst (λ x. IsStatement (Word a ∷ []) x) (same Finish item g.1) (ap (λ w. Word w ∷ []) (same_bytes a (codes "end") g.0))
+    subst (λ x. IsStatement (Word a ∷ []) x) (same Finish item g.1) (ap (λ w. Word w ∷ []) (bytes_same a (codes "end") g.0))
   where
     same : (x y : Item) → Some x ≡ Some y → x ≡ y
     same x y e = cc
@@ -144,9 +141,9 @@ statement_sound (Word a ∷ t ∷ ts) item e = by (bytes_eq a (codes "delay")) (
     by : (d k : Bool) → bytes_eq a (codes "delay") ≡ d → bytes_eq a (codes "clock") ≡ k
         → cond d (option_map Delay (number_in t ts)) (cond k (option_map Clock (number_in t ts)) (event_of a t ts)) ≡ Some item → IsStatement (Word a ∷ t ∷ ts) item
     by true k is _ e = let m = mapped Delay (number_in t ts) item e in let n = number_sound t ts m.0 m.1 in
-        subst (λ x. IsStatement (Word a ∷ t ∷ ts) x) m.2 (n.0, (λ i. Word (same_bytes a (codes "delay") is i) ∷ n.1 i), n.2)
+        subst (λ x. IsStatement (Word a ∷ t ∷ ts) x) m.2 (n.0, (λ i. Word (bytes_same a (codes "delay") is i) ∷ n.1 i), n.2)
     by false true _ is e = let m = mapped Clock (number_in t ts) item e in let n = number_sound t ts m.0 m.1 in
-        subst (λ x. IsStatement (Word a ∷ t ∷ ts) x) m.2 (n.0, (λ i. Word (same_bytes a (codes "clock") is i) ∷ n.1 i), n.2)
+        subst (λ x. IsStatement (Word a ∷ t ∷ ts) x) m.2 (n.0, (λ i. Word (bytes_same a (codes "clock") is i) ∷ n.1 i), n.2)
     by false false _ _ e = let v = event_sound a t ts item e in subst (λ x. IsStatement (Word a ∷ t ∷ ts) x) v.2 v.1
 
 pub item_sound : (line : List ℕ) (item : Item) → item_of line ≡ Some item → IsItem line item
@@ -172,7 +169,7 @@ change_again (Some c) h = λ i. pair_of (cond (h.0 i) (Some c.0) None) (cond (h.
 
 no_word : (d word : List ℕ) (n : ℕ) → log_number_of word ≡ None → log_number_of d ≡ Some n → (b : Bool) → bytes_eq d word ≡ b → b ≡ false
 no_word d word n none some false e = refl
-no_word d word n none some true e = let h : log_number_of d ≡ None = ap log_number_of (same_bytes d word e) ∙ none in absurd (never n (sym h ∙ some))
+no_word d word n none some true e = let h : log_number_of d ≡ None = ap log_number_of (bytes_same d word e) ∙ none in absurd (never n (sym h ∙ some))
   where
     never : (n : ℕ) → None ≡ Some n → ⊥
     never n e = cc

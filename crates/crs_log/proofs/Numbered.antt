@@ -7,13 +7,13 @@ use Rattle.std.proofs.lemmas.List.Folds.{list_any_at}
 use Rattle.std.proofs.lemmas.Slice.Eq.{bytes_eq-Decides}
 use Rattle.crs_base.specs.Symbols.{is_known, text_at, AreDistinct}
 use Rattle.crs_base.specs.declared.symbols.Sym.{Sym}
+use Rattle.crs_base.proofs.Texts.{bytes_same}
 use Rattle.crs_model.specs.declared.models.Name.{Name as CodeName}
 use Rattle.crs_log.specs.Items.{Event}
 use Rattle.crs_log.specs.Known.{Verdict, Other, Named, BadArity, BadValue, judged, is_of_kind, change_stands, known_from}
 use Rattle.crs_model.specs.Renaming.{text_in}
 use Rattle.crs_model.specs.Renaming.{AreKnown}
 use Rattle.crs_log.specs.SeenNames.{name_seen, IsNameIn, AreNamesIn, IsNumberOf}
-use Rattle.crs_log.proofs.Added.{same_bytes}
 use Rattle.crs_log.proofs.Parts.{number_within}
 
 module _ (T : List (List ℕ)) (t : List ℕ) where
@@ -27,7 +27,7 @@ module _ (T : List (List ℕ)) (t : List ℕ) where
     where
       other : (b : Bool) → bytes_eq t (text_at T m) ≡ b → b ≡ false
       other false f = refl
-      other true f = absurd (eqb-false m n e (distinct m n within lt (sym (same_bytes t (text_at T m) f) ∙ sym is)))
+      other true f = absurd (eqb-false m n e (distinct m n within lt (sym (bytes_same t (text_at T m) f) ∙ sym is)))
 
   -- the number that the table gives for a text
   pub number_found : (o : Option Sym) → AreDistinct T → option_map (λ s. s.0) o ≡ position (bytes_eq t) T → is_some o ≡ is_known T t → IsNumberOf T t o

@@ -5,9 +5,9 @@ use Rattle.std.specs.List.{take-map, position_or_len}
 use Rattle.std.proofs.lemmas.List.{take-append-le, length-map}
 use Rattle.std.proofs.Math.Seq.{drop-append_seam}
 use Rattle.crs_base.specs.declared.symbols.Sym.{Sym}
-use Rattle.crs_base.specs.Symbols.{is_known, with_text, text_at}
+use Rattle.crs_base.specs.Symbols.{is_known, with_text, text_at, with_texts}
 use Rattle.crs_log.specs.Items.{Event, Change, AreSymbols, IsChange, IsItem, Happens}
-use Rattle.crs_log.specs.Known.{change_texts, texts_of, with_texts}
+use Rattle.crs_log.specs.Known.{change_texts, texts_of}
 use Rattle.crs_model.specs.Renaming.{text_in}
 use Rattle.crs_model.specs.Renaming.{AreKnown}
 use Rattle.crs_log.specs.SeenNames.{change_count}

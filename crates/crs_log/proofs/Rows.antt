@@ -6,7 +6,8 @@ use Rattle.crs_model.specs.Models.{Message}
 use Rattle.crs_base.specs.Entry.{canonical}
 use Rattle.crs_log.specs.Items.{Event}
 use Rattle.crs_log.specs.Known.{entry_of_event}
-use Rattle.crs_log.specs.Run.{Setting, State, at_start, outcomes, Passed, Refused, Accepted, Marked, AtClock, AtEnd, Order, Back, Late, Arity, Form, Full, Values}
+use Rattle.crs_model.specs.declared.recognition.Mark.TheVariants.{Clock as AtClock, Finish as AtEnd}
+use Rattle.crs_log.specs.Run.{Setting, State, at_start, outcomes, Passed, Refused, Accepted, Marked, Order, Back, Late, Arity, Form, Full, Values}
 
 abbrev two : Setting
 two = record { names = record { name = codes "a"; arity = 0; kind = Message } ∷ record { name = codes "b"; arity = 0; kind = Message } ∷ []; symbols = 100; entries = 100 }

@@ -1,7 +1,7 @@
 -- What a log says of the declared names.
 use Rattle.std.specs.Prelude.{ℕ, ◌+◌, ◌==◌, ◌&&◌, Bool, true, cond, List, [], ◌∷◌, ◌++◌, length, Option, Some, None, is_some, bytes_eq, not}
 use Rattle.std.specs.List.{list_any}
-use Rattle.crs_base.specs.Symbols.{is_known, with_text}
+use Rattle.crs_base.specs.Symbols.{is_known}
 use Rattle.crs_base.specs.Entry.{Entry, canonical}
 use Rattle.crs_model.specs.Models.{Kind, Message, Attribute, Name}
 use Rattle.crs_log.specs.Items.{Event, Change}
@@ -51,11 +51,6 @@ change_texts (Some c) = c.0 ∷ c.1 ∷ []
 -- the texts of arguments, old and new value
 abbrev pub texts_of : Event → List (List ℕ)
 texts_of e = e.args ++ change_texts e.change
-
--- the texts once all of these are there
-abbrev pub with_texts : List (List ℕ) → List (List ℕ) → List (List ℕ)
-with_texts texts [] = texts
-with_texts texts (t ∷ ts) = with_texts (with_text texts t) ts
 
 -- those that aren't there, each once
 abbrev pub new_texts : List (List ℕ) → List (List ℕ) → List (List ℕ)

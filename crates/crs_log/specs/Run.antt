@@ -2,12 +2,15 @@
 use Rattle.std.specs.Prelude.{ℕ, ◌+◌, ◌-◌, Bool, true, false, ◌&&◌, ◌||◌, nat_lt, nat_le, cond, List, [], ◌∷◌, ◌++◌, length}
 use Rattle.crs_base.specs.Entry.{Entry}
 use Rattle.crs_base.specs.Lines.{Line, bytes_of, is_long}
+use Rattle.crs_base.specs.Symbols.{with_texts}
 use Rattle.crs_model.specs.Models.{Name}
 use Rattle.crs_model.specs.Order.{dated_before}
+use Rattle.crs_model.specs.declared.recognition.Mark.{Mark}
+use Rattle.crs_model.specs.declared.recognition.Mark.TheVariants.{Clock as AtClock, Finish as AtEnd}
 use Rattle.crs_log.specs.Items.{Item, Delay, Clock, Finish, Happens, Event}
 use Rattle.crs_log.specs.ItemOf.{What, Empty, Is, Faulty, what_of}
 use Rattle.crs_log.specs.Reading.{Given, Plain, Long}
-use Rattle.crs_log.specs.Known.{Verdict, Other, Named, BadArity, BadValue, known_of, entry_of_event, texts_of, new_texts, with_texts}
+use Rattle.crs_log.specs.Known.{Verdict, Other, Named, BadArity, BadValue, known_of, entry_of_event, texts_of, new_texts}
 
 -- the declared names, and how many symbols and entries there may be
 pub record Setting : Type 0 where
@@ -38,11 +41,6 @@ pub data Fault : Type 0 where
   Value : Fault
   Full : ℕ → Fault
   Values : ℕ → Fault
-
--- the date of an accepted `clock`, or an accepted `end`
-pub data Mark : Type 0 where
-  AtClock : ℕ → Mark
-  AtEnd : Mark
 
 -- what becomes of a line
 pub data Outcome : Type 0 where

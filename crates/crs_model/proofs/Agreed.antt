@@ -3,6 +3,7 @@ use Rattle.std.proofs.Common.{◌≡◌, List, [], ◌∷◌, map, refl, ap}
 use Rattle.std.specs.Prelude.{Option, Some, None, IfSome, option_map}
 use Rattle.std.specs.List.{AllByRecursion}
 use Rattle.crs_base.specs.Entry.{Entry}
+use Rattle.crs_base.proofs.Alls.{all_each}
 use Rattle.crs_model.specs.Models.{Term, Value, Var, Any, Pattern, EventDef, VarSet, Body, NoEvent, Occurs, Hold, Window, Chronicle, Kind, Message, Attribute, Name, Models}
 use Rattle.crs_model.specs.Renaming.{renamed_term, renamed_pattern, renamed_event, renamed_set, renamed_body, renamed_window, renamed_chronicle, renamed_kind, renamed_name, renamed_models, renamed_entry, IsTermOf, IsPatternOf, IsBodyOf, IsChronicleOf, IsKindOf, IsNameOf, AreModelsOf, IsEntryOf}
 
@@ -93,10 +94,6 @@ module _ {S T : Type 0} (f g : S → T) (P : S → Type 0) (same : (s : S) → P
 
 -- what is of symbols of which P holds is of symbols of which Q holds, where P implies Q
 module _ {S : Type 0} (P Q : S → Type 0) (more : (s : S) → P s → Q s) where
-  each_more : {A : Type 0} (F G : A → Type 0) (xs : List A) → ((x : A) → F x → G x) → AllByRecursion F xs → AllByRecursion G xs
-  each_more F G [] e h = tt
-  each_more F G (x ∷ xs) e h = (e x h.0, each_more F G xs e h.1)
-
   if_more : {A : Type 0} (F G : A → Type 0) (o : Option A) → ((x : A) → F x → G x) → IfSome o F → IfSome o G
   if_more F G None e h = tt
   if_more F G (Some x) e h = e x h
@@ -107,10 +104,10 @@ module _ {S : Type 0} (P Q : S → Type 0) (more : (s : S) → P s → Q s) wher
   term_more Any h = tt
 
   terms_more : (ts : List (Term S)) → AllByRecursion (IsTermOf P) ts → AllByRecursion (IsTermOf Q) ts
-  terms_more ts h = each_more (IsTermOf P) (IsTermOf Q) ts term_more h
+  terms_more ts h = all_each {P = IsTermOf P} ts term_more h
 
   symbols_more : (xs : List S) → AllByRecursion P xs → AllByRecursion Q xs
-  symbols_more xs h = each_more P Q xs more h
+  symbols_more xs h = all_each {P = P} xs more h
 
   pattern_more : (p : Pattern S) → IsPatternOf P p → IsPatternOf Q p
   pattern_more p h = record {
@@ -127,12 +124,12 @@ module _ {S : Type 0} (P Q : S → Type 0) (more : (s : S) → P s → Q s) wher
   pub chronicle_more : (c : Chronicle S) → IsChronicleOf P c → IsChronicleOf Q c
   chronicle_more c h = record {
     name = more c.name h.name;
-    points = each_more (λ v. P v.point) (λ v. Q v.point) c.events (λ v k. more v.point k) h.points;
-    patterns = each_more (λ v. IsPatternOf P v.pattern) (λ v. IsPatternOf Q v.pattern) c.events (λ v k. pattern_more v.pattern k) h.patterns;
+    points = all_each {P = λ v. P v.point} c.events (λ v k. more v.point k) h.points;
+    patterns = all_each {P = λ v. IsPatternOf P v.pattern} c.events (λ v k. pattern_more v.pattern k) h.patterns;
     free = symbols_more c.free h.free;
     variables = symbols_more c.variables h.variables;
-    sets = each_more (λ s. AllByRecursion P s.values) (λ s. AllByRecursion Q s.values) c.sets (λ s k. symbols_more s.values k) h.sets;
-    windows = each_more (λ w. IsBodyOf P w.body) (λ w. IsBodyOf Q w.body) c.windows (λ w k. body_more w.body k) h.windows;
+    sets = all_each {P = λ s. AllByRecursion P s.values} c.sets (λ s k. symbols_more s.values k) h.sets;
+    windows = all_each {P = λ w. IsBodyOf P w.body} c.windows (λ w k. body_more w.body k) h.windows;
   }
 
   entry_more : (e : Entry S) → IsEntryOf P e → IsEntryOf Q e
@@ -143,4 +140,4 @@ module _ {S : Type 0} (P Q : S → Type 0) (more : (s : S) → P s → Q s) wher
   }
 
   pub entries_more : (es : List (Entry S)) → AllByRecursion (IsEntryOf P) es → AllByRecursion (IsEntryOf Q) es
-  entries_more es h = each_more (IsEntryOf P) (IsEntryOf Q) es entry_more h
+  entries_more es h = all_each {P = IsEntryOf P} es entry_more h

@@ -1,25 +1,14 @@
 -- Whether a binding is allowed.
-use Rattle.std.proofs.Common.{◌≡◌, ◌≢◌, ℕ, Bool, true, false, not, List, [], ◌∷◌, refl, sym, ap, ◌∙◌, inl, inr, ◌⊎◌, true≢false}
-use Rattle.std.specs.Prelude.{Option, Some, IsTrue, IfSome, ◌↔◌, ◌==◌, ◌||◌}
+use Rattle.std.proofs.Common.{◌≡◌, ◌≢◌, ℕ, Bool, true, false, not, List, [], ◌∷◌, refl, sym, ap, ◌∙◌, inl, inr, true≢false}
+use Rattle.std.specs.Prelude.{Option, Some, IsTrue, IfSome, ◌↔◌, ◌==◌}
 use Rattle.std.specs.List.{list_any}
 use Rattle.std.proofs.lemmas.Bool.Decides.{eqb_tells}
+use Rattle.std.proofs.lemmas.Bool.{or_left, or_right, or_cases}
 use Rattle.crs_base.specs.declared.symbols.Sym.{Sym}
 use Rattle.crs_base.specs.Words.{IsIn}
 
 same_sym : (x y : Sym) → x.0 ≡ y.0 → x ≡ y
 same_sym x y e = λ i. record { 0 = e i }
-
-or_first : (a b : Bool) → a ≡ true → (a || b) ≡ true
-or_first true b e = refl
-or_first false b e = absurd cc
-
-or_second : (a b : Bool) → b ≡ true → (a || b) ≡ true
-or_second true b e = refl
-or_second false b e = e
-
-or_either : (a b : Bool) → (a || b) ≡ true → (a ≡ true) ⊎ (b ≡ true)
-or_either true b e = inl refl
-or_either false b e = inr e
 
 eq_says : (a b : ℕ) → (a == b) ≡ true → a ≡ b
 eq_says a b e = elim (eqb_tells a b) [ inl s ↦ s.1 | inr o ↦ absurd (true≢false (sym e ∙ o.0)) ]
@@ -29,12 +18,12 @@ eq_is a b e = elim (eqb_tells a b) [ inl s ↦ s.0 | inr o ↦ absurd (o.1 e) ]
 
 among : (xs : List Sym) (x : Sym) → list_any (λ y. y.0 == x.0) xs ≡ true → IsIn x xs
 among [] x e = absurd cc
-among (y ∷ xs) x e = elim (or_either (y.0 == x.0) (list_any (λ z. z.0 == x.0) xs) e) [ inl a ↦ inl (same_sym x y (sym (eq_says y.0 x.0 a))) | inr b ↦ inr (among xs x b) ]
+among (y ∷ xs) x e = elim (or_cases (y.0 == x.0) (list_any (λ z. z.0 == x.0) xs) e) [ inl a ↦ inl (same_sym x y (sym (eq_says y.0 x.0 a))) | inr b ↦ inr (among xs x b) ]
 
 is_among : (xs : List Sym) (x : Sym) → IsIn x xs → list_any (λ y. y.0 == x.0) xs ≡ true
 is_among [] x i = absurd i
-is_among (y ∷ xs) x (inl e) = or_first (y.0 == x.0) (list_any (λ z. z.0 == x.0) xs) (eq_is y.0 x.0 (ap (λ (s : Sym). s.0) (sym e)))
-is_among (y ∷ xs) x (inr i) = or_second (y.0 == x.0) (list_any (λ z. z.0 == x.0) xs) (is_among xs x i)
+is_among (y ∷ xs) x (inl e) = or_left (y.0 == x.0) (list_any (λ z. z.0 == x.0) xs) (eq_is y.0 x.0 (ap (λ (s : Sym). s.0) (sym e)))
+is_among (y ∷ xs) x (inr i) = or_right (y.0 == x.0) (list_any (λ z. z.0 == x.0) xs) (is_among xs x i)
 
 pub among_says : (xs : List Sym) (x : Sym) → IsTrue (list_any (λ y. y.0 == x.0) xs) ↔ IsIn x xs
 among_says xs x = (among xs x, is_among xs x)

@@ -1,8 +1,9 @@
 -- A part of what is bound has a least binding too.
-use Rattle.std.proofs.Common.{◌≡◌, ℕ, zero, suc, Bool, true, false, cond, ◌||◌, List, [], ◌∷◌, refl, sym, ap, ◌∙◌, inl, inr, ◌⊎◌, true≢false}
+use Rattle.std.proofs.Common.{◌≡◌, ℕ, zero, suc, Bool, true, false, cond, ◌||◌, List, [], ◌∷◌, refl, sym, ap, ◌∙◌, inl, inr, true≢false}
 use Rattle.std.specs.Prelude.{Option, Some, None, slice_get, slice_index_or}
 use Rattle.std.specs.List.{AllZip}
 use Rattle.std.proofs.lemmas.Bool.Decides.{eqb_tells}
+use Rattle.std.proofs.lemmas.Bool.{or_left, or_right, or_cases}
 use Rattle.crs_base.specs.Entry.{Entry}
 use Rattle.crs_model.specs.Models.{Term, Value, Var, Any, Pattern, EventDef, Chronicle}
 use Rattle.crs_model.specs.Matching.{Binding, TermIs, ChangeIs, PatternIs, IsAllowed}
@@ -11,18 +12,6 @@ use Rattle.crs_model.specs.Proper.{term_has, terms_have, change_has, pattern_has
 pub use Rattle.crs_model.specs.Bindings.{Looser}
 use Rattle.crs_model.proofs.Options.{of_some, some_if}
 use Rattle.crs_base.proofs.Words.{each_from_in, in_from_each}
-
-or_left : (a b : Bool) → a ≡ true → (a || b) ≡ true
-or_left true b e = refl
-or_left false b e = absurd (true≢false (sym e))
-
-or_right : (a b : Bool) → b ≡ true → (a || b) ≡ true
-or_right true b e = refl
-or_right false b e = e
-
-pub or_cases : (a b : Bool) → (a || b) ≡ true → (a ≡ true) ⊎ (b ≡ true)
-or_cases true b e = inl refl
-or_cases false b e = inr e
 
 module _ {S : Type 0} where
   abbrev pub here_has : ℕ → EventDef S → Option (Entry S) → Bool

@@ -15,7 +15,7 @@ use Rattle.crs_model.specs.Open.{IsOpen, IsRecognised, IsRecognisedWhole, Stands
 use Rattle.crs_model.specs.Images.{IsImage}
 use Rattle.crs_model.specs.Verdicts.{IsMet}
 use Rattle.crs_model.specs.Steps.{GoesOn}
-use Rattle.crs_model.proofs.Options.{of_some, some_if}
+use Rattle.crs_model.proofs.Options.{of_some, some_if, get_within}
 use Rattle.crs_model.proofs.Least.{pattern_agrees}
 use Rattle.crs_model.proofs.StaysMet.{met_grows, met_not_lost}
 use Rattle.crs_model.proofs.Offers.{at_whole, same_pool}
@@ -72,11 +72,6 @@ module _ {S : Type 0} where
   whole_distinct (x ∷ es) o zero (suc f) n = some_if (at (map Some es) f) _ (λ y i. in_from_each (λ (z : Entry S). x.arrival ≢ z.arrival) es o.0 y (whole_in es f y i))
   whole_distinct (x ∷ es) o (suc e) zero n = some_if (at (map Some es) e) _ (λ y i s. in_from_each (λ (z : Entry S). x.arrival ≢ z.arrival) es o.0 y (whole_in es e y i) (sym s))
   whole_distinct (x ∷ es) o (suc e) (suc f) n = whole_distinct es o.1 e f (λ s. n (ap suc s))
-
-  get_within : (values : List S) (v : ℕ) (x : S) → slice_get values v ≡ Some x → v < length values
-  get_within [] v x h = absurd cc
-  get_within (y ∷ values) zero x h = omega arith
-  get_within (y ∷ values) (suc v) x h = let l = get_within values v x h in omega arith
 
   get_past : (values : List S) (v : ℕ) → length values ≤ v → slice_get values v ≡ None
   get_past [] v l = refl

@@ -4,6 +4,7 @@ use Rattle.std.specs.Prelude.{Option, Some, None, IfSome, slice_get, option_map}
 use Rattle.std.specs.List.{AllZip, AllByRecursion}
 use Rattle.std.proofs.lemmas.List.{length-map}
 use Rattle.std.proofs.lemmas.Option.{slice_get-map}
+use Rattle.std.proofs.lemmas.Bool.{or_cases}
 use Rattle.crs_base.specs.Words.{IsIn, Ordered}
 use Rattle.crs_base.specs.Entry.{Entry, entry_cmp}
 use Rattle.std.specs.Ordering.{ordering_then}
@@ -19,7 +20,7 @@ use Rattle.crs_model.specs.Open.{IsRecognised, whole}
 use Rattle.crs_model.specs.Verdicts.{IsMet}
 use Rattle.crs_model.specs.Proper.{term_has, terms_have, change_has, pattern_has, IsNamed}
 use Rattle.crs_model.specs.Renaming.{renamed_term, renamed_pattern, renamed_event, renamed_set, renamed_window, renamed_chronicle, renamed_entry, renamed_assignment, IsTermOf, IsPatternOf, IsChronicleOf, IsEntryOf}
-use Rattle.crs_model.proofs.Least.{or_cases}
+use Rattle.crs_model.proofs.Options.{get_within}
 
 false_is_not : false ≡ true → ⊥
 false_is_not e = cc
@@ -235,15 +236,10 @@ module _ {S T : Type 0} (f : S → T) (P : S → Type 0) (apart : (x y : S) → 
   unrenamed None y h = absurd (cc)
   unrenamed (Some x) y h = h
 
-  short : (values : List S) (v : ℕ) (x : S) → slice_get values v ≡ Some x → v < length values
-  short [] v x e = absurd (cc)
-  short (y ∷ ys) zero x e = omega arith
-  short (y ∷ ys) (suc v) x e = let r = short ys v x e in omega arith
-
   -- the values of an assignment are symbols of its entries
   values_known : (pool : List (Entry S)) (b : Assignment S) → AllByRecursion (IsEntryOf P) pool → IsAssignment c pool b → IsLookOf f P (slice_get b.values)
   values_known pool b known a v x e =
-      let stands = named.stands v (let l = short b.values v x e in omega (arith, a.bound)) in
+      let stands = named.stands v (let l = get_within b.values v x e in omega (arith, a.bound)) in
       let g = of_events (λ (y : S). y) P (renamed_look (λ (y : S). y) (slice_get b.values)) v c.events b.entries (known_row pool b.entries known a.given)
       (patterns_on (λ (y : S). y) (slice_get b.values) c.events b.entries a.equal) stands.0 stands.1 stands.2 stands.3 in
       let i : Some x ≡ Some g.0 = sym e ∙ unrenamed (slice_get b.values v) g.0 g.2 in

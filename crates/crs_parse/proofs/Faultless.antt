@@ -1,17 +1,13 @@
 -- What holds of a statement to which no word applies.
-use Rattle.std.proofs.Common.{◌≡◌, ℕ, ℤ, pos, ◌<◌, ◌≤◌, Bool, true, false, cond, ◌||◌, not, nat_le, nat_lt, List, [], ◌∷◌, Option, Some, None, refl, arith}
+use Rattle.std.proofs.Common.{◌≡◌, ℕ, ℤ, pos, ◌<◌, ◌≤◌, Bool, true, false, cond, not, nat_le, nat_lt, List, [], ◌∷◌, Option, Some, None, refl, arith}
 use Rattle.std.specs.Prelude.{int_lt, neg_ℤ, IfSome}
 use Rattle.std.specs.List.{AllByRecursion}
-use Rattle.std.proofs.lemmas.Bool.{ltb-false, leb-false}
+use Rattle.std.proofs.lemmas.Bool.{ltb-false, leb-false, or_parts}
 use Rattle.std.proofs.lemmas.Int.{ints}
 use Rattle.crs_model.specs.declared.models.ModelWord.{ModelWord}
 use Rattle.crs_grammar.specs.Statements.{Statement}
 use Rattle.crs_parse.specs.Faults.{Name, Written, first_of, faults_of, is_twice, has_no_name, has_wrong_arity, has_wrong_value, has_no_variable, has_no_point, is_out_of_bounds, has_any, passes_count, lacks_events, is_unbound, is_above, is_far}
 use Rattle.crs_parse.specs.Held.{IsNear}
-
-pub or_false : (a b : Bool) → (a || b) ≡ false → (a ≡ false) × (b ≡ false)
-or_false true b e = cc
-or_false false b e = (refl, e)
 
 pub not_false : (a : Bool) → not a ≡ false → a ≡ true
 not_false true e = refl
@@ -43,7 +39,7 @@ none_first ((w, b) ∷ fs) e = let h = first_step w b (first_of fs) e in (h.0, n
 pub faultless : (full : Bool) (names : List Name) (done : List (ℕ × Written)) (c : Written) (s : Statement) → first_of (faults_of full names done c s) ≡ None → IsFaultless full names done c s
 faultless full names done c s e =
     let h = none_first (faults_of full names done c s) e in
-    let both = or_false (passes_count names done c s) full h.1.1.1.1.1.1.1.1.0 in
+    let both = or_parts (passes_count names done c s) full h.1.1.1.1.1.1.1.1.0 in
     record {
       twice = h.0;
       name = h.1.0;
@@ -74,4 +70,4 @@ near_by z a b = record { not_large = omega (arith, ints, a); not_small = omega (
 
 pub not_far : (o : Option ℤ) → is_far o ≡ false → IfSome o IsNear
 not_far None e = tt
-not_far (Some z) e = let h = or_false (int_lt (pos 1099511627776) z) (int_lt z (neg_ℤ (pos 1099511627776))) e in near_by z h.0 h.1
+not_far (Some z) e = let h = or_parts (int_lt (pos 1099511627776) z) (int_lt z (neg_ℤ (pos 1099511627776))) e in near_by z h.0 h.1

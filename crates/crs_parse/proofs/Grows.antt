@@ -9,7 +9,7 @@ use Rattle.crs_base.proofs.Words.{in_append_left, in_append_right}
 use Rattle.crs_parse.specs.Grows.{Grows, AreAmong, read_symbols, line_symbols, lines_symbols}
 use Rattle.crs_parse.specs.Steps.{inside_line, outside_line}
 use Rattle.crs_base.specs.Lines.{bytes_of}
-use Rattle.crs_parse.proofs.Alls.{all_append, all_each}
+use Rattle.crs_base.proofs.Alls.{all_append, all_each}
 
 pub grows_none : (among old new : List (List ℕ)) → new ≡ old → Grows among old new
 grows_none among old new e = record { more = []; is = e ∙ sym (append-nil old); all = tt }

@@ -1,12 +1,15 @@
 -- The parts of a statement whose symbols are held.
 use Rattle.std.proofs.Common.{◌≡◌, ℕ, ◌+◌, ◌≤◌, ◌<◌, Bool, false, ◌||◌, nat_le, nat_lt, List, [], ◌∷◌, ◌++◌, length, Option, Some, None, arith, length-append}
 use Rattle.std.specs.Prelude.{IfSome}
+use Rattle.std.proofs.lemmas.Bool.{or_parts}
 use Rattle.crs_grammar.specs.Statements.{Term, Value, Variable, Any, Pattern, Event, Body, NoEvent, Occurs, Hold, Window, Distance, Statement, Message, Attribute, Begin, Happens, Point, Between, Among, Differ, Over, Close}
-use Rattle.crs_parse.specs.Faults.{Name, Written, symbols_of, term_symbols, terms_symbols, change_symbols, pattern_symbols, body_symbols, values_symbols, variable_in, variables_in, variables_of, change_terms, with_statement, with_texts, is_full, is_above, is_below, has_wrong_counts, is_out_of_bounds, is_far, are_crossed, shift_size, begun, message_named, attribute_named}
+use Rattle.crs_parse.specs.Faults.{Name, Written, symbols_of, term_symbols, terms_symbols, change_symbols, pattern_symbols, body_symbols, values_symbols, variable_in, variables_in, variables_of, change_terms, with_statement, is_full, is_above, is_below, has_wrong_counts, is_out_of_bounds, is_far, are_crossed, shift_size, begun, message_named, attribute_named}
 use Rattle.crs_parse.specs.Meant.{level_of}
 use Rattle.crs_parse.specs.Held.{IsHeld, AreHeld, IsHeldTerm, AreHeldTerms, IsHeldPattern, IsHeldEvent, IsHeldBody, IsHeldWindow, IsHeldSet, AreNear, IsHeldChronicle, IsHeldName}
-use Rattle.crs_parse.proofs.Alls.{all_append, all_put, all_left, all_right, all_with}
-use Rattle.crs_parse.proofs.Faultless.{IsFaultless, or_false, not_le, not_lt, not_above, not_far}
+use Rattle.crs_base.proofs.WithTexts.{all_with}
+use Rattle.crs_parse.proofs.Faultless.{IsFaultless, not_le, not_lt, not_above, not_far}
+use Rattle.crs_base.proofs.Alls.{all_append, all_put, all_left, all_right}
+use Rattle.crs_base.specs.Symbols.{with_texts}
 
 module _ (texts : List (List ℕ)) where
   term_held : (t : Term) → AreHeld texts (term_symbols t) → IsHeldTerm texts t
@@ -32,16 +35,16 @@ module _ (texts : List (List ℕ)) where
   body_held : (b : Body) → AreHeld texts (body_symbols b) → has_wrong_counts b ≡ false → IsHeldBody texts b
   body_held (NoEvent p) h k = pattern_held p h
   body_held (Occurs least most p) h k =
-      let first = or_false (nat_lt 4294967295 least || is_above 4294967295 most) (is_below most least) k in
-      let second = or_false (nat_lt 4294967295 least) (is_above 4294967295 most) first.0 in
+      let first = or_parts (nat_lt 4294967295 least || is_above 4294967295 most) (is_below most least) k in
+      let second = or_parts (nat_lt 4294967295 least) (is_above 4294967295 most) first.0 in
       (pattern_held p h, not_lt 4294967295 least second.0, not_above 4294967295 most second.1)
   body_held (Hold name terms value) h k =
       (h.0, terms_held terms (all_left (IsHeld texts) (terms_symbols terms) (term_symbols value) h.1), term_held value (all_right (IsHeld texts) (terms_symbols terms) (term_symbols value) h.1))
 
   window_held : (w : Window) → AreHeld texts (symbols_of (Over w)) → is_out_of_bounds (Over w) ≡ false → IsHeldWindow texts w
   window_held w h k =
-      let first = or_false (nat_lt 1099511627776 (shift_size w.from.shift) || nat_lt 1099511627776 (shift_size w.to.shift)) (has_wrong_counts w.body) k in
-      let second = or_false (nat_lt 1099511627776 (shift_size w.from.shift)) (nat_lt 1099511627776 (shift_size w.to.shift)) first.0 in
+      let first = or_parts (nat_lt 1099511627776 (shift_size w.from.shift) || nat_lt 1099511627776 (shift_size w.to.shift)) (has_wrong_counts w.body) k in
+      let second = or_parts (nat_lt 1099511627776 (shift_size w.from.shift)) (nat_lt 1099511627776 (shift_size w.to.shift)) first.0 in
       record {
         body = body_held w.body (all_left (IsHeld texts) (body_symbols w.body) (w.from.point ∷ w.to.point ∷ []) h) first.1;
         from = not_lt 1099511627776 (shift_size w.from.shift) second.0;
@@ -81,9 +84,9 @@ module _ (texts : List (List ℕ)) where
 
   pub room_of : (c : Written) (level : Option ℕ) → is_full c level ≡ false → IsRoom c level
   room_of c level h =
-      let a = or_false (nat_le 16 (length c.events) || nat_le 24 (length c.events + length c.free) || is_above 7 level) (nat_lt 16 (length c.variables)) h in
-      let b = or_false (nat_le 16 (length c.events) || nat_le 24 (length c.events + length c.free)) (is_above 7 level) a.0 in
-      let d = or_false (nat_le 16 (length c.events)) (nat_le 24 (length c.events + length c.free)) b.0 in
+      let a = or_parts (nat_le 16 (length c.events) || nat_le 24 (length c.events + length c.free) || is_above 7 level) (nat_lt 16 (length c.variables)) h in
+      let b = or_parts (nat_le 16 (length c.events) || nat_le 24 (length c.events + length c.free)) (is_above 7 level) a.0 in
+      let d = or_parts (nat_le 16 (length c.events)) (nat_le 24 (length c.events + length c.free)) b.0 in
       record { events = not_le 16 (length c.events) d.0; points = not_le 24 (length c.events + length c.free) d.1; low = level_low level b.1; variables = not_lt 16 (length c.variables) a.1 }
 
   pub begun_held : (name : List ℕ) → IsHeld texts name → IsHeldChronicle texts (begun name)
@@ -94,8 +97,8 @@ module _ (texts : List (List ℕ)) where
 
   distance_held : (d : Distance) → is_out_of_bounds (Between d) ≡ false → AreNear d
   distance_held d k =
-      let a = or_false (is_far d.low || is_far d.high) (are_crossed d.low d.high) k in
-      let b = or_false (is_far d.low) (is_far d.high) a.0 in
+      let a = or_parts (is_far d.low || is_far d.high) (are_crossed d.low d.high) k in
+      let b = or_parts (is_far d.low) (is_far d.high) a.0 in
       record { low = not_far d.low b.0; high = not_far d.high b.1 }
 
   -- the open chronicle behind a statement to which no word applies
@@ -123,11 +126,11 @@ module _ (texts : List (List ℕ)) where
   kind_held (Some vs) h = h
 
   pub message_held : (full : Bool) (names : List Name) (done : List (ℕ × Written)) (c : Written) (name : List ℕ) (arity : ℕ) → IsFaultless full names done c (Message name arity) → AreHeld texts (name ∷ []) → IsHeldName texts (message_named name arity)
-  message_held full names done c name arity f h = let a = or_false (nat_le 256 (length names)) (nat_lt 8 arity) f.count in record { name = h.0; arity = not_lt 8 arity a.1; kind = tt }
+  message_held full names done c name arity f h = let a = or_parts (nat_le 256 (length names)) (nat_lt 8 arity) f.count in record { name = h.0; arity = not_lt 8 arity a.1; kind = tt }
 
   pub attribute_held : (full : Bool) (names : List Name) (done : List (ℕ × Written)) (c : Written) (name : List ℕ) (arity : ℕ) (values : Option (List (List ℕ))) → IsFaultless full names done c (Attribute name arity values)
       → AreHeld texts (name ∷ values_symbols values) → IsHeldName texts (attribute_named name arity values)
   attribute_held full names done c name arity values f h =
-      let a = or_false (nat_le 256 (length names) || nat_lt 8 arity) _ f.count in
-      let b = or_false (nat_le 256 (length names)) (nat_lt 8 arity) a.0 in
+      let a = or_parts (nat_le 256 (length names) || nat_lt 8 arity) _ f.count in
+      let b = or_parts (nat_le 256 (length names)) (nat_lt 8 arity) a.0 in
       record { name = h.0; arity = not_lt 8 arity b.1; kind = kind_held values h.1 }

@@ -1,26 +1,32 @@
 -- What holds of a reading of all lines.
-use Rattle.std.proofs.Common.{◌≡◌, ℕ, ◌+◌, Bool, true, false, cond, List, [], ◌∷◌, Option, Some, None, Result, Ok, Err, is_some, refl, subst}
+use Rattle.std.proofs.Common.{◌≡◌, ℕ, ◌+◌, Bool, true, false, cond, List, [], ◌∷◌, Option, Some, None, Result, Ok, Err, is_some, refl, subst, sym}
 use Rattle.std.specs.Prelude.{IfSome}
 use Rattle.std.specs.List.{AllByRecursion}
-use Rattle.crs_base.specs.Symbols.{is_known, is_symbol}
+use Rattle.crs_base.specs.Symbols.{is_known, is_symbol, with_texts}
 use Rattle.crs_model.specs.declared.models.ModelWord.{ModelWord}
 use Rattle.crs_model.specs.declared.models.ModelWord.TheVariants.{Form as FormWord, Limit as LimitWord}
 use Rattle.crs_base.specs.Lines.{Line, bytes_of, is_long, is_passed_over}
 use Rattle.crs_base.specs.Tokens.{Token, tokens_of, is_model_mark}
+use Rattle.crs_base.proofs.Alls.{all_put, all_each}
 use Rattle.crs_grammar.specs.Reading.{◌>>=◌, statement_of}
 use Rattle.crs_grammar.specs.Statements.{Statement, Message, Attribute, Begin, Happens, Point, Between, Among, Differ, Over, Close, is_inside}
 use Rattle.crs_parse.specs.Faults.{Written, Reading, Fault, first_of, faults_of, passes_symbols, symbols_of, message_named, attribute_named, opened, after, answered, after_statement, after_line, after_lines, unless_refused, nothing_read}
 use Rattle.crs_parse.specs.Held.{AreHeld, IsHeldChronicle, IsHeldName, IsHeldReading}
 use Rattle.crs_parse.specs.Steps.{HasSymbols}
-use Rattle.crs_parse.proofs.Alls.{all_put, all_each, known_behind, known_put}
+use Rattle.crs_base.proofs.WithTexts.{known_behind, known_put}
 use Rattle.crs_parse.proofs.Faultless.{IsFaultless, faultless}
 use Rattle.crs_parse.proofs.HeldParts.{chronicle_held, message_held, attribute_held, begun_held}
 use Rattle.crs_grammar.proofs.GivesStatements.{read_is_meant}
+use Rattle.crs_grammar.specs.Forms.{AreWritten, form_of}
 use Rattle.crs_parse.proofs.Premises.{are_read, are_declared}
 
 -- each of these texts is one of those
 abbrev pub Within : List (List ℕ) → List (List ℕ) → Type 0
 Within texts more = (t : List ℕ) → is_known texts t ≡ true → is_known more t ≡ true
+
+-- tokens that write the statement
+abbrev pub IsWritten : Statement → Type 0
+IsWritten s = (ts : List Token) × AreWritten (form_of s) ts
 
 -- what a line may give: the reading as it is, or with one statement more
 pub record IsNext (line : ℕ) (r next : Reading) (s : Statement) (full : Bool) : Type 0 where
@@ -28,16 +34,18 @@ pub record IsNext (line : ℕ) (r next : Reading) (s : Statement) (full : Bool) 
   pub faultless : IsFaultless full r.names r.done (opened r.current) s
   pub is : after line r s ≡ next
   pub place : is_inside s ≡ is_some r.current
+  pub written : IsWritten s
 
 -- what is shown of the reading behind each line, by the reading itself and by a statement more
 module _ (limit : ℕ) (G : ℕ → Reading → Reading → Type 0) (kept : (line : ℕ) (r : Reading) → G line r r)
     (more : (line : ℕ) (r next : Reading) (s : Statement) → IsNext line r next s (passes_symbols limit r.texts s) → G line r next) where
   answered_is : (line : ℕ) (r next : Reading) (s : Statement) (o : Option ModelWord) → first_of (faults_of (passes_symbols limit r.texts s) r.names r.done (opened r.current) s) ≡ o
-      → AllByRecursion (λ t. is_symbol t ≡ true) (symbols_of s) → is_inside s ≡ is_some r.current → answered line (after line r s) o ≡ Ok next → G line r next
+      → AllByRecursion (λ t. is_symbol t ≡ true) (symbols_of s) → (is_inside s ≡ is_some r.current) × IsWritten s → answered line (after line r s) o ≡ Ok next → G line r next
   answered_is line r next s (Some w) e h p k = cc
-  answered_is line r next s None e h p k = more line r next s (record { symbols = h; faultless = faultless (passes_symbols limit r.texts s) r.names r.done (opened r.current) s e; is = cc; place = p })
+  answered_is line r next s None e h p k =
+      more line r next s (record { symbols = h; faultless = faultless (passes_symbols limit r.texts s) r.names r.done (opened r.current) s e; is = cc; place = p.0; written = p.1 })
 
-  statement_is : (line : ℕ) (r next : Reading) (o : Option Statement) → HasSymbols o → ((s : Statement) → o ≡ Some s → is_inside s ≡ is_some r.current) → after_statement limit line r o ≡ Ok next → G line r next
+  statement_is : (line : ℕ) (r next : Reading) (o : Option Statement) → HasSymbols o → ((s : Statement) → o ≡ Some s → (is_inside s ≡ is_some r.current) × IsWritten s) → after_statement limit line r o ≡ Ok next → G line r next
   statement_is line r next None h p e = cc
   statement_is line r next (Some s) h p e = answered_is line r next s (first_of (faults_of (passes_symbols limit r.texts s) r.names r.done (opened r.current) s)) refl h (p s refl) e
 
@@ -45,14 +53,14 @@ module _ (limit : ℕ) (G : ℕ → Reading → Reading → Type 0) (kept : (lin
   line_read line true = are_read line
   line_read line false = are_declared line
 
-  placed : (o : Option (List Token)) (b : Bool) (s : Statement) → (o >>= statement_of b) ≡ Some s → is_inside s ≡ b
-  placed None b s e = cc
-  placed (Some ts) b s e = (read_is_meant b ts s e).0
+  meant : (o : Option (List Token)) (b : Bool) (s : Statement) → (o >>= statement_of b) ≡ Some s → (is_inside s ≡ b) × IsWritten s
+  meant None b s e = cc
+  meant (Some ts) b s e = let m = read_is_meant b ts s e in (m.0, (ts, m.1))
 
   line_is : (line : ℕ) (r next : Reading) (l : Line) (long passed : Bool) → cond long (Err (line, LimitWord)) (cond passed (Ok r) (after_statement limit line r (tokens_of is_model_mark (bytes_of l) >>= statement_of (is_some r.current)))) ≡ Ok next → G line r next
   line_is line r next l true passed e = cc
   line_is line r next l false true e = let same : r ≡ next = cc in subst (G line r) same (kept line r)
-  line_is line r next l false false e = statement_is line r next (tokens_of is_model_mark (bytes_of l) >>= statement_of (is_some r.current)) (line_read (bytes_of l) (is_some r.current)) (λ s q. placed (tokens_of is_model_mark (bytes_of l)) (is_some r.current) s q) e
+  line_is line r next l false false e = statement_is line r next (tokens_of is_model_mark (bytes_of l) >>= statement_of (is_some r.current)) (line_read (bytes_of l) (is_some r.current)) (λ s q. meant (tokens_of is_model_mark (bytes_of l)) (is_some r.current) s q) e
 
   pub by_line : (line : ℕ) (r next : Reading) (l : Line) → after_line limit line r l ≡ Ok next → G line r next
   by_line line r next l e = line_is line r next l (is_long l) (is_passed_over (bytes_of l)) e
@@ -69,31 +77,26 @@ pub last_of : (b : Bool) (line : ℕ) (r all : Reading) → cond {A = Result Rea
 last_of true line r all e = cc
 last_of false line r all e = record { outside = refl; same = cc }
 
+-- its symbols are put into the table
+pub table_after : (line : ℕ) (r : Reading) (s : Statement) → (after line r s).texts ≡ with_texts r.texts (symbols_of s)
+table_after line r (Message name arity) = refl
+table_after line r (Attribute name arity values) = refl
+table_after line r (Begin name) = refl
+table_after line r (Happens e) = refl
+table_after line r (Point name) = refl
+table_after line r (Between d) = refl
+table_after line r (Among x values) = refl
+table_after line r (Differ x y) = refl
+table_after line r (Over w) = refl
+table_after line r Close = refl
+
 -- no text is lost
 after_texts : (line : ℕ) (r : Reading) (s : Statement) → Within r.texts (after line r s).texts
-after_texts line r (Message name arity) t h = known_behind r.texts (name ∷ []) t h
-after_texts line r (Attribute name arity values) t h = known_behind r.texts (symbols_of (Attribute name arity values)) t h
-after_texts line r (Begin name) t h = known_behind r.texts (name ∷ []) t h
-after_texts line r (Happens e) t h = known_behind r.texts (symbols_of (Happens e)) t h
-after_texts line r (Point name) t h = known_behind r.texts (name ∷ []) t h
-after_texts line r (Between d) t h = known_behind r.texts (symbols_of (Between d)) t h
-after_texts line r (Among x values) t h = known_behind r.texts (symbols_of (Among x values)) t h
-after_texts line r (Differ x y) t h = known_behind r.texts (symbols_of (Differ x y)) t h
-after_texts line r (Over w) t h = known_behind r.texts (symbols_of (Over w)) t h
-after_texts line r Close t h = h
+after_texts line r s t h = subst (λ l. is_known l t ≡ true) (sym (table_after line r s)) (known_behind r.texts (symbols_of s) t h)
 
--- its symbols are there
-after_symbols : (line : ℕ) (r : Reading) (s : Statement) → AllByRecursion (λ t. is_known (after line r s).texts t ≡ true) (symbols_of s)
-after_symbols line r (Message name arity) = known_put r.texts (name ∷ [])
-after_symbols line r (Attribute name arity values) = known_put r.texts (symbols_of (Attribute name arity values))
-after_symbols line r (Begin name) = known_put r.texts (name ∷ [])
-after_symbols line r (Happens e) = known_put r.texts (symbols_of (Happens e))
-after_symbols line r (Point name) = known_put r.texts (name ∷ [])
-after_symbols line r (Between d) = known_put r.texts (symbols_of (Between d))
-after_symbols line r (Among x values) = known_put r.texts (symbols_of (Among x values))
-after_symbols line r (Differ x y) = known_put r.texts (symbols_of (Differ x y))
-after_symbols line r (Over w) = known_put r.texts (symbols_of (Over w))
-after_symbols line r Close = tt
+-- its symbols are among texts that have that table's
+pub symbols_known : (texts : List (List ℕ)) (line : ℕ) (r : Reading) (s : Statement) → Within (after line r s).texts texts → AllByRecursion (λ t. is_known texts t ≡ true) (symbols_of s)
+symbols_known texts line r s w = all_each (symbols_of s) w (subst (λ l. AllByRecursion (λ t. is_known l t ≡ true) (symbols_of s)) (sym (table_after line r s)) (known_put r.texts (symbols_of s)))
 
 texts_next : (limit line : ℕ) (r next : Reading) (l : Line) → after_line limit line r l ≡ Ok next → Within r.texts next.texts
 texts_next limit line r next l e = by_line limit (λ line r next. Within r.texts next.texts) (λ line r t h. h) (λ line r next s h. subst (λ x. Within r.texts x.texts) h.is (after_texts line r s)) line r next l e
@@ -140,8 +143,8 @@ module _ (texts : List (List ℕ)) where
 line_held : (limit : ℕ) (texts : List (List ℕ)) (line : ℕ) (r next : Reading) (l : Line) → after_line limit line r l ≡ Ok next → Within next.texts texts → IsHeldSoFar texts r → IsHeldSoFar texts next
 line_held limit texts line r next l e = by_line limit (λ line r next. Within next.texts texts → IsHeldSoFar texts r → IsHeldSoFar texts next) (λ line r w k. k)
     (λ line r next s h w k.
-    let known : AllByRecursion (λ t. is_known next.texts t ≡ true) (symbols_of s) = subst (λ x. AllByRecursion (λ t. is_known x.texts t ≡ true) (symbols_of s)) h.is (after_symbols line r s) in
-    let held : AreHeld texts (symbols_of s) = held_each texts (symbols_of s) h.symbols (all_each (symbols_of s) w known) in
+    let known = symbols_known texts line r s (subst (λ x. Within x.texts texts) (sym h.is) w) in
+    let held : AreHeld texts (symbols_of s) = held_each texts (symbols_of s) h.symbols known in
     subst (IsHeldSoFar texts) h.is (next_held texts line r s (passes_symbols limit r.texts s) h.faultless h.place held k)) line r next l e
 
 lines_held : (limit line : ℕ) (r all : Reading) (ls : List Line) → after_lines limit line r ls ≡ Ok all → IsHeldSoFar all.texts r → IsHeldSoFar all.texts all

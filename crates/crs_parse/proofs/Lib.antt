@@ -5,7 +5,6 @@ pub mod Sound
 pub mod Numbered
 pub mod Bytes
 pub mod HeldReading
-pub mod Alls
 pub mod HeldParts
 pub mod Faultless
 pub mod Points

@@ -4,7 +4,7 @@ use Rattle.std.specs.Prelude.{bytes_eq}
 use Rattle.std.specs.List.{position_or_len}
 use Rattle.crs_base.specs.declared.symbols.Sym.{Sym}
 use Rattle.crs_base.specs.Symbols.{text_at, is_known}
-use Rattle.crs_grammar.proofs.Decided.{bytes_same}
+use Rattle.crs_base.proofs.Texts.{bytes_same}
 
 place_step : (b : Bool) (u t : List ℕ) (us : List (List ℕ)) (n : ℕ) → (b ≡ true → t ≡ u) → (b || is_known us t) ≡ true → (is_known us t ≡ true → text_at us n ≡ t)
     → text_at (u ∷ us) (cond (not b) (1 + n) 0) ≡ t

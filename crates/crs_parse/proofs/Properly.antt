@@ -6,8 +6,11 @@ use Rattle.std.proofs.lemmas.Int.{ints}
 use Rattle.std.proofs.lemmas.List.{length-map}
 use Rattle.std.proofs.lemmas.List.Elements.{All-from_recursion}
 use Rattle.std.proofs.lemmas.List.Folds.{list_any-append}
+use Rattle.std.proofs.lemmas.Bool.{or_left, or_right, or_parts}
 use Rattle.crs_base.specs.Symbols.{is_known, text_at}
 use Rattle.crs_base.proofs.Words.{in_map}
+use Rattle.crs_base.proofs.Texts.{bytes_same, same_bytes}
+use Rattle.crs_base.proofs.Alls.{all_left, all_right, all_both}
 use Rattle.crs_stn.specs.declared.bound.Bound.{Bound}
 use Rattle.crs_stn.specs.Bound.{IsBoundBelow}
 use Rattle.crs_model.specs.Models as m
@@ -18,14 +21,13 @@ use Rattle.crs_parse.specs.Faults.{Kind, OfMessage, OfAttribute, Name, Written, 
 use Rattle.crs_parse.specs.Meant.{place_in, points_of, term_of, change_of, pattern_of, body_of, event_of, offset_of, anchor_of, window_of, bounds_of, set_of, differ_of, chronicle_of, kind_of, name_of, models_in}
 use Rattle.crs_parse.specs.Held.{IsNear, AreNear, IsHeldEvent, IsHeldWindow, IsHeldChronicle, IsHeldReading}
 use Rattle.crs_model.specs.ProperModels as p
-use Rattle.crs_parse.proofs.Alls.{all_left, all_right}
-use Rattle.crs_parse.proofs.Faultless.{or_false, not_false}
+use Rattle.crs_parse.proofs.Faultless.{not_false}
 use Rattle.crs_parse.proofs.Numbered.{each_made}
-use Rattle.crs_grammar.proofs.Decided.{bytes_same, same_bytes}
 use Rattle.crs_parse.proofs.Places.{place_within}
 use Rattle.crs_parse.proofs.Points.{points_count}
-use Rattle.crs_parse.proofs.Sound.{Declares, IsDeclared, IsDeclaredBody, AreOf, stands_in, Distinct, IsSound, IsWhole}
+use Rattle.crs_parse.proofs.Sound.{Declares, IsDeclared, IsDeclaredBody, AreOf, stands_in, IsSound, IsWhole}
 use Rattle.crs_parse.proofs.SoundReading.{IsSoundSoFar}
+use Rattle.crs_base.proofs.DistinctTexts.{Distinct, known_at}
 
 -- Variables.
 
@@ -62,14 +64,14 @@ module _ (variables : List (List ℕ)) where
 
   terms_there : (ts : List Term) → list_any (lacks variables) ts ≡ false → AreOf variables (variables_in ts)
   terms_there [] h = tt
-  terms_there (t ∷ ts) h = let k = or_false (lacks variables t) (list_any (lacks variables) ts) h in all_there (variable_in t) (variables_in ts) (term_there t k.0) (terms_there ts k.1)
+  terms_there (t ∷ ts) h = let k = or_parts (lacks variables t) (list_any (lacks variables) ts) h in all_there (variable_in t) (variables_in ts) (term_there t k.0) (terms_there ts k.1)
 
   change_there : (c : Option (Term × Term)) → change_lacks variables c ≡ false → AreOf variables (variables_in (change_terms c))
   change_there None h = tt
-  change_there (Some c) h = let k = or_false (lacks variables c.0) (lacks variables c.1) h in all_there (variable_in c.0) (variable_in c.1 ++ []) (term_there c.0 k.0) (all_there (variable_in c.1) [] (term_there c.1 k.1) tt)
+  change_there (Some c) h = let k = or_parts (lacks variables c.0) (lacks variables c.1) h in all_there (variable_in c.0) (variable_in c.1 ++ []) (term_there c.0 k.0) (all_there (variable_in c.1) [] (term_there c.1 k.1) tt)
 
   pattern_there : (q : Pattern) → pattern_lacks variables q ≡ false → AreOf variables (variables_of q)
-  pattern_there q h = let k = or_false (list_any (lacks variables) q.terms) (change_lacks variables q.change) h in all_there (variables_in q.terms) (variables_in (change_terms q.change)) (terms_there q.terms k.0) (change_there q.change k.1)
+  pattern_there q h = let k = or_parts (list_any (lacks variables) q.terms) (change_lacks variables q.change) h in all_there (variables_in q.terms) (variables_in (change_terms q.change)) (terms_there q.terms k.0) (change_there q.change k.1)
 
   -- a variable that stands in a pattern
   or_either : (a b : Bool) (C : Type 0) → (a ≡ true → C) → (b ≡ true → C) → (a || b) ≡ true → C
@@ -92,14 +94,6 @@ module _ (variables : List (List ℕ)) where
   below_pattern : (n v : ℕ) (q : m.Pattern (List ℕ)) → PatternIsBelow n q → pattern_has v q ≡ true → v < n
   below_pattern n v q h e = or_either (terms_have v q.terms) (change_has v q.change) (v < n) (below_have n v q.terms h.0) (below_change n v q.change h.1) e
 
-  or_true_left : (a b : Bool) → a ≡ true → (a || b) ≡ true
-  or_true_left true b e = refl
-  or_true_left false b e = cc
-
-  or_true_right : (a b : Bool) → b ≡ true → (a || b) ≡ true
-  or_true_right true b e = refl
-  or_true_right false b e = e
-
   same_place : (x y : List ℕ) → bytes_eq x y ≡ true → (place_in variables y == place_in variables x) ≡ true
   same_place x y e = ap (λ z. place_in variables z == place_in variables x) (sym (bytes_same x y e)) ∙ same_number (place_in variables x)
     where
@@ -118,23 +112,23 @@ module _ (variables : List (List ℕ)) where
   has_terms x [] h = cc
   has_terms x (t ∷ ts) h =
       or_either (is_of (variable_in t) x) (is_of (variables_in ts) x) (terms_have (place_in variables x) (map (term_of variables) (t ∷ ts)) ≡ true)
-      (λ e. or_true_left (term_has (place_in variables x) (term_of variables t)) _ (has_term x t e))
-      (λ e. or_true_right (term_has (place_in variables x) (term_of variables t)) _ (has_terms x ts e)) (of_append x (variable_in t) (variables_in ts) h)
+      (λ e. or_left (term_has (place_in variables x) (term_of variables t)) _ (has_term x t e))
+      (λ e. or_right (term_has (place_in variables x) (term_of variables t)) _ (has_terms x ts e)) (of_append x (variable_in t) (variables_in ts) h)
 
   has_change : (x : List ℕ) (c : Option (Term × Term)) → is_of (variables_in (change_terms c)) x ≡ true → change_has (place_in variables x) (change_of variables c) ≡ true
   has_change x None h = cc
   has_change x (Some c) h =
       or_either (is_of (variable_in c.0) x) (is_of (variable_in c.1 ++ []) x) (change_has (place_in variables x) (change_of variables (Some c)) ≡ true)
-      (λ e. or_true_left (term_has (place_in variables x) (term_of variables c.0)) _ (has_term x c.0 e))
-      (λ e. or_true_right (term_has (place_in variables x) (term_of variables c.0)) _
+      (λ e. or_left (term_has (place_in variables x) (term_of variables c.0)) _ (has_term x c.0 e))
+      (λ e. or_right (term_has (place_in variables x) (term_of variables c.0)) _
       (has_term x c.1 (or_either (is_of (variable_in c.1) x) false (is_of (variable_in c.1) x ≡ true) (λ q. q) (λ q. absurd (true≢false (sym q))) (of_append x (variable_in c.1) [] e))))
       (of_append x (variable_in c.0) (variable_in c.1 ++ []) h)
 
   has_pattern : (x : List ℕ) (q : Pattern) → is_of (variables_of q) x ≡ true → pattern_has (place_in variables x) (pattern_of variables q) ≡ true
   has_pattern x q h =
       or_either (is_of (variables_in q.terms) x) (is_of (variables_in (change_terms q.change)) x) (pattern_has (place_in variables x) (pattern_of variables q) ≡ true)
-      (λ e. or_true_left (terms_have (place_in variables x) (map (term_of variables) q.terms)) _ (has_terms x q.terms e))
-      (λ e. or_true_right (terms_have (place_in variables x) (map (term_of variables) q.terms)) _ (has_change x q.change e))
+      (λ e. or_left (terms_have (place_in variables x) (map (term_of variables) q.terms)) _ (has_terms x q.terms e))
+      (λ e. or_right (terms_have (place_in variables x) (map (term_of variables) q.terms)) _ (has_change x q.change e))
       (of_append x (variables_in q.terms) (variables_in (change_terms q.change)) h)
 
   -- an event of these in which the variable of a number stands
@@ -150,15 +144,6 @@ at_index : (P : List ℕ → Type 0) (xs : List (List ℕ)) (v : ℕ) → v < le
 at_index P [] v l h = absurd (omega arith)
 at_index P (x ∷ xs) zero l h = h.0
 at_index P (x ∷ xs) (suc v) l h = at_index P xs v (omega arith) h.1
-
-known_at : (xs : List (List ℕ)) (v : ℕ) → v < length xs → is_known xs (text_at xs v) ≡ true
-known_at [] v l = absurd (omega arith)
-known_at (x ∷ xs) zero l = ap (λ b. b || is_known xs x) (same_bytes x)
-known_at (x ∷ xs) (suc v) l = right (bytes_eq (text_at xs v) x) (is_known xs (text_at xs v)) (known_at xs v (omega arith))
-  where
-    right : (a b : Bool) → b ≡ true → (a || b) ≡ true
-    right true b e = refl
-    right false b e = e
 
 place_next : (b : Bool) (n v : ℕ) → b ≡ false → n ≡ v → cond (not b) (1 + n) 0 ≡ suc v
 place_next true n v h e = absurd (true≢false h)
@@ -212,7 +197,7 @@ body_meant : (variables : List (List ℕ)) (names : List Name) (b : Body) → Is
 body_meant variables names (NoEvent q) h k = (declared_meant variables names q h, pattern_below variables q (pattern_there variables q k))
 body_meant variables names (Occurs least most q) h k = (declared_meant variables names q h, pattern_below variables q (pattern_there variables q k))
 body_meant variables names (Hold name terms value) h k =
-    let o = or_false (list_any (lacks variables) terms) (lacks variables value) k in
+    let o = or_parts (list_any (lacks variables) terms) (lacks variables value) k in
     ((name_of h.0, declares_meant variables names name terms h.0 h.1, attribute_meant h.0.kind h.2), terms_below variables terms (terms_there variables terms o.0), term_below variables value (term_there variables value o.1))
 
 -- Points.
@@ -277,10 +262,6 @@ bounds_count points (d ∷ ds) = let k = bounds_count points ds in omega (arith,
 
 -- Chronicles and models.
 
-zip_all : {A : Type 0} (P Q : A → Type 0) (xs : List A) → AllByRecursion P xs → AllByRecursion Q xs → AllByRecursion (λ x. P x × Q x) xs
-zip_all P Q [] h k = tt
-zip_all P Q (x ∷ xs) h k = ((h.0, k.0), zip_all P Q xs h.1 k.1)
-
 module _ (texts : List (List ℕ)) (names : List Name) (d : ℕ × Written) (h : IsHeldChronicle texts d.1) (w : IsWhole names d.1) where
   events_count : length (map (event_of d.1.variables) d.1.events) ≡ length d.1.events
   events_count = length-map d.1.events (event_of d.1.variables)
@@ -302,7 +283,7 @@ module _ (texts : List (List ℕ)) (names : List Name) (d : ℕ × Written) (h :
     within = All-from_recursion _ _ (bounds_meant d.1 (length (map (event_of d.1.variables) d.1.events) + length d.1.free) d.1.bounds points_same w.sound.bounds h.bounds);
     events = each_made _ _ (event_of d.1.variables) d.1.events
         (λ e q. record { declared = declared_meant d.1.variables names e.pattern q.0.0; below = pattern_below d.1.variables e.pattern q.0.1; level = q.1.level })
-        (zip_all (λ e. IsDeclared names e.pattern × AreOf d.1.variables (variables_of e.pattern)) (IsHeldEvent texts) d.1.events w.sound.events h.events);
+        (all_both (λ e. IsDeclared names e.pattern × AreOf d.1.variables (variables_of e.pattern)) (IsHeldEvent texts) d.1.events w.sound.events h.events);
     named = named_in d names w.sound;
     sets = each_made _ _ (set_of d.1.variables) d.1.sets (λ s q. place_within d.1.variables s.0 q) w.sound.sets;
     differs = each_made _ _ (differ_of d.1.variables) d.1.differs (λ x q. (place_within d.1.variables x.0 q.0, place_within d.1.variables x.1 q.1)) w.sound.differs;
@@ -312,8 +293,8 @@ module _ (texts : List (List ℕ)) (names : List Name) (d : ℕ × Written) (h :
           from = anchor_meant d.1 v.from (length (map (event_of d.1.variables) d.1.events)) events_count q.0.1 q.1.1.from;
           to = anchor_meant d.1 v.to (length (map (event_of d.1.variables) d.1.events)) events_count q.0.2 q.1.1.to;
         })
-        (zip_all (λ v. IsDeclaredBody names v.body × (is_of (event_points d.1) v.from.point ≡ true) × (is_of (event_points d.1) v.to.point ≡ true)) (λ v. (body_lacks d.1.variables v.body ≡ false) × IsHeldWindow texts v) d.1.windows w.sound.windows
-        (zip_all (λ v. body_lacks d.1.variables v.body ≡ false) (IsHeldWindow texts) d.1.windows w.bound h.windows));
+        (all_both (λ v. IsDeclaredBody names v.body × (is_of (event_points d.1) v.from.point ≡ true) × (is_of (event_points d.1) v.to.point ≡ true)) (λ v. (body_lacks d.1.variables v.body ≡ false) × IsHeldWindow texts v) d.1.windows w.sound.windows
+        (all_both (λ v. body_lacks d.1.variables v.body ≡ false) (IsHeldWindow texts) d.1.windows w.bound h.windows));
   }
 
 pub reading_proper : (texts : List (List ℕ)) (r : Reading) → IsHeldReading texts r → IsSoundSoFar r → p.AreProper (models_in r)
@@ -321,5 +302,5 @@ reading_proper texts r h k = record {
   names_few = subst (λ n. n ≤ 256) (sym (length-map r.names name_of)) k.names_few;
   arities = each_made _ _ name_of r.names (λ n q. q.arity) h.names;
   chronicles_few = subst (λ n. n ≤ 64) (sym (length-map r.done chronicle_of)) k.done_few;
-  chronicles = each_made _ _ chronicle_of r.done (λ d q. chronicle_proper texts r.names d q.0 q.1) (zip_all (λ d. IsHeldChronicle texts d.1) (λ d. IsWhole r.names d.1) r.done h.done k.done);
+  chronicles = each_made _ _ chronicle_of r.done (λ d q. chronicle_proper texts r.names d q.0 q.1) (all_both (λ d. IsHeldChronicle texts d.1) (λ d. IsWhole r.names d.1) r.done h.done k.done);
 }

@@ -4,15 +4,18 @@ use Rattle.std.specs.Prelude.{bytes_eq}
 use Rattle.std.specs.List.{AllByRecursion, list_any}
 use Rattle.std.proofs.lemmas.List.{map-append}
 use Rattle.std.proofs.lemmas.List.Folds.{list_any-append}
+use Rattle.std.proofs.lemmas.Bool.{or_left, or_parts, and_parts}
 use Rattle.crs_base.specs.Words.{IsIn}
-use Rattle.crs_base.specs.Symbols.{is_known, with_text}
+use Rattle.crs_base.specs.Symbols.{with_texts}
 use Rattle.crs_base.proofs.Words.{in_append_left}
+use Rattle.crs_base.proofs.Texts.{bytes_same, same_bytes}
+use Rattle.crs_base.proofs.Alls.{all_put, all_each}
 use Rattle.crs_grammar.specs.Statements.{Term, Pattern, Event, Body, NoEvent, Occurs, Hold, Statement, Message, Attribute, Begin, Happens, Point, Between, Among, Differ, Over, Close}
-use Rattle.crs_parse.specs.Faults.{Name, Written, is_of, with_texts, name_of, suits, is_attribute, is_unnamed, is_misfit, is_no_attribute, has_other_arity, is_point, event_points, variables_of, body_lacks, with_statement, begun, body_has_no_name, body_has_wrong_arity}
-use Rattle.crs_grammar.proofs.Decided.{and_true, bytes_same, same_bytes}
-use Rattle.crs_parse.proofs.Alls.{all_put, all_each, all_with, known_behind, known_put, known_left}
-use Rattle.crs_parse.proofs.Faultless.{IsFaultless, or_false, not_false, not_le}
+use Rattle.crs_parse.specs.Faults.{Name, Written, is_of, name_of, suits, is_attribute, is_unnamed, is_misfit, is_no_attribute, has_other_arity, is_point, event_points, variables_of, body_lacks, with_statement, begun, body_has_no_name, body_has_wrong_arity}
+use Rattle.crs_base.proofs.WithTexts.{all_with, known_behind, known_put, known_left}
+use Rattle.crs_parse.proofs.Faultless.{IsFaultless, not_false, not_le}
 use Rattle.crs_parse.proofs.HeldParts.{room_of}
+use Rattle.crs_base.proofs.DistinctTexts.{Distinct, with_distinct}
 
 found_step : (b : Bool) (n m : Name) (o : Option Name) (t : List ℕ) (ms : List Name) → bytes_eq t m.name ≡ b → cond b (Some m) o ≡ Some n → (o ≡ Some n → IsIn n ms × (n.name ≡ t)) → IsIn n (m ∷ ms) × (n.name ≡ t)
 found_step true n m o t ms h e rest = let same : n ≡ m = cc in (inl same, ap (λ x. x.name) same ∙ sym (bytes_same t m.name h))
@@ -41,7 +44,7 @@ declared_by : (names : List Name) (p : Pattern) (o : Option Name) → name_of na
 declared_by names p None e h k = absurd (true≢false h)
 declared_by names p (Some n) e h k =
     let f = found_name names p.name n e in
-    let a = or_false (not (length p.terms == n.arity)) (not (suits n.kind p.change)) k in
+    let a = or_parts (not (length p.terms == n.arity)) (not (suits n.kind p.change)) k in
     (n, record { among = f.0; same = f.1; arity = sym (eqb-true (length p.terms) n.arity (not_false (length p.terms == n.arity) a.0)) }, not_false (suits n.kind p.change) a.1)
 
 pattern_declared : (names : List Name) (p : Pattern) → is_unnamed (name_of names p.name) ≡ false → is_misfit (name_of names p.name) p ≡ false → IsDeclared names p
@@ -77,11 +80,6 @@ AreOf texts ts = AllByRecursion (λ t. is_of texts t ≡ true) ts
 abbrev pub stands_in : List Event → List ℕ → Bool
 stands_in es t = list_any (λ e. is_of (variables_of e.pattern) t) es
 
--- no text stands twice
-abbrev pub Distinct : List (List ℕ) → Type 0
-Distinct [] = Unit {0}
-Distinct (t ∷ ts) = (is_known ts t ≡ false) × Distinct ts
-
 -- a chronicle on the way
 pub record IsSound (names : List Name) (c : Written) : Type 0 where
   pub events_few : length c.events ≤ 16
@@ -103,29 +101,6 @@ pub record IsWhole (names : List Name) (c : Written) : Type 0 where
 
 -- Texts that are put behind others.
 
-not_same : (t u : List ℕ) (b : Bool) → bytes_eq u t ≡ b → bytes_eq t u ≡ false → b ≡ false
-not_same t u true e h = absurd (true≢false (sym (ap (λ x. bytes_eq t x) (bytes_same u t e) ∙ same_bytes t) ∙ h))
-not_same t u false e h = refl
-
-none_or : (a b : Bool) → a ≡ false → b ≡ false → (a || (b || false)) ≡ false
-none_or true b h k = h
-none_or false true h k = k
-none_or false false h k = refl
-
-put_distinct : (xs : List (List ℕ)) (t : List ℕ) → Distinct xs → is_known xs t ≡ false → Distinct (xs ++ t ∷ [])
-put_distinct [] t d h = (refl, tt)
-put_distinct (x ∷ xs) t d h =
-    let k = or_false (bytes_eq t x) (is_known xs t) h in
-    (list_any-append (bytes_eq x) xs (t ∷ []) ∙ none_or (is_known xs x) (bytes_eq x t) d.0 (not_same t x (bytes_eq x t) refl k.0), put_distinct xs t d.1 k.1)
-
-one_distinct : (xs : List (List ℕ)) (t : List ℕ) (b : Bool) → is_known xs t ≡ b → Distinct xs → Distinct (cond b xs (xs ++ t ∷ []))
-one_distinct xs t true e d = d
-one_distinct xs t false e d = put_distinct xs t d e
-
-with_distinct : (xs ts : List (List ℕ)) → Distinct xs → Distinct (with_texts xs ts)
-with_distinct xs [] d = d
-with_distinct xs (t ∷ ts) d = with_distinct (with_text xs t) ts (one_distinct xs t (is_known xs t) refl d)
-
 -- a list's own texts
 own_more : (u : List ℕ) (us ts : List (List ℕ)) → AreOf us ts → AreOf (u ∷ us) ts
 own_more u us [] h = tt
@@ -135,13 +110,9 @@ own_more u us (t ∷ ts) h = (or_right (bytes_eq t u) (is_of us t) h.0, own_more
     or_right true b e = refl
     or_right false b e = e
 
-own : (ts : List (List ℕ)) → AreOf ts ts
+pub own : (ts : List (List ℕ)) → AreOf ts ts
 own [] = tt
 own (t ∷ ts) = (ap (λ b. b || is_of ts t) (same_bytes t), own_more t ts ts (own ts))
-
-or_left : (a b : Bool) → a ≡ true → (a || b) ≡ true
-or_left true b e = refl
-or_left false b e = cc
 
 or_last : (a b : Bool) → b ≡ true → (a || (b || false)) ≡ true
 or_last true b e = refl
@@ -158,7 +129,7 @@ points_more : (c d : Written) → ((t : List ℕ) → is_of (event_points c) t �
     → (t : List ℕ) → is_point c t ≡ true → is_point d t ≡ true
 points_more c d f g t h = both_points (is_of (event_points c) t) (is_of c.free t) (is_of (event_points d) t) (is_of d.free t) (f t) (g t) h
 
-event_points_more : (es : List Event) (e : Event) (t : List ℕ) → is_of (map (λ v. v.point) es) t ≡ true → is_of (map (λ v. v.point) (es ++ e ∷ [])) t ≡ true
+pub event_points_more : (es : List Event) (e : Event) (t : List ℕ) → is_of (map (λ v. v.point) es) t ≡ true → is_of (map (λ v. v.point) (es ++ e ∷ [])) t ≡ true
 event_points_more es e t h = ap (λ l. is_of l t) (map-append (λ (v : Event). v.point) es (e ∷ [])) ∙ known_left (map (λ v. v.point) es) (e.point ∷ []) t h
 
 module _ (full : Bool) (names : List Name) (done : List (ℕ × Written)) (c : Written) where
@@ -219,7 +190,7 @@ module _ (full : Bool) (names : List Name) (done : List (ℕ × Written)) (c : W
         distinct = k.distinct;
         events = k.events;
         stand = k.stand;
-        bounds = all_put (λ d. (is_point c d.to ≡ true) × (is_point c d.from ≡ true)) c.bounds d k.bounds (and_true (is_point c d.to) (is_point c d.from) (not_false (is_point c d.to && is_point c d.from) f.point));
+        bounds = all_put (λ d. (is_point c d.to ≡ true) × (is_point c d.from ≡ true)) c.bounds d k.bounds (and_parts (is_point c d.to) (is_point c d.from) (not_false (is_point c d.to && is_point c d.from) f.point));
         sets = k.sets;
         differs = k.differs;
         windows = k.windows;
@@ -245,13 +216,13 @@ module _ (full : Bool) (names : List Name) (done : List (ℕ × Written)) (c : W
     stand = k.stand;
     bounds = k.bounds;
     sets = k.sets;
-    differs = all_put (λ d. (is_of c.variables d.0 ≡ true) × (is_of c.variables d.1 ≡ true)) c.differs (x, y) k.differs (and_true (is_of c.variables x) (is_of c.variables y) (not_false (is_of c.variables x && is_of c.variables y) f.variable));
+    differs = all_put (λ d. (is_of c.variables d.0 ≡ true) × (is_of c.variables d.1 ≡ true)) c.differs (x, y) k.differs (and_parts (is_of c.variables x) (is_of c.variables y) (not_false (is_of c.variables x && is_of c.variables y) f.variable));
     windows = k.windows;
   }
   sound_next (Over w) f k =
       let more : length (c.windows ++ w ∷ []) ≡ length c.windows + 1 = length-append c.windows (w ∷ []) in
       let few = not_le 16 (length c.windows) f.count in
-      let ends = and_true (is_of (event_points c) w.from.point) (is_of (event_points c) w.to.point) (not_false (is_of (event_points c) w.from.point && is_of (event_points c) w.to.point) f.point) in
+      let ends = and_parts (is_of (event_points c) w.from.point) (is_of (event_points c) w.to.point) (not_false (is_of (event_points c) w.from.point && is_of (event_points c) w.to.point) f.point) in
       record {
         events_few = k.events_few;
         bounds_few = k.bounds_few;
@@ -271,7 +242,7 @@ module _ (full : Bool) (names : List Name) (done : List (ℕ × Written)) (c : W
 
   none_of : {A : Type 0} (p : A → Bool) (xs : List A) → list_any p xs ≡ false → AllByRecursion (λ x. p x ≡ false) xs
   none_of p [] h = tt
-  none_of p (x ∷ xs) h = let k = or_false (p x) (list_any p xs) h in (k.0, none_of p xs k.1)
+  none_of p (x ∷ xs) h = let k = or_parts (p x) (list_any p xs) h in (k.0, none_of p xs k.1)
 
   pub closed_whole : IsFaultless full names done c Close → IsSound names c → IsWhole names c
   closed_whole f k = record { sound = k; some = not_zero (length c.events) f.events; bound = none_of (λ w. body_lacks c.variables w.body) c.windows f.unbound }

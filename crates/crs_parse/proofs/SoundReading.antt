@@ -2,11 +2,12 @@
 use Rattle.std.proofs.Common.{◌≡◌, ℕ, ◌+◌, ◌≤◌, ◌<◌, Bool, true, false, ◌||◌, nat_le, nat_lt, List, [], ◌∷◌, ◌++◌, length, Option, Some, None, Ok, is_some, subst, arith, length-append}
 use Rattle.std.specs.Prelude.{IfSome, option_map}
 use Rattle.std.specs.List.{AllByRecursion}
+use Rattle.std.proofs.lemmas.Bool.{or_parts}
 use Rattle.crs_base.specs.Lines.{Line}
+use Rattle.crs_base.proofs.Alls.{all_put, all_each}
 use Rattle.crs_grammar.specs.Statements.{Statement, Message, Attribute, Begin, Happens, Point, Between, Among, Differ, Over, Close, is_inside}
 use Rattle.crs_parse.specs.Faults.{Name, Written, Reading, opened, message_named, attribute_named, with_statement, after, after_line, after_lines, nothing_read, is_above}
-use Rattle.crs_parse.proofs.Alls.{all_put, all_each}
-use Rattle.crs_parse.proofs.Faultless.{IsFaultless, or_false, not_le}
+use Rattle.crs_parse.proofs.Faultless.{IsFaultless, not_le}
 use Rattle.crs_parse.proofs.HeldReading.{by_line, next_of, last_of}
 use Rattle.crs_parse.proofs.Sound.{IsSound, IsWhole, sound_next, closed_whole, begun_sound, more_sound, more_whole}
 
@@ -45,11 +46,11 @@ module _ (line : ℕ) (r : Reading) (full : Bool) (k : IsSoundSoFar r) where
 
   next_sound : (s : Statement) → IsFaultless full r.names r.done (opened r.current) s → is_inside s ≡ is_some r.current → IsSoundSoFar (after line r s)
   next_sound (Message name arity) f p =
-      let d = declared (message_named name arity) (or_false (nat_le 256 (length r.names)) (nat_lt 8 arity) f.count).0 in
+      let d = declared (message_named name arity) (or_parts (nat_le 256 (length r.names)) (nat_lt 8 arity) f.count).0 in
       record { names_few = d.names_few; done_few = d.done_few; done = d.done; current = d.current }
   next_sound (Attribute name arity values) f p =
-      let a = or_false (nat_le 256 (length r.names) || nat_lt 8 arity) (is_above 64 (option_map length values)) f.count in
-      let d = declared (attribute_named name arity values) (or_false (nat_le 256 (length r.names)) (nat_lt 8 arity) a.0).0 in
+      let a = or_parts (nat_le 256 (length r.names) || nat_lt 8 arity) (is_above 64 (option_map length values)) f.count in
+      let d = declared (attribute_named name arity values) (or_parts (nat_le 256 (length r.names)) (nat_lt 8 arity) a.0).0 in
       record { names_few = d.names_few; done_few = d.done_few; done = d.done; current = d.current }
   next_sound (Begin name) f p = record { names_few = k.names_few; done_few = k.done_few; done = k.done; current = (begun_sound r.names name, not_le 64 (length r.done) f.count) }
   next_sound (Happens e) f p = record { names_few = k.names_few; done_few = k.done_few; done = k.done; current = grown (Happens e) f p }

@@ -1,7 +1,7 @@
 -- The state of a reading, and the faults of its lines.
 use Rattle.std.specs.Prelude.{ℕ, ℤ, pos, neg_ℤ, int_lt, ◌+◌, ◌==◌, nat_le, nat_lt, Bool, true, false, not, ◌&&◌, ◌||◌, cond, List, [], ◌∷◌, ◌++◌, length, map, Option, Some, None, Result, Ok, Err, bytes_eq, find, option_map, is_some}
 use Rattle.std.specs.List.{list_any, flat_map}
-use Rattle.crs_base.specs.Symbols.{with_text}
+use Rattle.crs_base.specs.Symbols.{with_texts}
 use Rattle.crs_model.specs.declared.models.ModelWord.{ModelWord}
 use Rattle.crs_model.specs.declared.models.ModelWord.TheVariants.{Form as FormWord, Twice, Name as NameWord, Arity as ArityWord, Value as ValueWord, Variable as VariableWord, Point as PointWord, Bound as BoundWord, Window as WindowWord, Limit as LimitWord, Events as EventsWord, Unbound as UnboundWord, Size as SizeWord}
 use Rattle.crs_base.specs.Lines.{Line, lines_of, bytes_of, is_long, is_passed_over}
@@ -39,11 +39,6 @@ pub record Reading : Type 0 where
 
 abbrev pub is_of : List (List ℕ) → List ℕ → Bool
 is_of texts text = list_any (bytes_eq text) texts
-
--- these texts with those, each new one last
-abbrev pub with_texts : List (List ℕ) → List (List ℕ) → List (List ℕ)
-with_texts texts [] = texts
-with_texts texts (t ∷ ts) = with_texts (with_text texts t) ts
 
 abbrev pub term_symbols : Term → List (List ℕ)
 term_symbols (Value s) = s ∷ []

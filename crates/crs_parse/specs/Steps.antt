@@ -1,11 +1,11 @@
 -- One line inside a chronicle or outside.
 use Rattle.std.specs.Prelude.{◌≡◌, ℕ, nat_lt, Bool, List, [], ◌∷◌, ◌++◌, ◌+◌, length, Option, Result, Ok, Err, Some, None, IfSome, true, false, cond}
 use Rattle.std.specs.List.{AllByRecursion}
-use Rattle.crs_base.specs.Symbols.{is_symbol}
+use Rattle.crs_base.specs.Symbols.{is_symbol, with_texts}
 use Rattle.crs_base.specs.Tokens.{Token, tokens_of, is_model_mark}
 use Rattle.crs_grammar.specs.Statements.{Statement, Message, Attribute, Begin, Close, is_inside}
 use Rattle.crs_grammar.specs.Reading.{◌>>=◌, inside_of, outside_of}
-use Rattle.crs_parse.specs.Faults.{Name, Written, Reading, own_fault, begun, message_named, attribute_named, with_statement, with_texts, symbols_of}
+use Rattle.crs_parse.specs.Faults.{Name, Written, Reading, own_fault, begun, message_named, attribute_named, with_statement, symbols_of}
 use Rattle.crs_model.specs.declared.models.ModelWord.{ModelWord}
 use Rattle.crs_model.specs.declared.models.ModelWord.TheVariants.{Form as FormWord, Limit as LimitWord}
 use Rattle.crs_base.specs.Lines.{Line, is_long, bytes_of, is_passed_over}

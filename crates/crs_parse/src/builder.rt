@@ -1,15 +1,15 @@
 //! The state of a reading: what the lines so far declare.
-ghost use Rattle.std.specs.Prelude.{◌≡◌, ◌∷◌, [], ◌++◌, ◌&&◌, map, length, option_map, is_some, OnOk, not, ◌||◌, nat_le, nat_lt};
+ghost use Rattle.std.specs.Prelude.{◌≡◌, ◌∷◌, [], ◌++◌, ◌&&◌, map, length, option_map, is_some, OnOk, ◌||◌};
 ghost use Rattle.std.specs.List.{list_any};
 ghost use Rattle.crs_parse.specs.Faults as faults;
 ghost use Rattle.crs_parse.specs.SeenReading as see;
 ghost use Rattle.crs_grammar.specs.Statements.{Point, Between, Among, Differ, Over, Happens, Close, Message, Attribute, Begin};
-ghost use Rattle.crs_base.specs.Symbols.{with_text};
+ghost use Rattle.crs_base.specs.Symbols.{with_text, with_texts};
 ghost use Rattle.crs_parse.specs.Adds.{Adds};
 ghost use Rattle.crs_parse.specs.declared.builder.Refused.TheVariants.{Memory};
 ghost use Rattle.crs_grammar.specs.SeenStatements as seen;
 
-use crs_grammar::{Anchor, Body, Distance, Event, Pattern, Shift, Statement, Term, Window};
+use crs_grammar::{Body, Distance, Event, Pattern, Shift, Statement, Term, Window};
 use crs_model::ModelWord;
 use std::alloc::{AllocError, AllocFailed, Global};
 
@@ -433,7 +433,7 @@ fn push_new<'a>(texts: &mut Vec<&'a [u8]>, text: &'a [u8]) -> Result<(), AllocEr
 }
 
 fn add_variable<'a>(variables: &mut Vec<&'a [u8]>, term: &Term<'a>) -> Result<(), AllocError>
-    ensures { OnOk result (map (λ t. t.now) variables.new.items ≡ faults.with_texts (map (λ t. t.now) variables.old.items) (faults.variable_in (seen.term_of term.now))) }
+    ensures { OnOk result (map (λ t. t.now) variables.new.items ≡ with_texts (map (λ t. t.now) variables.old.items) (faults.variable_in (seen.term_of term.now))) }
 {
     if let Term::Variable(name) = term {
         push_new(variables, name)?;
@@ -442,7 +442,7 @@ fn add_variable<'a>(variables: &mut Vec<&'a [u8]>, term: &Term<'a>) -> Result<()
 }
 
 fn add_variables<'a>(variables: &mut Vec<&'a [u8]>, terms: &[Term<'a>]) -> Result<(), AllocError>
-    ensures { OnOk result (map (λ t. t.now) variables.new.items ≡ faults.with_texts (map (λ t. t.now) variables.old.items) (faults.variables_in (map seen.term_of terms.now))) }
+    ensures { OnOk result (map (λ t. t.now) variables.new.items ≡ with_texts (map (λ t. t.now) variables.old.items) (faults.variables_in (map seen.term_of terms.now))) }
 {
     for t in terms {
         add_variable(variables, t)?;
@@ -454,7 +454,7 @@ fn add_change_variables<'a>(
     variables: &mut Vec<&'a [u8]>,
     change: &Option<(Term<'a>, Term<'a>)>,
 ) -> Result<(), AllocError>
-    ensures { OnOk result (map (λ t. t.now) variables.new.items ≡ faults.with_texts (map (λ t. t.now) variables.old.items) (faults.variables_in (faults.change_terms (seen.change_of change.now)))) }
+    ensures { OnOk result (map (λ t. t.now) variables.new.items ≡ with_texts (map (λ t. t.now) variables.old.items) (faults.variables_in (faults.change_terms (seen.change_of change.now)))) }
 {
     if let Some((old, new)) = change {
         add_variable(variables, old)?;
@@ -468,7 +468,7 @@ fn add_pattern_variables<'a>(
     variables: &mut Vec<&'a [u8]>,
     pattern: &Pattern<'a>,
 ) -> Result<(), AllocError>
-    ensures { OnOk result (map (λ t. t.now) variables.new.items ≡ faults.with_texts (map (λ t. t.now) variables.old.items) (faults.variables_of (seen.pattern_of pattern.now))) }
+    ensures { OnOk result (map (λ t. t.now) variables.new.items ≡ with_texts (map (λ t. t.now) variables.old.items) (faults.variables_of (seen.pattern_of pattern.now))) }
 {
     add_variables(variables, &pattern.terms)?;
     add_change_variables(variables, &pattern.change)

@@ -1,8 +1,9 @@
 //! Whole model texts.
-ghost use Rattle.std.specs.Prelude.{◌≡◌, ◌<◌, ◌≤◌, ◌+◌, ◌^◌, [], map, length, IfOk, IfErr};
+ghost use Rattle.std.specs.Prelude.{◌≡◌, ◌<◌, ◌≤◌, ◌+◌, ◌^◌, map, length, IfOk, IfErr};
 ghost use Rattle.crs_model.specs.Seen as view;
 ghost use Rattle.crs_parse.specs.Faults as faults;
 ghost use Rattle.crs_base.specs.Lines.{lines_of};
+ghost use Rattle.crs_base.specs.Symbols.{AreDistinct};
 ghost use Rattle.crs_parse.specs.Grows.{Grows, AreAmong, lines_symbols};
 ghost use Rattle.crs_parse.specs.Meant.{models_read};
 ghost use Rattle.crs_model.specs.Renaming as renamed;
@@ -102,6 +103,7 @@ pub fn read_models(
     ensures grows { Grows (lines_symbols (lines_of text.now)) symbols.old.texts symbols.new.texts }
     ensures numbered { IfOk result (λ m. renamed.AreModelsOf (λ s. s.0 < length symbols.new.texts) (view.models_of m)) }
     ensures proper { IfOk result (λ m. AreProper (view.models_of m)) }
+    ensures distinct { IfOk result (λ _. AreDistinct symbols.new.texts) }
 {
     if SIZE_LIMIT < text.len() {
         return Err(ModelRefused::At {
@@ -110,9 +112,8 @@ pub fn read_models(
         });
     }
     let reading = read_all(alloc, symbols, text)?;
+    // no text stands twice in the table
     let _ = symbols.len();
-    match models(alloc, symbols, &reading) {
-        Ok(models) => Ok(models),
-        Err(_) => Err(ModelRefused::Memory),
-    }
+    let models = models(alloc, symbols, &reading)?;
+    Ok(models)
 }

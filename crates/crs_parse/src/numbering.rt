@@ -1,7 +1,6 @@
 //! The models of a finished reading, with the numbers of a table for its symbols.
-ghost use Rattle.std.specs.Prelude.{◌≡◌, ◌≤◌, ◌<◌, ◌+◌, ◌^◌, ◌∷◌, [], ◌++◌, map, length, option_map, IfOk, OnOk, IfSome, true, neg_ℤ};
+ghost use Rattle.std.specs.Prelude.{◌≡◌, ◌≤◌, ◌<◌, ◌+◌, ◌^◌, ◌++◌, map, length, option_map, IfOk, OnOk, IfSome, neg_ℤ};
 ghost use Rattle.std.specs.List.{AllByRecursion, flat_map};
-ghost use Rattle.crs_base.specs.Symbols.{is_known};
 ghost use Rattle.crs_model.specs.Seen as view;
 ghost use Rattle.crs_parse.specs.Meant as meant;
 ghost use Rattle.crs_model.specs.Renaming as renamed;

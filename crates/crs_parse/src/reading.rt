@@ -1,7 +1,7 @@
 //! One line of a model text.
 ghost use Rattle.std.specs.Prelude.{◌≡◌, ◌<◌, ◌≤◌, Some, [], ◌+◌, ◌^◌, option_map, map, length, true, false, OnOk, IfOk};
 ghost use Rattle.std.specs.List.{AllByRecursion};
-ghost use Rattle.crs_base.specs.Symbols.{is_symbol};
+ghost use Rattle.crs_base.specs.Symbols.{is_symbol, with_texts};
 ghost use Rattle.crs_parse.specs.Faults as faults;
 ghost use Rattle.crs_parse.specs.Steps as steps;
 ghost use Rattle.crs_grammar.specs.Gives.{Gives};
@@ -44,11 +44,11 @@ pub fn read_outside<'a>(alloc: Global, line: &'a [u8]) -> Result<Declaration<'a>
 /// Numbers the symbols of a statement.
 fn number_symbols(symbols: &mut Symbols, texts: &[&[u8]]) -> Result<(), Refused>
     requires { AllByRecursion (λ t. is_symbol t ≡ true) (map (λ t. t.now) texts.now) }
-    ensures room { OnOk result (steps.passes symbols.old.limit (faults.with_texts symbols.old.texts (map (λ t. t.now) texts.now)) ≡ false) }
-    ensures ok { OnOk result (symbols.new.texts ≡ faults.with_texts symbols.old.texts (map (λ t. t.now) texts.now)) }
+    ensures room { OnOk result (steps.passes symbols.old.limit (with_texts symbols.old.texts (map (λ t. t.now) texts.now)) ≡ false) }
+    ensures ok { OnOk result (symbols.new.texts ≡ with_texts symbols.old.texts (map (λ t. t.now) texts.now)) }
     ensures limit { symbols.new.limit ≡ symbols.old.limit }
     ensures grows { Grows (map (λ t. t.now) texts.now) symbols.old.texts symbols.new.texts }
-    ensures full { steps.IfWord result (λ w. (w ≡ ModelWord.Limit) × (steps.passes symbols.old.limit (faults.with_texts symbols.old.texts (map (λ t. t.now) texts.now)) ≡ true)) }
+    ensures full { steps.IfWord result (λ w. (w ≡ ModelWord.Limit) × (steps.passes symbols.old.limit (with_texts symbols.old.texts (map (λ t. t.now) texts.now)) ≡ true)) }
 {
     match intern_all(symbols, texts) {
         Ok(()) => {

@@ -1,7 +1,7 @@
 //! The symbols of statements, in the order in which they stand there.
-ghost use Rattle.std.specs.Prelude.{◌≡◌, ◌++◌, map, OnOk, IfOk, true, ◌∷◌, [], ◌≤◌, length, IsTrue, IfErr};
+ghost use Rattle.std.specs.Prelude.{◌≡◌, ◌++◌, map, OnOk, IfOk, true, ◌∷◌, [], IfErr};
 ghost use Rattle.std.specs.List.{AllByRecursion};
-ghost use Rattle.crs_base.specs.Symbols.{is_symbol};
+ghost use Rattle.crs_base.specs.Symbols.{is_symbol, with_texts};
 ghost use Rattle.crs_parse.specs.Faults as faults;
 ghost use Rattle.crs_grammar.specs.SeenStatements as seen;
 ghost use Rattle.crs_parse.specs.Grows.{Grows};
@@ -141,10 +141,10 @@ pub fn declared_symbols<'a>(
 /// Numbers symbols, as far as the table has room.
 pub fn intern_all(symbols: &mut Symbols, texts: &[&[u8]]) -> Result<(), SymRefused>
     requires { AllByRecursion (λ t. is_symbol t ≡ true) (map (λ t. t.now) texts.now) }
-    ensures ok { OnOk result (symbols.new.texts ≡ faults.with_texts symbols.old.texts (map (λ t. t.now) texts.now)) }
+    ensures ok { OnOk result (symbols.new.texts ≡ with_texts symbols.old.texts (map (λ t. t.now) texts.now)) }
     ensures limit { symbols.new.limit ≡ symbols.old.limit }
     ensures grows { Grows (map (λ t. t.now) texts.now) symbols.old.texts symbols.new.texts }
-    ensures refused { IfErr result (λ e. IsOverfull e symbols.old.limit (faults.with_texts symbols.old.texts (map (λ t. t.now) texts.now))) }
+    ensures refused { IfErr result (λ e. IsOverfull e symbols.old.limit (with_texts symbols.old.texts (map (λ t. t.now) texts.now))) }
 {
     for t in texts {
         match symbols.intern(t) {

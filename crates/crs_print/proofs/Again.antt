@@ -4,13 +4,13 @@ use Rattle.std.specs.List.{AllByRecursion, flat_map}
 use Rattle.std.proofs.lemmas.Bool.{le-ltb}
 use Rattle.std.proofs.lemmas.List.{map-append, append-nil, length-map}
 use Rattle.crs_base.specs.Lines.{Line, is_long}
-use Rattle.crs_base.specs.Symbols.{is_known}
+use Rattle.crs_base.specs.Symbols.{is_known, with_texts}
+use Rattle.crs_base.proofs.Alls.{all_left, all_right}
 use Rattle.crs_model.specs.declared.models.ModelWord.TheVariants.{Twice, Name as NameWord, Arity as ArityWord, Value as ValueWord, Variable as VariableWord, Point as PointWord, Bound as BoundWord, Window as WindowWord, Limit as LimitWord, Events as EventsWord, Unbound as UnboundWord}
 use Rattle.crs_grammar.specs.Canon.{is_indented}
-use Rattle.crs_parse.specs.Faults.{Kind, OfMessage, OfAttribute, Name, Written, Reading, is_of, first_of, faults_of, passes_symbols, symbols_of, opened, begun, with_statement, with_texts, after, answered, after_lines, unless_refused}
+use Rattle.crs_parse.specs.Faults.{Kind, OfMessage, OfAttribute, Name, Written, Reading, is_of, first_of, faults_of, passes_symbols, symbols_of, opened, begun, with_statement, after, answered, after_lines, unless_refused}
 use Rattle.crs_grammar.specs.Statements.{Statement, Message, Attribute, Begin, Close, is_inside}
 use Rattle.crs_parse.specs.Steps.{reading_in, reading_out}
-use Rattle.crs_parse.proofs.Alls.{all_left, all_right}
 use Rattle.crs_parse.proofs.Faultless.{IsFaultless}
 use Rattle.crs_print.proofs.Distinct.{IsTable, table_more, table_few}
 use Rattle.crs_print.proofs.Good.{IsFit, IsDone}

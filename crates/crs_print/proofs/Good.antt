@@ -1,13 +1,13 @@
 -- What is kept of a chronicle that is read without fault, in words that don't depend on the order of its lines.
 use Rattle.std.proofs.Common.{◌≡◌, ℕ, ◌+◌, ◌≤◌, Bool, true, false, cond, not, ◌&&◌, ◌==◌, nat_lt, ◌||◌, List, [], ◌∷◌, ◌++◌, map, length, Option, Some, None, refl, ap, ◌∙◌, true≢false}
 use Rattle.std.specs.List.{AllByRecursion, flat_map}
-use Rattle.crs_base.specs.Symbols.{is_known}
-use Rattle.crs_parse.specs.Faults.{Name, Written, is_of, event_points, is_point, with_texts, name_of, variables_of, is_unnamed, is_misfit, is_beyond, is_no_attribute, has_other_arity, holds_beyond, is_above, has_no_name, has_wrong_arity, has_wrong_value, has_no_variable, has_no_point, is_out_of_bounds, has_any, is_unbound, body_has_no_name, body_has_wrong_arity, body_has_wrong_value, symbols_of, with_statement}
+use Rattle.std.proofs.lemmas.Bool.{or_left, or_right}
+use Rattle.crs_base.specs.Symbols.{is_known, with_texts}
+use Rattle.crs_base.proofs.Alls.{all_put, all_each}
+use Rattle.crs_parse.specs.Faults.{Name, Written, is_of, event_points, is_point, name_of, variables_of, is_unnamed, is_misfit, is_beyond, is_no_attribute, has_other_arity, holds_beyond, is_above, has_no_name, has_wrong_arity, has_wrong_value, has_no_variable, has_no_point, is_out_of_bounds, has_any, is_unbound, body_has_no_name, body_has_wrong_arity, body_has_wrong_value, symbols_of, with_statement}
 use Rattle.crs_parse.specs.Meant.{points_of}
+use Rattle.crs_base.proofs.DistinctTexts.{Distinct}
 use Rattle.crs_grammar.specs.Statements.{Body, NoEvent, Occurs, Hold, Statement, Message, Attribute, Begin, Happens, Point, Between, Among, Differ, Over, Close}
-use Rattle.crs_parse.proofs.Alls.{all_each, all_put}
-use Rattle.crs_parse.proofs.Sound.{Distinct}
-use Rattle.crs_print.proofs.Distinct.{or_left, or_right}
 use Rattle.crs_print.proofs.Lines.{Writable}
 
 -- the statement can be written, and its symbols are among these texts

@@ -1,19 +1,21 @@
 -- A chronicle stays good with each statement to which no word applies.
-use Rattle.std.proofs.Common.{◌≡◌, ℕ, ◌+◌, ◌≤◌, ◌<◌, Bool, true, false, ◌||◌, nat_lt, nat_le, List, [], ◌∷◌, ◌++◌, map, length, refl, sym, ap, subst, ◌∙◌, append_assoc, length-append, arith}
+use Rattle.std.proofs.Common.{◌≡◌, ℕ, ◌+◌, ◌≤◌, ◌<◌, Bool, false, ◌||◌, nat_lt, nat_le, List, [], ◌∷◌, ◌++◌, map, length, refl, sym, ap, subst, ◌∙◌, append_assoc, length-append, arith}
 use Rattle.std.specs.List.{flat_map}
 use Rattle.std.proofs.lemmas.Grind.{flat_map-append}
 use Rattle.std.proofs.lemmas.List.{map-append, append-nil}
 use Rattle.std.proofs.lemmas.List.Folds.{list_any-append}
 use Rattle.std.specs.Prelude.{bytes_eq}
-use Rattle.crs_parse.specs.Faults.{Name, Written, is_of, event_points, with_texts, variables_of, is_above, is_full, with_statement, begun, passes_count}
+use Rattle.std.proofs.lemmas.Bool.{or_parts}
+use Rattle.crs_parse.specs.Faults.{Name, Written, event_points, variables_of, is_above, is_full, with_statement, begun, passes_count}
 use Rattle.crs_parse.specs.Meant.{points_of}
 use Rattle.crs_grammar.specs.Statements.{Event, Statement, Message, Attribute, Begin, Happens, Point, Between, Among, Differ, Over, Close}
-use Rattle.crs_parse.proofs.Alls.{known_behind, known_left}
-use Rattle.crs_parse.proofs.Faultless.{IsFaultless, or_false, not_le, not_lt}
-use Rattle.crs_parse.proofs.Sound.{Distinct}
+use Rattle.crs_base.proofs.WithTexts.{known_behind, known_left}
+use Rattle.crs_parse.proofs.Faultless.{IsFaultless, not_le, not_lt}
 use Rattle.crs_parse.proofs.Texts.{with_texts_append}
-use Rattle.crs_print.proofs.Distinct.{between_distinct, last_distinct}
+use Rattle.crs_base.proofs.DistinctTexts.{Distinct, between_distinct, last_distinct}
+use Rattle.crs_parse.proofs.Sound.{event_points_more}
 use Rattle.crs_print.proofs.Good.{IsFit, is_large, IsFine, IsFew, IsGood, each_of, one_more_of, Grows, fine_in}
+use Rattle.crs_base.specs.Symbols.{with_texts}
 
 pub record IsRoom (c : Written) (e : Event) : Type 0 where
   pub events : length c.events < 16
@@ -24,19 +26,16 @@ pub record IsRoom (c : Written) (e : Event) : Type 0 where
 pub room_of : (c : Written) (e : Event) → is_full (record c { variables = with_texts c.variables (variables_of e.pattern) }) e.level ≡ false → IsRoom c e
 room_of c e h =
     let vs : List (List ℕ) = with_texts c.variables (variables_of e.pattern) in
-    let a = or_false (nat_le 16 (length c.events) || nat_le 24 (length c.events + length c.free) || is_above 7 e.level) (nat_lt 16 (length vs)) h in
-    let b = or_false (nat_le 16 (length c.events) || nat_le 24 (length c.events + length c.free)) (is_above 7 e.level) a.0 in
-    let d = or_false (nat_le 16 (length c.events)) (nat_le 24 (length c.events + length c.free)) b.0 in
+    let a = or_parts (nat_le 16 (length c.events) || nat_le 24 (length c.events + length c.free) || is_above 7 e.level) (nat_lt 16 (length vs)) h in
+    let b = or_parts (nat_le 16 (length c.events) || nat_le 24 (length c.events + length c.free)) (is_above 7 e.level) a.0 in
+    let d = or_parts (nat_le 16 (length c.events)) (nat_le 24 (length c.events + length c.free)) b.0 in
     record { events = not_le 16 (length c.events) d.0; points = not_le 24 (length c.events + length c.free) d.1; level = b.1; variables = not_lt 16 (length vs) a.1 }
-
-points_put : (es : List Event) (e : Event) (t : List ℕ) → is_of (map (λ v. v.point) es) t ≡ true → is_of (map (λ v. v.point) (es ++ e ∷ [])) t ≡ true
-points_put es e t h = ap (λ l. is_of l t) (map-append (λ (v : Event). v.point) es (e ∷ [])) ∙ known_left (map (λ v. v.point) es) (e.point ∷ []) t h
 
 pub grows_same : (c : Written) → Grows c c
 grows_same c = record { points = λ t h. h; free = λ t h. h; variables = λ t h. h }
 
 grows_next : (c : Written) (s : Statement) → Grows c (with_statement c s)
-grows_next c (Happens e) = record { points = points_put c.events e; free = λ t h. h; variables = known_behind c.variables (variables_of e.pattern) }
+grows_next c (Happens e) = record { points = event_points_more c.events e; free = λ t h. h; variables = known_behind c.variables (variables_of e.pattern) }
 grows_next c (Point t) = record { points = λ t h. h; free = known_left c.free (t ∷ []); variables = λ t h. h }
 grows_next c (Between d) = record { points = λ t h. h; free = λ t h. h; variables = λ t h. h }
 grows_next c (Among x vs) = record { points = λ t h. h; free = λ t h. h; variables = λ t h. h }

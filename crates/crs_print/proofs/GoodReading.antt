@@ -4,14 +4,14 @@ use Rattle.std.specs.Prelude.{IfSome}
 use Rattle.std.specs.List.{AllByRecursion}
 use Rattle.std.proofs.lemmas.List.{map-append, append-nil, length-map}
 use Rattle.crs_base.specs.Lines.{Line}
+use Rattle.crs_base.proofs.Alls.{all_put, all_each}
 use Rattle.crs_parse.specs.Faults.{Kind, OfMessage, OfAttribute, Name, Written, Reading, is_of, passes_symbols, message_named, attribute_named, opened, begun, with_statement, after, after_line, after_lines, nothing_read}
 use Rattle.crs_grammar.specs.Statements.{Statement, Message, Attribute, Begin, Happens, Point, Between, Among, Differ, Over, Close, is_inside}
-use Rattle.crs_parse.proofs.Alls.{all_put, all_each}
 use Rattle.crs_parse.proofs.Faultless.{IsFaultless}
-use Rattle.crs_parse.proofs.HeldReading.{Within, next_of, last_of, texts_within}
+use Rattle.crs_parse.proofs.HeldReading.{Within, next_of, last_of, texts_within, by_line, symbols_known}
 use Rattle.crs_print.proofs.Good.{IsFit, IsGood, IsDone, good_named, done_named}
 use Rattle.crs_print.proofs.GoodNext.{good_next, good_begun, name_stays}
-use Rattle.crs_print.proofs.Next.{by_line, symbols_known}
+use Rattle.crs_print.proofs.Written.{writable_of}
 
 abbrev pub said_kind : List ℕ → ℕ → Kind → Statement
 said_kind name arity OfMessage = Message name arity
@@ -106,7 +106,7 @@ line_good : (limit : ℕ) (texts : List (List ℕ)) (line : ℕ) (r next : Readi
 line_good limit texts line r next l e = by_line limit (λ line r next. Within next.texts texts → IsGoodReading texts r → IsGoodReading texts next) (λ line r w k. k)
     (λ line r next s h w k.
     let known = symbols_known texts line r s (subst (λ x. Within x.texts texts) (sym h.is) w) in
-    subst (IsGoodReading texts) h.is (next_good texts (passes_symbols limit r.texts s) line r k s h.faultless h.place (record { writable = h.writable; known = known }))) line r next l e
+    subst (IsGoodReading texts) h.is (next_good texts (passes_symbols limit r.texts s) line r k s h.faultless h.place (record { writable = writable_of s h.written; known = known }))) line r next l e
 
 lines_good : (limit line : ℕ) (r all : Reading) (ls : List Line) → after_lines limit line r ls ≡ Ok all → IsGoodReading all.texts r → IsGoodReading all.texts all
 lines_good limit line r all [] e h = subst (IsGoodReading all.texts) (last_of (is_some r.current) line r all e).same h

@@ -4,8 +4,8 @@ use Rattle.std.specs.List.{flat_map}
 use Rattle.std.proofs.lemmas.Grind.{flat_map-append}
 use Rattle.std.specs.List.{AllByRecursion}
 use Rattle.std.proofs.lemmas.List.{map-append, append-nil}
-use Rattle.crs_parse.proofs.Alls.{all_append}
 use Rattle.crs_base.specs.declared.symbols.Sym.{Sym}
+use Rattle.crs_base.proofs.Alls.{all_append}
 use Rattle.crs_model.specs.declared.chronicle.EventDef.{EventDef as CodeEvent}
 use Rattle.crs_model.specs.Seen as view
 use Rattle.crs_model.specs.Renaming.{text_in, renamed_event}

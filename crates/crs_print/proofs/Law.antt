@@ -3,6 +3,7 @@ use Rattle.std.proofs.Common.{◌≡◌, ℕ, ◌≤◌, Bool, true, false, cond
 use Rattle.std.specs.List.{AllByRecursion, flat_map}
 use Rattle.std.proofs.lemmas.Bool.{le-ltb}
 use Rattle.crs_base.specs.Lines.{lines_of, is_long}
+use Rattle.crs_base.proofs.Alls.{all_append}
 use Rattle.crs_model.specs.Models.{Chronicle, Models}
 use Rattle.crs_model.specs.declared.models.ModelWord.TheVariants.{Size as SizeWord}
 use Rattle.crs_grammar.specs.Canon.{statements_text}
@@ -11,12 +12,12 @@ use Rattle.crs_parse.specs.Meant.{chronicle_of, models_in, read_of, models_read}
 use Rattle.crs_print.specs.Printed.{name_from, chronicle_from, statements_from, models_text}
 use Rattle.crs_grammar.specs.Statements.{Statement, Close}
 use Rattle.crs_parse.specs.Steps.{reading_out}
-use Rattle.crs_parse.proofs.Alls.{all_append}
 use Rattle.crs_parse.proofs.Numbered.{each_made, each_back}
 use Rattle.crs_parse.proofs.SoundReading.{read_sound}
+use Rattle.crs_base.proofs.DistinctTexts.{distinct_by}
 use Rattle.crs_print.specs.Laws.{IsReadable, without_line, without_lines, IsTableWithin, CanonicalModelsAreRead, TablesAreWithin, LinesAreNotWritten}
 use Rattle.crs_print.proofs.Again.{AreShort, statements_of, all_go}
-use Rattle.crs_print.proofs.Distinct.{IsTable, distinct_by}
+use Rattle.crs_print.proofs.Distinct.{IsTable}
 use Rattle.crs_print.proofs.Good.{IsDone}
 use Rattle.crs_print.proofs.GoodReading.{IsGoodReading, said, AreDeclared, AreBegun, called, read_good}
 use Rattle.crs_print.proofs.Lines.{Writable, line_of, text_lines}

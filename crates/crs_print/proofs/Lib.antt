@@ -8,7 +8,6 @@ pub mod GoodNext
 pub mod GoodReading
 pub mod Law
 pub mod Lines
-pub mod Next
 pub mod Normal
 pub mod Says
 pub mod Steps

@@ -2,16 +2,17 @@
 use Rattle.std.proofs.Common.{◌≡◌, ℕ, zero, suc, ◌+◌, ◌≤◌, false, ◌||◌, ◌==◌, nat_lt, List, [], ◌∷◌, ◌++◌, map, length, Option, Some, None, refl, sym, ap, subst, ◌∙◌}
 use Rattle.std.specs.List.{AllByRecursion, flat_map, list_any}
 use Rattle.std.proofs.lemmas.List.{length-map}
-use Rattle.crs_parse.specs.Faults.{Name, Written, is_of, is_above, shift_size, variables_of, with_texts, body_lacks, has_wrong_counts}
+use Rattle.crs_parse.specs.Faults.{Name, Written, is_of, is_above, shift_size, variables_of, body_lacks, has_wrong_counts}
 use Rattle.crs_grammar.specs.Forms.{Part, Sign, Gap, Symbol, pattern_form, level_form, shift_form, anchor_form, body_form, span_form}
 use Rattle.crs_grammar.specs.Laws.{IsWritable}
 use Rattle.crs_parse.specs.Meant.{level_of, offset_of, points_of, event_of, anchor_of, window_of, bounds_of, chronicle_of}
 use Rattle.crs_print.specs.Printed.{level_from, shift_from}
 use Rattle.crs_grammar.specs.Statements.{Event, Shift, Here, Later, Earlier, Anchor, Window, Statement, Happens, Point, Between, Among, Differ, Over}
-use Rattle.crs_parse.proofs.Alls.{all_append, all_left, all_right, all_each}
 use Rattle.crs_parse.proofs.Numbered.{each_made}
-use Rattle.crs_parse.proofs.Sound.{Distinct}
+use Rattle.crs_base.proofs.DistinctTexts.{Distinct}
 use Rattle.crs_print.proofs.Good.{IsFit, IsFine, IsGood, IsDone, Grows, fine_in}
+use Rattle.crs_base.proofs.Alls.{all_append, all_left, all_right, all_each}
+use Rattle.crs_base.specs.Symbols.{with_texts}
 
 abbrev pub normal_event : Event → Event
 normal_event e = record { pattern = e.pattern; point = e.point; level = level_from (level_of e.level) }

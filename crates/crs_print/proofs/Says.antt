@@ -4,17 +4,17 @@ use Rattle.std.specs.Prelude.{bytes_eq, neg_ℤ}
 use Rattle.std.specs.List.{AllByRecursion, flat_map, list_any}
 use Rattle.std.proofs.Math.IntN.{neg_ℤ-neg_ℤ}
 use Rattle.std.proofs.lemmas.List.Folds.{list_any-append}
+use Rattle.std.proofs.lemmas.Bool.{or_parts, or_from, or_left}
 use Rattle.crs_base.specs.Symbols.{is_known, text_at}
+use Rattle.crs_base.proofs.Alls.{all_left, all_right, all_both}
 use Rattle.crs_parse.specs.Faults.{Kind, OfMessage, OfAttribute, Name, Written, Reading, is_of, event_points, is_point, variable_in, variables_in, variables_of, change_terms, lacks, change_lacks, pattern_lacks, body_lacks}
 use Rattle.crs_parse.specs.Meant.{points_of, term_of, change_of, pattern_of, body_of, event_of, anchor_of, window_of, bounds_of, set_of, differ_of, chronicle_of, name_of, models_in}
 use Rattle.crs_print.specs.Printed.{term_from, change_from, pattern_from, body_from, event_from, anchor_from, window_from, points_in, distances_from, name_from, chronicle_from, statements_from}
 use Rattle.crs_grammar.specs.Statements.{Term, Value, Variable, Any, Pattern, Event, Anchor, Body, NoEvent, Occurs, Hold, Window, Distance, Begin, Happens, Point, Between, Among, Differ, Over, Close}
-use Rattle.crs_parse.proofs.Alls.{all_left, all_right}
-use Rattle.crs_parse.proofs.Faultless.{or_false, not_false}
+use Rattle.crs_parse.proofs.Faultless.{not_false}
 use Rattle.crs_parse.proofs.Places.{place_text}
 use Rattle.crs_parse.proofs.Sound.{AreOf, IsWhole}
 use Rattle.crs_print.proofs.Again.{statements_of}
-use Rattle.crs_print.proofs.Distinct.{or_both, or_left}
 use Rattle.crs_print.proofs.GoodReading.{said_kind, said}
 use Rattle.crs_print.proofs.Normal.{normal_event, normal_anchor, normal_window, normal}
 
@@ -35,19 +35,19 @@ module _ (variables : List (List ℕ)) where
 
   terms_again : (ts : List Term) → list_any (lacks variables) ts ≡ false → map (term_from variables) (map (term_of variables) ts) ≡ ts
   terms_again [] h = refl
-  terms_again (t ∷ ts) h = let k = or_false (lacks variables t) (list_any (lacks variables) ts) h in λ i. term_again t k.0 i ∷ terms_again ts k.1 i
+  terms_again (t ∷ ts) h = let k = or_parts (lacks variables t) (list_any (lacks variables) ts) h in λ i. term_again t k.0 i ∷ terms_again ts k.1 i
 
   change_again : (c : Option (Term × Term)) → change_lacks variables c ≡ false → change_from variables (change_of variables c) ≡ c
   change_again None h = refl
-  change_again (Some c) h = let k = or_false (lacks variables c.0) (lacks variables c.1) h in λ i. Some (term_again c.0 k.0 i, term_again c.1 k.1 i)
+  change_again (Some c) h = let k = or_parts (lacks variables c.0) (lacks variables c.1) h in λ i. Some (term_again c.0 k.0 i, term_again c.1 k.1 i)
 
   pattern_again : (q : Pattern) → pattern_lacks variables q ≡ false → pattern_from variables (pattern_of variables q) ≡ q
-  pattern_again q h = let k = or_false (list_any (lacks variables) q.terms) (change_lacks variables q.change) h in λ i. record { name = q.name; terms = terms_again q.terms k.0 i; change = change_again q.change k.1 i }
+  pattern_again q h = let k = or_parts (list_any (lacks variables) q.terms) (change_lacks variables q.change) h in λ i. record { name = q.name; terms = terms_again q.terms k.0 i; change = change_again q.change k.1 i }
 
   body_again : (b : Body) → body_lacks variables b ≡ false → body_from variables (body_of variables b) ≡ b
   body_again (NoEvent q) h = ap NoEvent (pattern_again q h)
   body_again (Occurs least most q) h = ap (Occurs least most) (pattern_again q h)
-  body_again (Hold name terms value) h = let k = or_false (list_any (lacks variables) terms) (lacks variables value) h in λ i. Hold name (terms_again terms k.0 i) (term_again value k.1 i)
+  body_again (Hold name terms value) h = let k = or_parts (list_any (lacks variables) terms) (lacks variables value) h in λ i. Hold name (terms_again terms k.0 i) (term_again value k.1 i)
 
   -- where all its variables are there
   term_lacks : (t : Term) → AreOf variables (variable_in t) → lacks variables t ≡ false
@@ -59,19 +59,19 @@ module _ (variables : List (List ℕ)) where
   terms_lack [] h = refl
   terms_lack (t ∷ ts) h =
       let P : List ℕ → Type 0 = λ x. is_of variables x ≡ true in
-      or_both (lacks variables t) (list_any (lacks variables) ts) (term_lacks t (all_left P (variable_in t) (variables_in ts) h)) (terms_lack ts (all_right P (variable_in t) (variables_in ts) h))
+      or_from (lacks variables t) (list_any (lacks variables) ts) (term_lacks t (all_left P (variable_in t) (variables_in ts) h)) (terms_lack ts (all_right P (variable_in t) (variables_in ts) h))
 
   change_lacks_none : (c : Option (Term × Term)) → AreOf variables (variables_in (change_terms c)) → change_lacks variables c ≡ false
   change_lacks_none None h = refl
   change_lacks_none (Some c) h =
       let P : List ℕ → Type 0 = λ x. is_of variables x ≡ true in
-      or_both (lacks variables c.0) (lacks variables c.1) (term_lacks c.0 (all_left P (variable_in c.0) (variable_in c.1 ++ []) h))
+      or_from (lacks variables c.0) (lacks variables c.1) (term_lacks c.0 (all_left P (variable_in c.0) (variable_in c.1 ++ []) h))
       (term_lacks c.1 (all_left P (variable_in c.1) [] (all_right P (variable_in c.0) (variable_in c.1 ++ []) h)))
 
   pattern_lacks_none : (q : Pattern) → AreOf variables (variables_of q) → pattern_lacks variables q ≡ false
   pattern_lacks_none q h =
       let P : List ℕ → Type 0 = λ x. is_of variables x ≡ true in
-      or_both (list_any (lacks variables) q.terms) (change_lacks variables q.change) (terms_lack q.terms (all_left P (variables_in q.terms) (variables_in (change_terms q.change)) h))
+      or_from (list_any (lacks variables) q.terms) (change_lacks variables q.change) (terms_lack q.terms (all_left P (variables_in q.terms) (variables_in (change_terms q.change)) h))
       (change_lacks_none q.change (all_right P (variables_in q.terms) (variables_in (change_terms q.change)) h))
 
   event_again : (e : Event) → AreOf variables (variables_of e.pattern) → event_from variables (event_of variables e) ≡ normal_event e
@@ -104,10 +104,6 @@ known_point c t h = list_any-append (bytes_eq t) (event_points c) c.free ∙ h
 event_point : (c : Written) (t : List ℕ) → is_of (event_points c) t ≡ true → is_known (points_of c) t ≡ true
 event_point c t h = known_point c t (or_left (is_of (event_points c) t) (is_of c.free t) h)
 
-each_pair : {A : Type 0} (P Q : A → Type 0) (xs : List A) → AllByRecursion P xs → AllByRecursion Q xs → AllByRecursion (λ x. P x × Q x) xs
-each_pair P Q [] h k = tt
-each_pair P Q (x ∷ xs) h k = ((h.0, k.0), each_pair P Q xs h.1 k.1)
-
 -- the statements of a chronicle's meaning
 pub chronicle_again : (names : List Name) (d : ℕ × Written) → IsWhole names d.1 → chronicle_from (chronicle_of d) ≡ statements_of (normal d.1)
 chronicle_again names d h =
@@ -126,7 +122,7 @@ chronicle_again names d h =
     let windows : map (λ v. Over (window_from variables (points_in (chronicle_of d)) v)) (map (window_of variables points) c.windows) ≡ map Over (map normal_window c.windows) =
     ap (λ p. map (λ v. Over (window_from variables p v)) (map (window_of variables points) c.windows)) same
     ∙ again _ (λ v. Over (window_from variables points v)) (window_of variables points) Over normal_window
-    (λ w q. ap Over (window_again points variables w q.1 (event_point c w.from.point q.0.1) (event_point c w.to.point q.0.2))) c.windows (each_pair _ _ c.windows h.sound.windows h.bound) in
+    (λ w q. ap Over (window_again points variables w q.1 (event_point c w.from.point q.0.1) (event_point c w.to.point q.0.2))) c.windows (all_both _ _ c.windows h.sound.windows h.bound) in
     λ i. Begin c.name ∷ (events i ++ map Point c.free ++ bounds i ++ sets i ++ differs i ++ windows i ++ Close ∷ [])
   where
     known_bounds : (c : Written) (ds : List Distance) → AllByRecursion (λ d. (is_point c d.to ≡ true) × (is_point c d.from ≡ true)) ds → AllByRecursion (λ d. (is_known (points_of c) d.to ≡ true) × (is_known (points_of c) d.from ≡ true)) ds

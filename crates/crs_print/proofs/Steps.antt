@@ -2,18 +2,18 @@
 use Rattle.std.proofs.Common.{◌≡◌, ℕ, ◌+◌, ◌<◌, true, false, ◌||◌, nat_lt, nat_le, List, [], ◌∷◌, ◌++◌, map, length, refl, sym, ap, subst, ◌∙◌, true≢false, append_assoc, length-append, arith}
 use Rattle.std.specs.Prelude.{bytes_eq}
 use Rattle.std.specs.List.{AllByRecursion, flat_map}
-use Rattle.std.proofs.lemmas.Bool.{lt-leb, le-ltb}
+use Rattle.std.proofs.lemmas.Bool.{lt-leb, le-ltb, or_from}
 use Rattle.std.proofs.lemmas.Grind.{flat_map-append}
 use Rattle.std.proofs.lemmas.List.{map-append, append-nil}
 use Rattle.std.proofs.lemmas.List.Folds.{list_any-append}
 use Rattle.crs_grammar.specs.Canon.{is_indented}
-use Rattle.crs_parse.specs.Faults.{Name, Written, is_of, event_points, with_texts, variables_of, is_above, is_full, with_statement, begun, passes_count, is_twice, lacks_events, is_unbound}
+use Rattle.crs_parse.specs.Faults.{Name, Written, is_of, event_points, variables_of, is_above, is_full, with_statement, begun, passes_count, is_twice, lacks_events, is_unbound}
 use Rattle.crs_grammar.specs.Statements.{Event, Window, Distance, Statement, Happens, Point, Between, Among, Differ, Over, Close}
 use Rattle.crs_parse.proofs.Faultless.{IsFaultless}
-use Rattle.crs_parse.proofs.Sound.{Distinct}
 use Rattle.crs_parse.proofs.Texts.{with_texts_append, texts_grow}
-use Rattle.crs_print.proofs.Distinct.{or_both, behind_new}
+use Rattle.crs_base.proofs.DistinctTexts.{Distinct, behind_new}
 use Rattle.crs_print.proofs.Good.{IsFit, IsFine, IsGood, fine_in}
+use Rattle.crs_base.specs.Symbols.{with_texts}
 
 -- the chronicle behind some statements
 abbrev pub with_all : Written → List Statement → Written
@@ -130,7 +130,7 @@ module _ (texts : List (List ℕ)) (names : List Name) (done : List (ℕ × Writ
         let same = ap length put in
         let some = h.few.variables in
         let d : nat_lt 16 (length (with_texts (with_texts [] (from es)) (variables_of e.pattern))) ≡ false = le-ltb 16 _ (omega (arith, grown, same, some)) in
-        or_both (nat_le 16 (length es) || nat_le 24 (length es + 0) || is_above 7 e.level) _ (or_both (nat_le 16 (length es) || nat_le 24 (length es + 0)) (is_above 7 e.level) (or_both (nat_le 16 (length es)) (nat_le 24 (length es + 0)) a b) level) d
+        or_from (nat_le 16 (length es) || nat_le 24 (length es + 0) || is_above 7 e.level) _ (or_from (nat_le 16 (length es) || nat_le 24 (length es + 0)) (is_above 7 e.level) (or_from (nat_le 16 (length es)) (nat_le 24 (length es + 0)) a b) level) d
 
     first_points : (es : List Event) (e : Event) (vs : List Event) (ts : List (List ℕ)) → es ++ e ∷ vs ≡ c.events → Distinct (event_points c ++ ts) → is_of (map (λ v. v.point) es) e.point ≡ false
     first_points es e vs ts is d =
@@ -143,7 +143,7 @@ module _ (texts : List (List ℕ)) (names : List Name) (done : List (ℕ × Writ
         let r = group Happens (λ e. IsFine texts names c (Happens e)) with_events c.events
         (λ es e. λ i. record (with_events es) { events = es ++ e ∷ []; variables = from_put es e i })
         (λ es e vs is k. faultless_of (with_events es) (Happens e) refl (record { fit = k.fit; suited = k.suited; variable = refl; point = refl; bound = refl; window = refl; large = k.large })
-        (or_both (is_of (map (λ v. v.point) es) e.point) false (first_points es e vs c.free is h.points) refl) (room es e vs is k.large))
+        (or_from (is_of (map (λ v. v.point) es) e.point) false (first_points es e vs c.free is h.points) refl) (room es e vs is k.large))
         (λ e k. k.fit) (λ e. refl) c.events [] refl h.all.events in
         record { steps = r.steps; end = r.end ∙ ap (λ l. record (with_events c.events) { variables = l }) (sym h.variables) }
 

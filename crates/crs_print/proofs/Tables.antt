@@ -1,18 +1,16 @@
 -- The table behind a reading without fault.
-use Rattle.std.proofs.Common.{◌≡◌, ℕ, zero, suc, ◌+◌, ◌≤◌, ◌<◌, true, false, List, [], ◌∷◌, length, Ok, is_some, refl, sym, ap, subst, ◌∙◌, true≢false, arith}
-use Rattle.std.specs.Prelude.{bytes_eq}
+use Rattle.std.proofs.Common.{◌≡◌, ℕ, ◌+◌, ◌≤◌, true, List, [], ◌∷◌, length, Ok, is_some, sym, subst}
 use Rattle.std.specs.List.{AllByRecursion}
 use Rattle.crs_base.specs.Lines.{Line}
-use Rattle.crs_base.specs.Symbols.{is_known, text_at, AreDistinct}
-use Rattle.crs_parse.specs.Faults.{Reading, symbols_of, with_texts, after_line, after_lines, nothing_read}
-use Rattle.crs_parse.proofs.Alls.{all_each}
+use Rattle.crs_base.specs.Symbols.{is_known, AreDistinct, with_texts}
+use Rattle.crs_base.proofs.Alls.{all_each}
+use Rattle.crs_parse.specs.Faults.{Reading, symbols_of, after_line, after_lines, nothing_read}
 use Rattle.crs_parse.proofs.Faultless.{not_lt}
-use Rattle.crs_parse.proofs.HeldReading.{Within, next_of, last_of, texts_within}
-use Rattle.crs_grammar.proofs.Decided.{same_bytes}
-use Rattle.crs_parse.proofs.Sound.{Distinct}
+use Rattle.crs_parse.proofs.HeldReading.{Within, next_of, last_of, texts_within, by_line, table_after, symbols_known}
+use Rattle.crs_base.proofs.DistinctTexts.{distinct_by, apart}
+use Rattle.crs_parse.proofs.Sound.{own}
 use Rattle.crs_print.specs.Laws.{IsTableWithin}
-use Rattle.crs_print.proofs.Distinct.{IsTable, table_more, distinct_by, or_left, or_right}
-use Rattle.crs_print.proofs.Next.{by_line, table_after, symbols_known}
+use Rattle.crs_print.proofs.Distinct.{IsTable, table_more}
 
 -- It keeps to its limit.
 
@@ -42,25 +40,6 @@ lines_table limit line r all [] e h = subst (λ x. IsTable all.texts x.texts) (l
 lines_table limit line r all (l ∷ ls) e h =
     let n = next_of (after_line limit line r l) (λ next. after_lines limit (line + 1) next ls) all e in
     lines_table limit (line + 1) n.0 all ls n.2 (line_table limit all.texts line r n.0 l n.1 (texts_within limit (line + 1) n.0 all ls n.2) h)
-
-own : (ts : List (List ℕ)) → AllByRecursion (λ t. is_known ts t ≡ true) ts
-own [] = tt
-own (t ∷ ts) = (or_left (bytes_eq t t) (is_known ts t) (same_bytes t), all_each ts (λ u h. or_right (bytes_eq u t) (is_known ts u) h) (own ts))
-
-known_at : (ts : List (List ℕ)) (j : ℕ) → j < length ts → is_known ts (text_at ts j) ≡ true
-known_at [] j l = absurd (omega arith)
-known_at (t ∷ ts) zero l = or_left (bytes_eq t t) (is_known ts t) (same_bytes t)
-known_at (t ∷ ts) (suc j) l = or_right (bytes_eq (text_at ts j) t) (is_known ts (text_at ts j)) (known_at ts j (omega arith))
-
-differs : (t : List ℕ) (ts : List (List ℕ)) (j : ℕ) → is_known ts t ≡ false → j < length ts → t ≡ text_at ts j → ⊥
-differs t ts j new l e = true≢false (sym (known_at ts j l) ∙ ap (is_known ts) (sym e) ∙ new)
-
-apart : (ts : List (List ℕ)) → Distinct ts → AreDistinct ts
-apart [] d i j l k e = absurd (omega arith)
-apart (t ∷ ts) d zero zero l k e = refl
-apart (t ∷ ts) d zero (suc j) l k e = absurd (differs t ts j d.0 (omega arith) e)
-apart (t ∷ ts) d (suc i) zero l k e = absurd (differs t ts i d.0 (omega arith) (sym e))
-apart (t ∷ ts) d (suc i) (suc j) l k e = ap suc (apart ts d.1 i j (omega arith) (omega arith) e)
 
 -- the texts that were there before, and all that are there behind it
 pub read_tables : (limit line : ℕ) (was : List (List ℕ)) (all : Reading) (ls : List Line) → AreDistinct was → after_lines limit line (nothing_read was) ls ≡ Ok all → IsTableWithin all.texts was × IsTableWithin all.texts all.texts

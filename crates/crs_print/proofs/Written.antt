@@ -4,13 +4,15 @@ use Rattle.std.specs.Prelude.{neg_ℤ}
 use Rattle.std.specs.Int.RustNames.{unsigned_abs}
 use Rattle.std.specs.List.{AllByRecursion, list_all}
 use Rattle.std.proofs.Math.Nat.{mul-le-mul_left}
-use Rattle.std.proofs.lemmas.Bool.{leb-true}
+use Rattle.std.proofs.lemmas.Bool.{leb-true, and_parts}
 use Rattle.crs_base.specs.Numbers.{is_digit, value_on, number_on, number_of, integer_of}
 use Rattle.crs_base.specs.Symbols.{is_symbol}
 use Rattle.crs_base.specs.Tokens.{Token, Word, Mark}
-use Rattle.crs_grammar.specs.Forms.{Part, Keyword, Sign, Symbol, Number, Integer, Gap, Missing, AreWritten}
+use Rattle.crs_grammar.specs.Forms.{Part, Keyword, Sign, Symbol, Number, Integer, Gap, Missing, AreWritten, form_of}
 use Rattle.crs_grammar.specs.Laws.{IsWritable}
-use Rattle.crs_grammar.proofs.Decided.{and_true}
+use Rattle.crs_grammar.specs.Statements.{Statement}
+use Rattle.crs_parse.proofs.HeldReading.{IsWritten}
+use Rattle.crs_print.proofs.Lines.{Writable}
 
 abbrev tens : ℕ → ℕ
 tens zero = 1
@@ -21,14 +23,14 @@ tens_some zero = omega arith
 tens_some (suc k) = let h = tens_some k in omega (arith, h)
 
 digit_few : (c : ℕ) → is_digit c ≡ true → c ≤ 57
-digit_few c h = leb-true c 57 (and_true (nat_le 48 c) (nat_le c 57) h).1
+digit_few c h = leb-true c 57 (and_parts (nat_le 48 c) (nat_le c 57) h).1
 
 -- digits write a number below a power of ten
 value_below : (cs : List ℕ) (k n : ℕ) → length cs ≤ k → list_all is_digit cs ≡ true → value_on n cs < (n + 1) * tens k
 value_below [] k n few h = let a : n * 1 ≤ n * tens k = mul-le-mul_left n (tens_some k) in let b = tens_some k in omega (arith, a, b)
 value_below (c ∷ cs) zero n few h = absurd (omega arith)
 value_below (c ∷ cs) (suc k) n few h =
-    let d = and_true (is_digit c) (list_all is_digit cs) h in
+    let d = and_parts (is_digit c) (list_all is_digit cs) h in
     let q = digit_few c d.0 in
     let a : value_on (10 * n + (c - 48)) cs < (10 * n + (c - 48) + 1) * tens k = value_below cs k (10 * n + (c - 48)) (omega arith) d.1 in
     let small : 10 * n + (c - 48) + 1 ≤ 10 * n + 10 = omega arith in
@@ -40,7 +42,7 @@ number_by a true w n few e h = let k : value_on 0 w ≡ n = cc in let q = value_
 number_by a false w n few e h = cc
 
 number_few : (b : Bool) (w : List ℕ) (n : ℕ) → (nat_le 1 (length w) && nat_le (length w) 19) ≡ b → cond b (number_on 0 w) None ≡ Some n → n < 10000000000000000000
-number_few true w n e h = number_by true (list_all is_digit w) w n (leb-true (length w) 19 (and_true (nat_le 1 (length w)) (nat_le (length w) 19) e).1) refl h
+number_few true w n e h = number_by true (list_all is_digit w) w n (leb-true (length w) 19 (and_parts (nat_le 1 (length w)) (nat_le (length w) 19) e).1) refl h
 number_few false w n e h = cc
 
 -- a number that is read has at most 19 digits
@@ -86,3 +88,7 @@ written_writable (Missing ∷ ps) (t ∷ ts) h = absurd h.0
 written_writable (Symbol s ∷ ps) [] h = absurd h
 written_writable (Symbol s ∷ ps) (Mark m ∷ ts) h = absurd h.0
 written_writable (Symbol s ∷ ps) (Word w ∷ ts) h = (subst (λ x. is_symbol x ≡ true) h.0.0 h.0.1, written_writable ps ts h.1)
+
+-- a statement that was read can be written
+pub writable_of : (s : Statement) → IsWritten s → Writable s
+writable_of s h = written_writable (form_of s) h.0 h.1

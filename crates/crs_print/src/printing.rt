@@ -1,16 +1,16 @@
 //! The canonical text of models.
-ghost use Rattle.std.specs.Prelude.{◌≡◌, ◌<◌, ◌≤◌, ◌∷◌, [], ◌++◌, map, length, option_map, IfOk, IfSome, OnOk, decimal, suc, zero, neg_ℤ};
+ghost use Rattle.std.specs.Prelude.{◌≡◌, ◌<◌, ◌∷◌, [], ◌++◌, map, length, option_map, IfOk, IfSome, OnOk, decimal, neg_ℤ};
 ghost use Rattle.std.specs.Fmt.{signed_decimal};
 ghost use Rattle.std.specs.List.{AllByRecursion, flat_map};
 ghost use Rattle.crs_base.specs.Symbols.{text_at};
 ghost use Rattle.crs_model.specs.Renaming as renamed;
 ghost use Rattle.crs_model.specs.Seen as view;
-ghost use Rattle.crs_grammar.specs.Canon.{part_text, statement_line, statements_text};
+ghost use Rattle.crs_grammar.specs.Canon.{statement_line, statements_text};
 ghost use Rattle.crs_grammar.specs.Forms as forms;
 ghost use Rattle.crs_grammar.specs.Forms.{Sign, Gap};
 ghost use Rattle.crs_print.specs.Printed as from;
 ghost use Rattle.crs_print.specs.Said as said;
-ghost use Rattle.crs_grammar.specs.Statements.{Happens, Point, Between, Among, Differ, Over, Close, Begin, Message, Attribute};
+ghost use Rattle.crs_grammar.specs.Statements.{Happens, Point, Between, Among, Differ, Over, Begin, Message, Attribute};
 
 use crs_base::{List, Sym, Symbols, Text};
 use crs_model::{

@@ -13,6 +13,7 @@ pub use Rattle.crs_stn.specs.DateWindow.{least_of, after, latest}
 use Rattle.crs_stn.proofs.Extend.{below_size}
 use Rattle.crs_stn.proofs.Most.{IsMost-self_option}
 use Rattle.crs_stn.proofs.Earliest.{upper_option, step_of}
+use Rattle.crs_stn.proofs.LowerLemmas.{of_option}
 
 -- the upper dates L hold at a bound
 abbrev pub HeldLate : (ℕ → Option ℤ) → Bound → Type 0
@@ -73,10 +74,6 @@ lesser_cases (Some x) (Some y) v e = elim (min_cases x y) [ inl a ↦ inl (cc) |
 under_option : (o : Option ℤ) (a : Option ℤ) (P : ℤ → ℤ → Type 0) → ((x : ℤ) → o ≡ Some x → IsSomeAnd a (P x)) → IfSome o (λ x. IsSomeAnd a (P x))
 under_option None a P h = tt
 under_option (Some x) a P h = h x refl
-
-pub of_option : (o : Option ℤ) (x : ℤ) (Q : ℤ → Type 0) → o ≡ Some x → IfSome o Q → Q x
-of_option None x Q e h = absurd cc
-of_option (Some y) x Q e h = let e' : y ≡ x = cc in subst Q e' h
 
 pub least_of_is_below : (f : ℕ → Option ℤ) (n p : ℕ) → p < n → IfSome (f p) (λ x. IsSomeAnd (least_of f n) (λ v. v ≤ℤ x))
 least_of_is_below f zero p l = absurd (omega arith)

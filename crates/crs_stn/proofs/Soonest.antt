@@ -15,7 +15,8 @@ use Rattle.crs_stn.proofs.Extend.{below_size, filled, extend_early}
 use Rattle.crs_stn.proofs.Most.{IsMost-self_option, triangle_option}
 use Rattle.crs_stn.proofs.DateWindow.{IsLatest-latest}
 use Rattle.crs_stn.proofs.Earliest.{upper_option, step_of}
-use Rattle.crs_stn.proofs.Partial.{latest_below, of_option, if_some, and_then, some_and}
+use Rattle.crs_stn.proofs.Partial.{latest_below, if_some, and_then, some_and}
+use Rattle.crs_stn.proofs.LowerLemmas.{of_option}
 
 greater_left : (a b : Option ℤ) (x : ℤ) → a ≡ Some x → IsSomeAnd (greater_of a b) (λ v. x ≤ℤ v)
 greater_left None b x e = absurd cc

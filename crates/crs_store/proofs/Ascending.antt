@@ -2,7 +2,7 @@
 use Rattle.std.proofs.Common.{◌≡◌, ◌≢◌, ℕ, zero, suc, ◌<◌, ◌+◌, List, [], ◌∷◌, length, map, refl, sym, ap, subst, ◌∙◌, inl, inr, arith, get_or, Bool, false}
 use Rattle.std.specs.Prelude.{Option, Some, IsPermutation, IsSortedBy, Contains}
 use Rattle.std.specs.List.{AllByRecursion, IsDistinct}
-use Rattle.std.specs.Ordering.{is_lt, is_eq, ordering_then, ordering_reverse}
+use Rattle.std.specs.Ordering.{is_lt, is_eq, ordering_reverse}
 use Rattle.std.specs.Cmp.{IsTotalOrder}
 use Rattle.std.specs.declared.cmp.Ordering.{Ordering}
 use Rattle.std.specs.declared.cmp.Ordering.TheVariants.{Less, Equal, Greater}
@@ -13,7 +13,7 @@ use Rattle.crs_base.specs.declared.symbols.Sym.{Sym}
 use Rattle.crs_base.specs.Words.{IsIn, Ordered}
 use Rattle.crs_base.specs.Entry.{Entry, Key, key_of, entry_cmp}
 use Rattle.crs_base.proofs.Words.{in_from_each}
-use Rattle.crs_base.proofs.KeyOrder.{entry_total, key_exact}
+use Rattle.crs_base.proofs.KeyOrder.{entry_total, key_exact, both_tie}
 use Rattle.crs_model.specs.declared.recognition.Recognition.{Recognition}
 use Rattle.crs_model.specs.Matching.{AreDistinct}
 use Rattle.crs_model.specs.Order.{entries_cmp, assignment_cmp}
@@ -49,11 +49,6 @@ pub moved_back : {A : Type 0} (xs ys : List A) → IsPermutation xs ys → (x : 
 moved_back xs ys p x i = moved_in ys xs (IsPermutation-sym xs ys p) x i
 
 -- ---- ties
-
-both_tie : (r s : Ordering) → ordering_then r s ≡ Equal → (r ≡ Equal) × (s ≡ Equal)
-both_tie Less s h = absurd (cc)
-both_tie Equal s h = (refl, h)
-both_tie Greater s h = absurd (cc)
 
 -- no two entries of the pool have one arrival number
 same_arrival : (pool : List (Entry Sym)) → AreDistinct pool → (e f : Entry Sym) → IsIn e pool → IsIn f pool → e.arrival ≡ f.arrival → e ≡ f

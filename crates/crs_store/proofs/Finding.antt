@@ -20,11 +20,12 @@ use Rattle.std.specs.declared.rc.Rc.{Rc}
 use Rattle.std.proofs.Common.{Global}
 use Rattle.crs_base.specs.Seen.{entry_of}
 use Rattle.crs_base.specs.declared.entry.Entry.{Entry as CodeEntry}
+use Rattle.crs_base.proofs.Alls.{all_append}
 use Rattle.crs_instance.specs.Instances.{InstanceState, AreAllEntries}
 use Rattle.crs_store.specs.Stores.{parts}
 use Rattle.crs_store.specs.Sweeps.{is_whole, IsFull}
 use Rattle.crs_store.specs.Answers.{IsRecognitionFrom, IsRecognitionIfWhole, IsRecognitionOfOne, wholes, AreFound}
-use Rattle.crs_store.proofs.Forking.{all_append, parts_more, parts_split}
+use Rattle.crs_store.proofs.Forking.{parts_more, parts_split}
 
 pub all_some : (es : List (Entry Sym)) → is_whole (map Some es) ≡ true
 all_some [] = refl

@@ -1,7 +1,6 @@
 -- What comes of one instance and of all where an entry is offered.
 use Rattle.std.proofs.Common.{◌≡◌, ℕ, zero, suc, ◌<◌, ◌+◌, List, [], ◌∷◌, ◌++◌, length, take, drop, refl, sym, ap, subst, ◌∙◌, inl, inr, arith, add-one, get_or}
 use Rattle.std.specs.Prelude.{Option, Some, None, Bool, true, false, IsTrue, ◌↔◌, is_some, slice_get}
-use Rattle.std.specs.List.{AllByRecursion}
 use Rattle.std.specs.Option.{option_to_list}
 use Rattle.std.specs.declared.rc.Rc.{Rc}
 use Rattle.std.proofs.Common.{Global}
@@ -13,6 +12,7 @@ use Rattle.crs_base.specs.Words.{IsIn, Ordered}
 use Rattle.crs_base.proofs.Words.{in_append, in_append_left, in_append_right, in_from_each, ordered_append}
 use Rattle.crs_model.specs.declared.plan.Plan.{Plan}
 use Rattle.crs_base.specs.Entry.{Entry}
+use Rattle.crs_base.proofs.Alls.{all_append}
 use Rattle.crs_model.specs.Models.{EventDef}
 use Rattle.crs_model.specs.Partial.{Partial, at, put, CanGoOn}
 use Rattle.crs_model.specs.Plans.{chronicle, IsProper}
@@ -28,10 +28,6 @@ use Rattle.crs_instance.proofs.BindSteps.{not_matched}
 use Rattle.crs_instance.proofs.Pushes.{not_fitting}
 use Rattle.crs_store.specs.Stores.{parts, AllOf}
 use Rattle.crs_store.specs.Sweeps.{upto, IsFine, Forks, IsForkOf, IsFree, IsReady, IsFork}
-
-pub all_append : {A : Type 0} (P : A → Type 0) (xs ys : List A) → AllByRecursion P xs → AllByRecursion P ys → AllByRecursion P (xs ++ ys)
-all_append P [] ys h k = k
-all_append P (x ∷ xs) ys h k = (h.0, all_append P xs ys h.1 k)
 
 pub in_upto : (n e : ℕ) → IsIn e (upto n) → e < n
 in_upto zero e i = absurd i

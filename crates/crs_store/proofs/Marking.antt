@@ -4,6 +4,7 @@ use Rattle.std.specs.Prelude.{Option, Some, None, IfSome, slice_get, true}
 use Rattle.std.specs.List.{AllZip}
 use Rattle.std.proofs.lemmas.List.{length-map}
 use Rattle.std.proofs.lemmas.Bool.Decides.{eqb_tells}
+use Rattle.std.proofs.lemmas.Bool.{or_cases}
 use Rattle.crs_base.specs.declared.symbols.Sym.{Sym}
 use Rattle.crs_base.specs.Words.{IsIn}
 use Rattle.crs_model.specs.declared.plan.Plan.{Plan}
@@ -16,7 +17,6 @@ use Rattle.crs_model.specs.Plans.{chronicle, IsProper}
 use Rattle.crs_model.specs.Bindings.{look_of}
 use Rattle.crs_model.specs.Open.{IsRecognised, IsRecognisedWhole, whole}
 use Rattle.crs_model.proofs.Options.{of_some, cases_of}
-use Rattle.crs_model.proofs.Least.{or_cases}
 use Rattle.crs_model.proofs.Wholes.{whole_recognised}
 use Rattle.crs_stn.specs.Bound.{MeetsInPart}
 use Rattle.crs_model.specs.Partial.{dates_of}

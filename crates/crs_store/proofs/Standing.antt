@@ -1,8 +1,8 @@
 -- What a store stands for after a call.
-use Rattle.std.proofs.Common.{◌≡◌, ◌≢◌, ℕ, zero, suc, ◌<◌, ◌≤◌, List, [], ◌∷◌, ◌++◌, length, refl, sym, ap, subst, ◌∙◌, inl, inr, ◌⊎◌, arith, get_or, length-set}
+use Rattle.std.proofs.Common.{◌≡◌, ◌≢◌, ℕ, ◌<◌, ◌≤◌, List, [], ◌∷◌, ◌++◌, length, refl, sym, ap, subst, ◌∙◌, inl, inr, ◌⊎◌, arith, length-set}
 use Rattle.std.specs.Prelude.{Option, Some, None, IfSome, replicate}
 use Rattle.std.proofs.lemmas.Bool.Decides.{eqb_tells}
-use Rattle.std.proofs.lemmas.List.{ext_get_or}
+use Rattle.std.proofs.lemmas.List.{ext_get_or, length-replicate}
 use Rattle.crs_base.specs.declared.symbols.Sym.{Sym}
 use Rattle.crs_base.specs.Words.{IsIn}
 use Rattle.crs_base.proofs.Words.{in_append_left, in_append_right, each_from_in}
@@ -21,10 +21,12 @@ use Rattle.crs_instance.specs.Instances.{InstanceState, IsOf}
 use Rattle.std.proofs.lemmas.List.{length-map, map-append}
 use Rattle.crs_model.specs.Seen.{event_of}
 use Rattle.crs_instance.proofs.GoesOn.{root_goes_on}
-use Rattle.crs_store.proofs.Forking.{can_be, both, all_append}
+use Rattle.crs_instance.proofs.BindAnswers.{get-replicate}
+use Rattle.crs_store.proofs.Forking.{can_be, both}
 use Rattle.crs_store.proofs.Leaving.{leaves_image, leaves_each}
 use Rattle.crs_store.specs.Stores.{parts, AllOf, StoreState, IsStore, IsOffered}
 use Rattle.crs_base.specs.Sifted.{Sifts}
+use Rattle.crs_base.proofs.Alls.{all_append}
 use Rattle.crs_store.specs.Sweeps.{IsFine, IsForkOf, IsFree, IsReady, CanStay}
 
 pub image_as : {A B : Type 0} (F G : A → B → Type 0) (done : List A) (out : List B) → ((x : A) (y : B) → IsIn x done → F x y → G x y) → ((x : A) (y : B) → IsIn x done → G x y → F x y) → IsImage F done out → IsImage G done out
@@ -113,15 +115,6 @@ pub taken_each : (plan : Plan) (d : ℕ) (held kept more new : List InstanceStat
 taken_each plan d held kept more new all each left is = subst (AllOf plan) (sym is) (all_append (IsOf plan) kept more (leaves_each (CanStay plan d) (IsOf plan) held kept all left) each)
 
 -- ---- the root alone
-
-get-replicate : {A : Type 0} (n k : ℕ) (x : A) → get_or (replicate n x) k x ≡ x
-get-replicate zero k x = refl
-get-replicate (suc n) zero x = refl
-get-replicate (suc n) (suc k) x = get-replicate n k x
-
-length-replicate : {A : Type 0} (n : ℕ) (x : A) → length (replicate n x) ≡ n
-length-replicate zero x = refl
-length-replicate (suc n) x = ap suc (length-replicate n x)
 
 pub stands_root : (plan : Plan) → IsProper plan → (chronicle plan).windows ≡ [] → (a : Partial Sym) → length a ≡ length (chronicle plan).events → a ≡ replicate (length plan.chronicle.events) None → IsFine plan 0 a → StandsFor (chronicle plan) flat (a ∷ []) [] [] [] 0 0
 stands_root plan proper windowless a len is fine =

@@ -1,4 +1,4 @@
-ghost use Rattle.std.specs.Prelude.{◌≡◌, ◌+◌, ◌*◌, ◌<◌, ◌≤◌, ◌^◌, ◌↔◌, ◌⊎◌, [], map, length, slice_get, IsTrue, OnOk, IfOk, IfSome, Err, false};
+ghost use Rattle.std.specs.Prelude.{◌≡◌, ◌+◌, ◌*◌, ◌<◌, ◌≤◌, ◌^◌, ◌↔◌, ◌⊎◌, [], length, slice_get, IsTrue, OnOk, IfOk, IfSome, Err, false};
 ghost use Rattle.std.specs.Option.{option_copied};
 ghost use Rattle.crs_base.specs.Seen.{entry_of};
 ghost use Rattle.crs_history.specs.Histories.{EndsWith};

@@ -1,13 +1,13 @@
 -- What a refused line and an accepted event bring.
-use Rattle.std.proofs.Common.{◌≡◌, ◌≢◌, ◌<◌, ◌≤◌, ℕ, ◌+◌, Bool, true, false, cond, List, [], ◌++◌, length, nat_lt, nat_le, refl, sym, ap, subst, ◌∙◌, arith, append-nil, lt-ltb}
-use Rattle.std.specs.Prelude.{◌||◌}
+use Rattle.std.proofs.Common.{◌≡◌, ◌≢◌, ◌<◌, ◌≤◌, ℕ, ◌+◌, true, false, cond, List, [], ◌++◌, length, nat_lt, nat_le, refl, sym, ap, subst, ◌∙◌, arith, append-nil, lt-ltb}
+use Rattle.std.proofs.Math.Bool.{or-false, or-true}
 use Rattle.crs_base.specs.declared.entry.Entry.{Entry as CodeEntry}
 use Rattle.crs_base.specs.Seen.{entry_of}
-use Rattle.crs_base.specs.Symbols.{Table, AreDistinct}
+use Rattle.crs_base.specs.Symbols.{Table, with_texts}
 use Rattle.crs_model.specs.Order.{put_in_order}
 use Rattle.crs_engine.specs.Engines.{EngineState, StandsFor, HasAccepted}
 use Rattle.crs_log.specs.Items.{Event}
-use Rattle.crs_log.specs.Known.{new_texts, with_texts, texts_of, entry_of_event}
+use Rattle.crs_log.specs.Known.{new_texts, texts_of, entry_of_event}
 use Rattle.crs_log.specs.Run as run
 use Rattle.crs_log.specs.Run.{State, Outcome, Refused, Accepted, after_named, with_entry, settled}
 use Rattle.crs_log.specs.SeenNames.{IsEntryIn, entry_seen}
@@ -17,11 +17,6 @@ use Rattle.crs_top.specs.Session.{Represents, Brings}
 use Rattle.crs_top.specs.Texts.{Frame, setting_of, fault_of}
 use Rattle.crs_top.proofs.States.{noted}
 use Rattle.crs_top.proofs.Grown.{accepted}
-use Rattle.crs_top.proofs.Marking.{or_false}
-
-or_true : (b : Bool) → true ≡ (b || true)
-or_true true = refl
-or_true false = refl
 
 -- a refused line is written, and changes nothing
 pub refused_brings : (f : Frame) (x : Session) (s : State) → Represents f x s → (n : ℕ) (fault : run.Fault) (after : State × Outcome) (new : Session) (out more : List ℕ)
@@ -33,7 +28,7 @@ refused_brings f x s r n fault after new out more is now written =
       text = refusal_line n (fault_of fault);
       says = refl;
       written = written;
-      noted = or_true x.refused;
+      noted = sym (or-true x.refused);
     }))
 
 module _ (f : Frame) (x : Session) (s : State) (r : Represents f x s) (e : Event) (not_full : x.engine.accepted ≢ x.engine.limit) where
@@ -55,20 +50,20 @@ module _ (f : Frame) (x : Session) (s : State) (r : Represents f x s) (e : Event
 
   -- the event is accepted
   pub accept_brings : x.met ≡ true → (n : ℕ) (new : EngineState) (table : Table) (en : CodeEntry) (out : List ℕ)
-      → HasAccepted x.engine new → new.stopped ≡ false → table.texts ≡ with_texts x.symbols.texts (texts_of e) → table.limit ≡ x.symbols.limit → AreDistinct table.texts
+      → HasAccepted x.engine new → new.stopped ≡ false → table.texts ≡ with_texts x.symbols.texts (texts_of e) → table.limit ≡ x.symbols.limit
       → length x.symbols.texts + length (new_texts x.symbols.texts (texts_of e)) ≤ x.symbols.limit
       → entry_seen table.texts en ≡ entry_of_event x.engine.accepted e → IsEntryIn table.texts en
       → StandsFor new r.entries.settled (put_in_order (entry_of en) r.entries.waiting)
       → Brings f x.refused (record x { engine = new; symbols = table }) n (settled s) s.horizon (after_named (setting_of f) s e) out out
-  accept_brings was_met n new table en out a running texts limit distinct fits seen known st =
+  accept_brings was_met n new table en out a running texts limit fits seen known st =
       let small : nat_le (length s.texts + length (new_texts s.texts (texts_of e))) f.symbols ≡ true = grind (arith, new_is, r.models.limit) in
       let taken : State × Outcome = (with_entry s (entry_of_event (length s.accepted) e) e, Accepted (entry_of_event (length s.accepted) e)) in
       let is : taken ≡ after_named (setting_of f) s e =
       (λ i. cond (sym room_is i) (cond (sym small i) taken (s, Refused (run.Values f.symbols))) (s, Refused (run.Full f.entries))) in
       subst (λ (b : State × Outcome). Brings f x.refused (record x { engine = new; symbols = table }) n (settled s) s.horizon b out out) is (record {
-        state = accepted f x s r was_met has_room e new table en a running texts limit distinct seen known st;
+        state = accepted f x s r was_met has_room e new table en a running texts limit seen known st;
         text = [];
         says = refl;
         written = sym (append-nil out);
-        noted = or_false x.refused;
+        noted = sym (or-false x.refused);
       })

@@ -1,6 +1,6 @@
 -- What is written for the answer of a clock mark is the mark's text.
 use Rattle.std.proofs.Common.{◌≡◌, ℕ, ◌+◌, suc, List, [], ◌∷◌, ◌++◌, map, length, refl, sym, ap, subst, ◌∙◌, arith, append_assoc, inl, inr}
-use Rattle.std.specs.Prelude.{Option, Some, IsSomeAnd, slice_get, option_map, flat_map}
+use Rattle.std.specs.Prelude.{Some, IsSomeAnd, slice_get, option_map, flat_map}
 use Rattle.std.specs.Option.{option_map_or}
 use Rattle.std.specs.List.{AllByRecursion}
 use Rattle.std.proofs.lemmas.List.{length-map}
@@ -9,6 +9,7 @@ use Rattle.crs_base.specs.Entry.{Entry}
 use Rattle.crs_base.specs.Symbols.{AreDistinct}
 use Rattle.crs_base.specs.Words.{IsIn}
 use Rattle.crs_base.proofs.Words.{in_from_each, in_map}
+use Rattle.crs_base.proofs.Alls.{all_append}
 use Rattle.crs_model.specs.declared.plan.Plan.{Plan}
 use Rattle.crs_model.specs.declared.plan.Plans.{Plans}
 use Rattle.crs_model.specs.declared.recognition.Mark.{Mark}
@@ -19,6 +20,7 @@ use Rattle.crs_model.specs.Plans.{chronicle, IsProper}
 use Rattle.crs_model.specs.Seen.{assignment_of, given}
 use Rattle.crs_model.specs.Renaming.{text_in, AreKnown, renamed_assignment, IsChronicleOf, IsEntryOf}
 use Rattle.crs_model.proofs.Renamed.{known_values, new_renamed}
+use Rattle.crs_model.proofs.Options.{some_and}
 use Rattle.crs_store.specs.Answers.{IsRecognitionOf}
 use Rattle.crs_engine.specs.Marks.{ListsNew, ListsAllNew}
 use Rattle.crs_report.specs.Lines.{recognition_line}
@@ -29,13 +31,6 @@ use Rattle.crs_top.specs.Texts.{IsMarkText}
 flat_map_append : {A : Type 0} (f : A → List ℕ) (xs ys : List A) → flat_map f (xs ++ ys) ≡ flat_map f xs ++ flat_map f ys
 flat_map_append f [] ys = refl
 flat_map_append f (x ∷ xs) ys = ap (λ (zs : List ℕ). f x ++ zs) (flat_map_append f xs ys) ∙ sym (append_assoc (f x) (flat_map f xs) (flat_map f ys))
-
-all_append : {A : Type 0} (Q : A → Type 0) (xs ys : List A) → AllByRecursion Q xs → AllByRecursion Q ys → AllByRecursion Q (xs ++ ys)
-all_append Q [] ys h k = k
-all_append Q (x ∷ xs) ys h k = (h.0, all_append Q xs ys h.1 k)
-
-some_and : {A : Type 0} (o : Option A) (Q : A → Type 0) (x : A) → o ≡ Some x → Q x → IsSomeAnd o Q
-some_and o Q x e h = subst (λ p. IsSomeAnd p Q) (sym e) h
 
 module _ (texts : List (List ℕ)) (distinct : AreDistinct texts) where
   -- no two symbols of the table have one text

@@ -7,9 +7,10 @@ use Rattle.crs_base.specs.declared.symbols.Sym.{Sym}
 use Rattle.crs_base.specs.declared.entry.Entry.{Entry as CodeEntry}
 use Rattle.crs_base.specs.Entry.{Entry}
 use Rattle.crs_base.specs.Seen.{entry_of}
-use Rattle.crs_base.specs.Symbols.{Table, is_known, with_text, AreDistinct}
+use Rattle.crs_base.specs.Symbols.{Table, is_known, with_text, AreDistinct, with_texts}
 use Rattle.crs_base.specs.Words.{IsIn, Ordered}
 use Rattle.crs_base.proofs.Words.{each_from_in, in_from_each, ordered_append, in_append, in_append_left, in_append_right}
+use Rattle.crs_base.proofs.DistinctTexts.{with_apart}
 use Rattle.crs_model.specs.declared.plan.Plan.{Plan}
 use Rattle.crs_model.specs.declared.plan.Plans.{Plans}
 use Rattle.crs_model.specs.declared.models.Name.{Name as CodeName}
@@ -23,7 +24,7 @@ use Rattle.crs_model.proofs.Agreed.{all_same, same_chronicle, same_name, same_en
 use Rattle.crs_model.proofs.Parted.{put_members}
 use Rattle.crs_engine.specs.Engines.{EngineState, StandsFor, HasAccepted, plans_of}
 use Rattle.crs_log.specs.Items.{Event}
-use Rattle.crs_log.specs.Known.{with_texts, texts_of, entry_of_event}
+use Rattle.crs_log.specs.Known.{texts_of, entry_of_event}
 use Rattle.crs_log.specs.Run.{State, with_entry}
 use Rattle.crs_log.specs.SeenNames.{name_seen, IsKindIn, AreNamesIn, IsEntryIn, entry_seen}
 use Rattle.crs_top.specs.declared.session.Session.{Session}
@@ -162,16 +163,16 @@ module _ (texts more : List (List ℕ)) where
 
 -- what a session stands for once the entry of an event is accepted
 pub accepted : (f : Frame) (x : Session) (s : State) (r : Represents f x s) → x.met ≡ true → length s.accepted < f.entries → (e : Event) (new : EngineState) (table : Table) (en : CodeEntry)
-    → HasAccepted x.engine new → new.stopped ≡ false → table.texts ≡ with_texts x.symbols.texts (texts_of e) → table.limit ≡ x.symbols.limit → AreDistinct table.texts
+    → HasAccepted x.engine new → new.stopped ≡ false → table.texts ≡ with_texts x.symbols.texts (texts_of e) → table.limit ≡ x.symbols.limit
     → entry_seen table.texts en ≡ entry_of_event x.engine.accepted e → IsEntryIn table.texts en
     → StandsFor new r.entries.settled (put_in_order (entry_of en) r.entries.waiting)
     → Represents f (record x { engine = new; symbols = table }) (with_entry s (entry_of_event (length s.accepted) e) e)
-accepted f x s r was_met room e new table en a running texts limit distinct seen known st =
+accepted f x s r was_met room e new table en a running texts limit seen known st =
     let g = texts_grow x.symbols.texts (texts_of e) in
     let now : table.texts ≡ x.symbols.texts ++ g.0 = texts ∙ g.1 in
     let is : entry_seen (x.symbols.texts ++ g.0) en ≡ entry_of_event (length s.accepted) e = ap (λ (t : List (List ℕ)). entry_seen t en) (sym now) ∙ seen ∙ ap (λ n. entry_of_event n e) (sym r.count) in
     let models : HasModels f x.engine.plans (record { texts = x.symbols.texts ++ g.0; limit = x.symbols.limit }) =
-    models_grown x.symbols.texts g.0 f x.engine.plans x.symbols.limit r.models (subst AreDistinct now distinct) in
+    models_grown x.symbols.texts g.0 f x.engine.plans x.symbols.limit r.models (subst AreDistinct g.1 (with_apart x.symbols.texts (texts_of e) r.models.distinct)) in
     let entries : HasEntries new (x.symbols.texts ++ g.0) (s.accepted ++ entry_of_event (length s.accepted) e ∷ []) =
     entries_grown x.symbols.texts g.0 x.engine new s.accepted r.entries (entry_of en) (entry_of_event (length s.accepted) e) is refl
     (subst (λ (t : List (List ℕ)). IsEntryIn t en) now known) st in

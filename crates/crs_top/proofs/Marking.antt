@@ -1,7 +1,8 @@
 -- What an accepted `clock` and an accepted `end` bring.
 use Rattle.std.proofs.Common.{◌≡◌, ◌<◌, ◌≤◌, ◌^◌, ◌-◌, ℕ, Bool, true, false, cond, List, ◌++◌, nat_lt, refl, sym, ap, subst, ◌∙◌, arith, Ok, Err, true≢false}
-use Rattle.std.specs.Prelude.{Some, None, flat_map, ◌||◌, IsTrue, ◌↔◌, ◌⊎◌}
+use Rattle.std.specs.Prelude.{Some, None, flat_map, IsTrue, ◌↔◌, ◌⊎◌}
 use Rattle.std.proofs.Common.{inl, inr}
+use Rattle.std.proofs.Math.Bool.{or-false}
 use Rattle.crs_model.specs.declared.recognition.Recognition.{Recognition}
 use Rattle.crs_model.specs.declared.recognition.Mark.TheVariants.{Clock, Finish}
 use Rattle.crs_engine.specs.Engines.{EngineState, HasMoved}
@@ -13,15 +14,11 @@ use Rattle.std.proofs.lemmas.Bool.{ltb-false}
 use Rattle.std.specs.Prelude.{if◌then◌else◌}
 use Rattle.crs_log.specs.Items as items
 use Rattle.crs_log.specs.Run as run
-use Rattle.crs_log.specs.Run.{State, Outcome, Marked, AtClock, AtEnd, after_ordered, settled, horizon_at, end_date}
+use Rattle.crs_log.specs.Run.{State, Outcome, Marked, after_ordered, settled, horizon_at, end_date}
 use Rattle.crs_top.specs.declared.session.Session.{Session}
 use Rattle.crs_top.specs.Session.{IsReached, Represents, Brings, line_in}
 use Rattle.crs_top.specs.Texts.{Frame, setting_of}
 use Rattle.crs_top.proofs.States.{mark_text, marked}
-
-pub or_false : (b : Bool) → b ≡ (b || false)
-or_false true = refl
-or_false false = refl
 
 fine_by : {A : Type 0} (stopped early : Bool) (full back : Refused) (answer : A) → stopped ≡ false
     → IsRefusedAs (if stopped then Some full else (if early then Some back else None)) (Ok answer) → early ≡ false
@@ -60,14 +57,14 @@ module _ (f : Frame) (x : Session) (s : State) (r : Represents f x s) (new : Eng
       let h : ℕ = horizon_at s t in
       let m' : HasMoved x.engine new t (t - s.delay) = subst (λ (d : ℕ). HasMoved x.engine new t (t - d)) (sym r.delay) m in
       let now : State = record s { last = t; horizon = t - s.delay } in
-      let is : (now, Marked (AtClock t)) ≡ after_ordered (setting_of f) s (items.Clock t) =
-      (λ i. cond (sym (ap (nat_lt t) r.last ∙ fine) i) (s, run.Refused (run.Back t s.last)) (now, Marked (AtClock t))) in
+      let is : (now, Marked (Clock t)) ≡ after_ordered (setting_of f) s (items.Clock t) =
+      (λ i. cond (sym (ap (nat_lt t) r.last ∙ fine) i) (s, run.Refused (run.Back t s.last)) (now, Marked (Clock t))) in
       subst (λ (a : State × Outcome). Brings f x.refused (record x { engine = new }) n (settled s) s.horizon a out more) is (record {
         state = marked f x s r new (Clock t) answer (t - s.delay) m'.same_plans m'.moved (clock_rises t open_ fine) after t x.ended s.ended r.ended m' going (reached_met t (t - s.delay) s.ended (λ q. refl) (λ q. small));
         text = flat_map (line_in new.plans x.symbols.texts) answer;
         says = mark_text f x s r new (Clock t) answer (t - s.delay) m'.same_plans m'.moved (clock_rises t open_ fine) after;
         written = written;
-        noted = or_false x.refused;
+        noted = sym (or-false x.refused);
       })
 
   -- an end brings its mark
@@ -79,5 +76,5 @@ module _ (f : Frame) (x : Session) (s : State) (r : Represents f x s) (new : Eng
     text = flat_map (line_in new.plans x.symbols.texts) answer;
     says = mark_text f x s r new Finish answer (2 ^ 42) m.same_plans m.moved (end_rises open_) after;
     written = written;
-    noted = or_false x.refused;
+    noted = sym (or-false x.refused);
   }

@@ -14,7 +14,7 @@ use Rattle.crs_model.proofs.Unique.{same_members}
 use Rattle.crs_log.specs.Run as run
 use Rattle.crs_log.specs.Run.{Setting, State, Outcome, after_line, at_start, settled}
 use Rattle.crs_report.specs.Lines.{recognition_line}
-use Rattle.crs_top.specs.Texts.{Frame, LogEntry, IsNew, IsMarkText, IsOutcomeText, IsTextFrom, IsLogText, mark_of, setting_of}
+use Rattle.crs_top.specs.Texts.{Frame, LogEntry, IsNew, IsMarkText, IsOutcomeText, IsTextFrom, IsLogText, setting_of}
 
 same_list : {A : Type 0} {R : A → A → Ordering} (total : IsTotalOrder R) (P : A → Type 0) (xs ys : List A) → Lists R P xs → Lists R P ys → xs ≡ ys
 same_list total P xs ys a b = same_members total xs ys a.ascending b.ascending (λ z i. b.all z (in_from_each P xs a.each z i)) (λ z i. a.all z (in_from_each P ys b.each z i))
@@ -33,7 +33,7 @@ one_outcome : (cs : List (Chronicle (List ℕ))) (n : ℕ) (was : List LogEntry)
 one_outcome cs n was g now h run.Passed a b x y = x ∙ sym y
 one_outcome cs n was g now h (run.Refused fault) a b x y = x ∙ sym y
 one_outcome cs n was g now h (run.Accepted entry) a b x y = x ∙ sym y
-one_outcome cs n was g now h (run.Marked mark) a b x y = one_mark cs (mark_of mark) was g now h a b x y
+one_outcome cs n was g now h (run.Marked mark) a b x y = one_mark cs mark was g now h a b x y
 
 one_text : (c : Setting) (cs : List (Chronicle (List ℕ))) (n : ℕ) (s : State) (ls : List Line) (a b : List ℕ) → IsTextFrom c cs n s ls a → IsTextFrom c cs n s ls b → a ≡ b
 one_text c cs n s [] a b x y = x ∙ sym y

@@ -2,6 +2,8 @@
 use Rattle.std.proofs.Common.{◌≡◌, Bool, true, false, cond, List, ℕ, length, refl, sym, ap, ◌∙◌, true≢false, append-nil, []}
 use Rattle.std.specs.Prelude.{◌||◌, ◌&&◌}
 use Rattle.std.specs.Prelude.{Option, Some, None}
+use Rattle.std.proofs.Math.Bool.{or-false}
+use Rattle.std.proofs.lemmas.Bool.{or_parts}
 use Rattle.crs_log.specs.declared.items.Item.{Item}
 use Rattle.crs_log.specs.declared.items.Item.TheVariants.{Blank, Delay as DelayItem, Clock as ClockItem, Finish as FinishItem, Event as EventItem}
 use Rattle.crs_log.specs.Reading.{Plain}
@@ -15,7 +17,6 @@ use Rattle.crs_top.specs.declared.session.Session.{Session}
 use Rattle.crs_top.specs.Session.{Represents, Brings, IsUnused, ordered_what, is_blank_what, is_delay_what}
 use Rattle.crs_top.specs.Texts.{Frame, setting_of}
 use Rattle.crs_top.proofs.States.{delayed}
-use Rattle.crs_top.proofs.Marking.{or_false}
 
 -- an item that stands in order becomes what it does in order, once an item was met
 pub in_order : (c : Setting) (s : State) (w : What) → is_blank_what w ≡ false → (s.ended || (is_delay_what w && s.met)) ≡ false → (w ≡ Faulty → ⊥) → ordered_what c (is_met s) w ≡ after_what c s w
@@ -23,20 +24,12 @@ in_order c s Empty b o n = absurd (true≢false b)
 in_order c s (Is item) b o n = λ i. cond (sym o i) (is_met s, run.Refused run.Order) (run.after_ordered c (is_met s) item)
 in_order c s Faulty b o n = absurd (n refl)
 
-or_first : (a b : Bool) → (a || b) ≡ false → a ≡ false
-or_first true b h = absurd (true≢false h)
-or_first false b h = refl
-
-or_second : (a b : Bool) → (a || b) ≡ false → b ≡ false
-or_second true b h = absurd (true≢false h)
-or_second false b h = h
-
 pub not_ended : (ended late : Bool) → (ended || late) ≡ false → ended ≡ false
-not_ended ended late h = or_first ended late h
+not_ended ended late h = (or_parts ended late h).0
 
 pub not_met : (ended delay met : Bool) → (ended || (delay && met)) ≡ false → delay ≡ true → met ≡ false
 not_met ended false met h d = absurd (true≢false (sym d))
-not_met ended true met h d = or_second ended met h
+not_met ended true met h d = (or_parts ended met h).1
 
 -- before an item is met nothing is used
 pub unused : (f : Frame) (x : Session) (s : State) → Represents f x s → x.met ≡ false → IsUnused x.engine
@@ -46,7 +39,7 @@ unused f x s r h =
 
 pub delay_brings : (f : Frame) (x : Session) (s : State) (d n : ℕ) (out : List ℕ) → IsUnused x.engine → Represents f x s
     → Brings f x.refused (record x { engine = record x.engine { delay = d } }) n (settled s) s.horizon (ordered_what (setting_of f) s (Is (Delay d))) out out
-delay_brings f x s d n out u r = record { state = delayed f x s d u r; text = []; says = refl; written = sym (append-nil out); noted = or_false x.refused }
+delay_brings f x s d n out u r = record { state = delayed f x s d u r; text = []; says = refl; written = sym (append-nil out); noted = sym (or-false x.refused) }
 
 pub not_faulty : (line : List ℕ) (item : Item) → what_seen line item ≡ Faulty → ⊥
 not_faulty line Blank e = cc

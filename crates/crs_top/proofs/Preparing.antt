@@ -6,7 +6,8 @@ use Rattle.std.specs.declared.rc.Rc.{Rc}
 use Rattle.std.proofs.Common.{Global}
 use Rattle.std.proofs.lemmas.List.{length-map}
 use Rattle.crs_base.specs.declared.symbols.Sym.{Sym}
-use Rattle.crs_base.specs.Symbols.{Table, AreDistinct}
+use Rattle.crs_base.specs.Symbols.{Table}
+use Rattle.crs_base.proofs.Alls.{all_each}
 use Rattle.crs_stn.specs.Bound.{IsConsistent}
 use Rattle.crs_model.specs.declared.chronicle.Chronicle.{Chronicle as CodeChronicle}
 use Rattle.crs_model.specs.declared.models.Models.{Models as CodeModels}
@@ -18,8 +19,7 @@ use Rattle.crs_model.specs.declared.plan.Plan.{Plan}
 use Rattle.crs_model.specs.declared.plan.Plans.{Plans}
 use Rattle.crs_model.specs.Models.{Chronicle, Window, Name}
 use Rattle.crs_model.specs.Plans.{chronicle, IsProper}
-use Rattle.crs_model.specs.ProperModels.{AreProper}
-use Rattle.crs_model.specs.Renaming.{text_in, renamed_chronicle, renamed_window, renamed_name, renamed_models, AreModelsOf, IsChronicleOf}
+use Rattle.crs_model.specs.Renaming.{text_in, renamed_chronicle, renamed_window, renamed_name, renamed_models, IsChronicleOf}
 use Rattle.crs_model.specs.Seen.{chronicle_of, name_of, models_of}
 use Rattle.crs_log.specs.Run.{at_start}
 use Rattle.crs_log.specs.SeenNames.{name_seen, AreNamesIn}
@@ -28,14 +28,10 @@ use Rattle.crs_compile.specs.Compiled.{IsPlan, chronicles_in, ClosesFirst, IsRef
 use Rattle.crs_engine.specs.Engines.{EngineState, StandsFor, plans_of}
 use Rattle.crs_top.specs.Session.{HasText, chronicle_in, HasModels, Represents}
 use Rattle.crs_top.specs.Models.{IsAccepted, IsRejected, ClosesInconsistent, ClosesWindowed}
-use Rattle.crs_top.specs.Prepared.{IsRefusedText, FirstWindowed}
+use Rattle.crs_top.specs.Prepared.{AreReadIn, IsRefusedText, FirstWindowed}
 use Rattle.crs_top.specs.Listings.{IsFaultyText}
 use Rattle.crs_parse.specs.Steps.{HaltsWith}
 use Rattle.crs_top.specs.Texts.{Frame}
-
-all_from : {A : Type 0} (F G : A → Type 0) (xs : List A) → ((x : A) → F x → G x) → AllByRecursion F xs → AllByRecursion G xs
-all_from F G [] e h = tt
-all_from F G (x ∷ xs) e h = (e x h.0, all_from F G xs e h.1)
 
 -- the refusals
 pub closes_inconsistent : (texts : List (List ℕ)) (cs : List CodeChronicle) (line : ℕ) → ClosesFirst cs line → ClosesInconsistent (map (renamed_chronicle (text_in texts)) (map chronicle_of cs)) line
@@ -107,12 +103,11 @@ by_value F [] h = tt
 by_value F (r ∷ rs) h = (h.0, by_value F rs h.1)
 
 pub plans_proper : (ps : List Plan) → AllByRecursion IsPlan ps → AllByRecursion IsProper ps
-plans_proper ps h = all_from IsPlan IsProper ps (λ p k. k.proper) h
+plans_proper ps h = all_each {P = IsPlan} ps (λ p k. k.proper) h
 
 -- the models of a text, as they were read and compiled
 module _ (symbols entries : ℕ) (text : List ℕ) (m : CodeModels) (table : Table) (plans : Plans)
-    (read : models_read symbols [] text ≡ Ok (renamed_models (text_in table.texts) (models_of m), table.texts))
-    (numbered : AreModelsOf (HasText table.texts) (models_of m)) (proper : AreProper (models_of m))
+    (is : AreReadIn symbols text m table)
     (names : plans.names ≡ m.names) (chronicles : chronicles_in plans.plans ≡ m.chronicles) (made : AllByRecursion IsPlan (plans_of plans)) where
   abbrev pub frame : Frame
   frame = record { models = renamed_models (text_in table.texts) (models_of m); texts = table.texts; symbols = symbols; entries = entries }
@@ -127,11 +122,11 @@ module _ (symbols entries : ℕ) (text : List ℕ) (m : CodeModels) (table : Tab
   pub plans_few : length plans.plans ≤ 64
   plans_few =
       let a : length (chronicles_in plans.plans) ≡ length m.chronicles = ap length chronicles in
-      omega (arith, a, length-map (plans_of plans) (λ (p : Plan). p.chronicle), length-map plans.plans (λ r. r.value), length-map m.chronicles chronicle_of, proper.chronicles_few)
+      omega (arith, a, length-map (plans_of plans) (λ (p : Plan). p.chronicle), length-map plans.plans (λ r. r.value), length-map m.chronicles chronicle_of, is.proper.chronicles_few)
 
   -- a chronicle has a window
   pub rejected_windowed : (line : ℕ) → FirstWindowed (plans_of plans) (Some line) → IsRejected symbols text line Form
-  rejected_windowed line h = inr (frame.models, table.texts, read, consistent, refl, subst (λ (cs : List (Chronicle (List ℕ))). ClosesWindowed cs line) (sym chronicles_are) (closes_windowed table.texts (plans_of plans) line h))
+  rejected_windowed line h = inr (frame.models, table.texts, is.read, consistent, refl, subst (λ (cs : List (Chronicle (List ℕ))). ClosesWindowed cs line) (sym chronicles_are) (closes_windowed table.texts (plans_of plans) line h))
 
   module _ (none : FirstWindowed (plans_of plans) None) where
     windowless : AllByRecursion (λ p. (chronicle p).windows ≡ []) (plans_of plans)
@@ -142,32 +137,32 @@ module _ (symbols entries : ℕ) (text : List ℕ) (m : CodeModels) (table : Tab
 
     pub accepted : IsAccepted symbols entries text frame
     accepted = record {
-      read = read;
+      read = is.read;
       consistent = consistent;
       windowless = subst (AllByRecursion (λ c. c.windows ≡ [])) (sym chronicles_are) (windowless_by table.texts (plans_of plans) windowless);
       symbols_are = refl;
       entries_are = refl;
     }
 
-    has_models : AreDistinct table.texts → table.limit ≡ symbols → HasModels frame plans table
-    has_models distinct limit = record {
+    has_models : HasModels frame plans table
+    has_models = record {
       proper = plans_proper (plans_of plans) made;
       windowless = windowless;
       names = names_by table.texts m.names ∙ ap (map (name_seen table.texts)) (sym names);
-      names_in = subst (AreNamesIn table.texts) (sym names) numbered.names;
-      names_few = let a : length plans.names ≡ length m.names = ap length names in omega (arith, a, length-map m.names name_of, proper.names_few);
-      arities = subst (AllByRecursion (λ n. n.arity ≤ 8)) (sym names) (arities_by m.names proper.arities);
+      names_in = subst (AreNamesIn table.texts) (sym names) is.numbered.names;
+      names_few = let a : length plans.names ≡ length m.names = ap length names in omega (arith, a, length-map m.names name_of, is.proper.names_few);
+      arities = subst (AllByRecursion (λ n. n.arity ≤ 8)) (sym names) (arities_by m.names is.proper.arities);
       chronicles = chronicles_are;
-      chronicles_in = known_by table.texts (plans_of plans) (subst (λ (cs : List CodeChronicle). AllByRecursion (IsChronicleOf (HasText table.texts)) (map chronicle_of cs)) (sym chronicles) numbered.chronicles);
-      distinct = distinct;
-      limit = limit;
+      chronicles_in = known_by table.texts (plans_of plans) (subst (λ (cs : List CodeChronicle). AllByRecursion (IsChronicleOf (HasText table.texts)) (map chronicle_of cs)) (sym chronicles) is.numbered.chronicles);
+      distinct = is.distinct;
+      limit = is.limit;
     }
 
     -- the session at the start
-    pub represented : (e : EngineState) → AreDistinct table.texts → table.limit ≡ symbols → e.plans ≡ plans → e.delay ≡ 0 → e.last ≡ 0 → e.horizon ≡ 0 → e.accepted ≡ 0 → e.limit ≡ entries → e.stopped ≡ false → StandsFor e [] []
+    pub represented : (e : EngineState) → e.plans ≡ plans → e.delay ≡ 0 → e.last ≡ 0 → e.horizon ≡ 0 → e.accepted ≡ 0 → e.limit ≡ entries → e.stopped ≡ false → StandsFor e [] []
         → Represents frame (record { engine = e; symbols = table; entries = entries; met = false; ended = false; refused = false }) (at_start table.texts)
-    represented e distinct limit p delay last horizon count most running stands = record {
-      models = subst (λ (q : Plans). HasModels frame q table) (sym p) (has_models distinct limit);
+    represented e p delay last horizon count most running stands = record {
+      models = subst (λ (q : Plans). HasModels frame q table) (sym p) has_models;
       entries = record { settled = []; waiting = []; stands = stands; members = record { there = λ x i. absurd i; back = λ x i. absurd i }; known = tt; distinct = tt; below = tt };
       reached = record { fresh = λ _. (refl, refl, refl); open_horizon = λ _. omega arith; open_last = λ _. omega arith };
       running = running;

@@ -4,6 +4,7 @@ use Rattle.std.specs.Prelude.{◌||◌, if◌then◌else◌}
 use Rattle.std.specs.Str.Lines.{strip_carriage_return}
 use Rattle.std.proofs.lemmas.Bool.{ltb-false}
 use Rattle.std.specs.List.{list_any}
+use Rattle.std.proofs.Math.Bool.{or_assoc}
 use Rattle.crs_base.specs.Lines.{Line, lines_of, bytes_of, is_longer, line_limit}
 use Rattle.crs_log.specs.ItemOf.{what_of}
 use Rattle.crs_log.specs.Run as run
@@ -59,10 +60,6 @@ given_short old new g e h =
 after_more : (c : Setting) (s : State) (gs : List Given) (g : Given) → after_all c s (gs ++ g ∷ []) ≡ (after_given c (after_all c s gs) g).0
 after_more c s [] g = refl
 after_more c s (x ∷ gs) g = after_more c (after_given c s x).0 gs g
-
-or_assoc : (a b c : Bool) → ((a || b) || c) ≡ (a || (b || c))
-or_assoc true b c = refl
-or_assoc false b c = refl
 
 or_last : (b : Bool) → (b || false) ≡ b
 or_last true = refl

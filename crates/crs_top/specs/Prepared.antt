@@ -1,14 +1,28 @@
 -- What a models text prepares.
-use Rattle.std.specs.Prelude.{◌≡◌, ◌⊎◌, ℕ, false, List, [], ◌∷◌, Option, Some, None}
+use Rattle.std.specs.Prelude.{◌≡◌, ◌⊎◌, ℕ, false, List, [], ◌∷◌, Option, Some, None, Ok}
+use Rattle.crs_base.specs.Symbols.{Table, AreDistinct}
 use Rattle.crs_log.specs.Run.{at_start}
+use Rattle.crs_model.specs.declared.models.Models.{Models as CodeModels}
 use Rattle.crs_model.specs.declared.models.ModelRefused.{ModelRefused}
 use Rattle.crs_model.specs.declared.models.ModelRefused.TheVariants.{At, Memory}
 use Rattle.crs_model.specs.declared.plan.Plan.{Plan}
 use Rattle.crs_model.specs.Plans.{chronicle}
+use Rattle.crs_model.specs.ProperModels.{AreProper}
+use Rattle.crs_model.specs.Renaming.{text_in, renamed_models, AreModelsOf}
+use Rattle.crs_model.specs.Seen.{models_of}
+use Rattle.crs_parse.specs.Meant.{models_read}
 use Rattle.crs_top.specs.declared.session.Session.{Session}
-use Rattle.crs_top.specs.Session.{Represents}
+use Rattle.crs_top.specs.Session.{HasText, Represents}
 use Rattle.crs_top.specs.Models.{IsAccepted, IsRejected}
 use Rattle.crs_top.specs.Texts.{Frame}
+
+-- the models are what the text means, with the symbols of this table, which may hold `symbols` of them
+pub record AreReadIn (symbols : ℕ) (text : List ℕ) (m : CodeModels) (table : Table) : Type 0 where
+  pub read : models_read symbols [] text ≡ Ok (renamed_models (text_in table.texts) (models_of m), table.texts)
+  pub numbered : AreModelsOf (HasText table.texts) (models_of m)
+  pub proper : AreProper (models_of m)
+  pub distinct : AreDistinct table.texts
+  pub limit : table.limit ≡ symbols
 
 -- the session stands for the start of a run with the models that the text means
 pub record IsPrepared (symbols entries : ℕ) (text : List ℕ) (x : Session) : Type 0 where

@@ -4,7 +4,6 @@ use Rattle.std.specs.List.{list_any}
 use Rattle.crs_base.specs.Entry.{Entry}
 use Rattle.crs_base.specs.Lines.{Line, lines_of}
 use Rattle.crs_model.specs.declared.recognition.Mark.{Mark}
-use Rattle.crs_model.specs.declared.recognition.Mark.TheVariants.{Clock, Finish}
 use Rattle.crs_model.specs.Models.{Chronicle, Models}
 use Rattle.crs_model.specs.Matching.{Assignment}
 use Rattle.crs_model.specs.Open.{IsRecognised}
@@ -19,11 +18,7 @@ use Rattle.crs_report.specs.Lines.{recognition_line, refusal_line}
 abbrev pub LogEntry : Type 0
 LogEntry = Entry (List ℕ)
 
--- the mark and the fault of a line, as they are printed
-abbrev pub mark_of : run.Mark → Mark
-mark_of (run.AtClock t) = Clock t
-mark_of run.AtEnd = Finish
-
+-- the fault of a line, as it is printed
 abbrev pub fault_of : run.Fault → Fault
 fault_of run.TooLong = faults.Long
 fault_of run.Form = faults.Form
@@ -51,7 +46,7 @@ abbrev pub IsOutcomeText : List (Chronicle (List ℕ)) → ℕ → List LogEntry
 IsOutcomeText cs n was g now h Passed text = text ≡ []
 IsOutcomeText cs n was g now h (Refused fault) text = text ≡ refusal_line n (fault_of fault)
 IsOutcomeText cs n was g now h (Accepted entry) text = text ≡ []
-IsOutcomeText cs n was g now h (Marked mark) text = IsMarkText cs (mark_of mark) was g now h text
+IsOutcomeText cs n was g now h (Marked mark) text = IsMarkText cs mark was g now h text
 
 -- what is written for a line that is met in the state s and leaves `after`
 abbrev pub IsLineText : List (Chronicle (List ℕ)) → ℕ → State → State × Outcome → List ℕ → Type 0

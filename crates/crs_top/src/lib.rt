@@ -10,6 +10,7 @@ mod log;
 mod models;
 mod piece;
 mod printing;
+mod reading;
 mod run;
 mod session;
 mod status;

@@ -1,5 +1,5 @@
 // A log, read in pieces.
-ghost use Rattle.std.specs.Prelude.{◌≡◌, ◌⊎◌, ◌<◌, ◌≤◌, ◌+◌, ◌^◌, [], true, false, length, IsErrOf, IfOk, OnOk};
+ghost use Rattle.std.specs.Prelude.{◌≡◌, ◌⊎◌, ◌<◌, ◌≤◌, ◌+◌, ◌^◌, true, false, length, IsErrOf, IfOk};
 ghost use Rattle.crs_desk.specs.Desk.{Rose, stream_at};
 ghost use Rattle.crs_log.specs.Run.{at_start};
 ghost use Rattle.crs_top.specs.Session.{IsReady, Represents};

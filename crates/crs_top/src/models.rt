@@ -1,14 +1,13 @@
 // What a log is read with.
-ghost use Rattle.std.specs.Prelude.{◌≡◌, IfOk, IfErr, map};
+ghost use Rattle.std.specs.Prelude.{IfOk, IfErr, map};
 ghost use Rattle.crs_top.specs.Prepared.{IsPrepared, IsRefusedText, FirstWindowed};
 
 use crate::limits::Limits;
+use crate::reading::read_text;
 use crate::session::Session;
-use crs_base::Symbols;
 use crs_compile::compile;
 use crs_engine::Engine;
 use crs_model::{ModelRefused, ModelWord, Plan};
-use crs_parse::read_models;
 use std::alloc::Global;
 use std::rc::Rc;
 
@@ -33,28 +32,15 @@ pub fn prepare(alloc: Global, text: &[u8], limits: Limits) -> Result<Session, Mo
     ensures ok { IfOk result (IsPrepared limits.symbols limits.entries text.now) }
     ensures refused { IfErr result (IsRefusedText limits.symbols text.now) }
 {
-    let Ok(mut symbols) = Symbols::new(alloc, limits.symbols) else {
-        return Err(ModelRefused::Memory);
-    };
-    let models = match read_models(alloc, text, &mut symbols) {
-        Ok(models) => models,
-        Err(refused) => return Err(refused),
-    };
-    // no text stands twice in the table
-    let _ = symbols.len();
-    let plans = match compile(alloc, models) {
-        Ok(plans) => plans,
-        Err(refused) => return Err(refused),
-    };
+    let (models, symbols) = read_text(alloc, text, limits.symbols)?;
+    let plans = compile(alloc, models)?;
     if let Some(line) = first_windowed(plans.plans.as_slice()) {
         return Err(ModelRefused::At {
             line,
             word: ModelWord::Form,
         });
     }
-    let Ok(engine) = Engine::new(alloc, plans, false, limits.entries) else {
-        return Err(ModelRefused::Memory);
-    };
+    let engine = Engine::new(alloc, plans, false, limits.entries)?;
     Ok(Session {
         engine,
         symbols,

@@ -1,12 +1,5 @@
 // One line of a log.
-ghost use Rattle.std.specs.Prelude.{◌≡◌, ◌≤◌, ◌<◌, ◌^◌, ◌-◌, ◌↔◌, ◌⊎◌, ◌||◌, ◌&&◌, ◌++◌, ℕ, List as Items, IsTrue, IsSome, IfOk, OnOk, Err, true, false, length};
-ghost use Rattle.crs_base.specs.declared.symbols.Sym.{Sym};
-ghost use Rattle.crs_base.specs.Entry.{Entry};
-ghost use Rattle.crs_model.specs.declared.recognition.Mark.TheVariants.{Clock as ClockMark, Finish as FinishMark};
-ghost use Rattle.crs_engine.specs.Engines.{HasMoved, StandsFor};
-ghost use Rattle.crs_engine.specs.Marks.{AfterMark};
-ghost use Rattle.crs_engine.specs.Refusals.{clock_refusal, finish_refusal, IsRefusedAs};
-ghost use Rattle.crs_engine.specs.declared.refused.Refused.TheVariants.{Memory};
+ghost use Rattle.std.specs.Prelude.{◌≡◌, ◌≤◌, ◌<◌, ◌^◌, ◌||◌, ◌&&◌, ◌++◌, ℕ, List as Items, OnOk, true};
 ghost use Rattle.crs_log.specs.Given.{seen};
 ghost use Rattle.crs_log.specs.Items.{Clock, Finish as LogEnd, Happens, IsItem};
 ghost use Rattle.crs_log.specs.Known.{known_of};
@@ -22,11 +15,10 @@ ghost use Rattle.crs_report.specs.Lines.{refusal_line};
 
 use crate::answer::push_answer;
 use crate::session::Session;
-use crs_base::{List, Steps};
-use crs_engine::{Engine, Refused};
+use crs_base::Steps;
+use crs_engine::Refused;
 use crs_log::naming::known;
 use crs_log::{Item, Known, Line, LineRefused, Raw, make_entry, read_item};
-use crs_model::Recognition;
 use crs_report::{Fault, push_refusal_line};
 use std::alloc::{AllocError, Global};
 use std::marker::Brand;
@@ -47,41 +39,9 @@ fn refuse(
     Ok(())
 }
 
-/// Moves the clock of the engine on, and counts its steps apart.
-fn clock_apart<L: Ledger>(
+/// Takes a clock mark, with a step counter of its own.
+fn take_clock<L: Ledger>(
     blank: Blank,
-    engine: &mut Engine,
-    t: u64,
-) -> Result<List<Recognition>, Refused>
-    requires name { blank.name ≡ L.name }
-    requires parts { blank.parts ≡ L.parts }
-    requires some { 0 < L.parts }
-    requires date { t < 2 ^ 40 }
-    ensures refused { IsRefusedAs (clock_refusal engine.old t) result }
-    ensures unchanged { IsSome (clock_refusal engine.old t) → engine.new ≡ engine.old }
-    ensures raised { IsTrue engine.new.stopped ↔ (IsTrue engine.old.stopped ⊎ (result ≡ Err Memory)) }
-    ensures moved { OnOk result (HasMoved engine.old engine.new t (t - engine.old.delay)) }
-    ensures marked { IfOk result (λ answer. (settled : Items (Entry Sym)) (waiting : Items (Entry Sym)) → StandsFor engine.old settled waiting → AfterMark engine.old engine.new (ClockMark t) settled waiting answer) }
-{
-    engine.clock(t, &mut Steps::<L>::new(blank))
-}
-
-/// Settles all entries of the engine, and counts its steps apart.
-fn finish_apart<L: Ledger>(blank: Blank, engine: &mut Engine) -> Result<List<Recognition>, Refused>
-    requires name { blank.name ≡ L.name }
-    requires parts { blank.parts ≡ L.parts }
-    requires some { 0 < L.parts }
-    ensures refused { IsRefusedAs (finish_refusal engine.old) result }
-    ensures unchanged { IsSome (finish_refusal engine.old) → engine.new ≡ engine.old }
-    ensures raised { IsTrue engine.new.stopped ↔ (IsTrue engine.old.stopped ⊎ (result ≡ Err Memory)) }
-    ensures moved { OnOk result (HasMoved engine.old engine.new (2 ^ 42) (2 ^ 42)) }
-    ensures marked { IfOk result (λ answer. (settled : Items (Entry Sym)) (waiting : Items (Entry Sym)) → StandsFor engine.old settled waiting → AfterMark engine.old engine.new FinishMark settled waiting answer) }
-{
-    engine.finish(&mut Steps::<L>::new(blank))
-}
-
-/// Takes a clock mark.
-fn take_clock(
     session: &mut Session,
     number: u64,
     t: u64,
@@ -91,9 +51,12 @@ fn take_clock(
     requires open { IsOpen session.old }
     requires met { session.old.met ≡ true }
     requires date { t < 2 ^ 40 }
+    requires name { blank.name ≡ L.name }
+    requires parts { blank.parts ≡ L.parts }
+    requires some { 0 < L.parts }
     ensures { OnOk result (BringsAll session.old session.new number (λ f s. after_ordered (setting_of f) s (Clock t)) out.old.items out.new.items) }
 {
-    match clock_apart::<Brand>(Blank::new(1), &mut session.engine, t) {
+    match session.engine.clock(t, &mut Steps::<L>::new(blank)) {
         Ok(answer) => push_answer(
             session.engine.plans(),
             &session.symbols,
@@ -105,14 +68,22 @@ fn take_clock(
     }
 }
 
-/// Takes the end of the log's items.
-fn take_end(session: &mut Session, number: u64, out: &mut Vec<u8>) -> Result<(), AllocError>
+/// Takes the end of the log's items, with a step counter of its own.
+fn take_end<L: Ledger>(
+    blank: Blank,
+    session: &mut Session,
+    number: u64,
+    out: &mut Vec<u8>,
+) -> Result<(), AllocError>
     requires ready { IsReady session.old }
     requires open { IsOpen session.old }
     requires met { session.old.met ≡ true }
+    requires name { blank.name ≡ L.name }
+    requires parts { blank.parts ≡ L.parts }
+    requires some { 0 < L.parts }
     ensures { OnOk result (BringsAll session.old session.new number (λ f s. after_ordered (setting_of f) s LogEnd) out.old.items out.new.items) }
 {
-    match finish_apart::<Brand>(Blank::new(1), &mut session.engine) {
+    match session.engine.finish(&mut Steps::<L>::new(blank)) {
         Ok(answer) => {
             session.ended = true;
             push_answer(
@@ -155,8 +126,6 @@ fn accept_event(
         }
         Err(_) => return Err(AllocError),
     };
-    // no text stands twice in the table
-    let _ = session.symbols.len();
     match session.engine.accept(entry) {
         Ok(()) => Ok(()),
         Err(_) => Err(AllocError),
@@ -237,8 +206,8 @@ fn take_ordered(
             session.engine.set_delay(delay);
             Ok(())
         }
-        Item::Clock(t) => take_clock(session, number, t, out),
-        Item::Finish => take_end(session, number, out),
+        Item::Clock(t) => take_clock::<Brand>(Blank::new(1), session, number, t, out),
+        Item::Finish => take_end::<Brand>(Blank::new(1), session, number, out),
         Item::Event(raw) => take_event(alloc, session, number, line, &raw, out),
     }
 }

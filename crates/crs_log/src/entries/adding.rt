@@ -1,11 +1,11 @@
-ghost use Rattle.std.specs.Prelude.{◌≡◌, ◌<◌, ◌≤◌, ◌∷◌, ◌++◌, ◌+◌, [], length, map, IfOk, OnOk, OnErr, IfErr, List, ℕ, true, false, IsTrue, bytes_eq, take, ◌||◌};
+ghost use Rattle.std.specs.Prelude.{◌≡◌, ◌<◌, ◌≤◌, ◌+◌, length, map, IfOk, OnOk, OnErr, List, ℕ, true, false, bytes_eq, take, ◌||◌};
 ghost use Rattle.std.specs.List.{list_any};
-ghost use Rattle.crs_base.specs.Symbols.{is_symbol, is_known, with_text, text_at};
+ghost use Rattle.crs_base.specs.Symbols.{is_symbol, is_known, with_text, with_texts};
 ghost use Rattle.crs_log.specs.SeenItems.{text_of};
 ghost use Rattle.crs_model.specs.Renaming.{text_in};
 ghost use Rattle.crs_model.specs.Renaming.{AreKnown};
 ghost use Rattle.crs_log.specs.Items.{AreSymbols};
-ghost use Rattle.crs_log.specs.Known.{new_texts, with_texts, one_if_new};
+ghost use Rattle.crs_log.specs.Known.{new_texts, one_if_new};
 
 use crate::items::Span;
 use crate::items::parts::span_text;

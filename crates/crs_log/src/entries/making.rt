@@ -1,12 +1,12 @@
 ghost use Rattle.std.specs.Prelude.{◌≡◌, ◌<◌, ◌≤◌, ◌+◌, length, map, IfOk, OnOk, IfErr, List, ℕ, true};
-ghost use Rattle.crs_base.specs.Symbols.{is_known};
+ghost use Rattle.crs_base.specs.Symbols.{is_known, with_texts};
 ghost use Rattle.crs_log.specs.SeenItems.{text_of, event_seen, change_in};
 ghost use Rattle.crs_model.specs.Renaming.{text_in};
 ghost use Rattle.crs_model.specs.Renaming.{AreKnown};
 ghost use Rattle.crs_log.specs.SeenNames.{entry_seen, change_seen, IsEntryRefusal, IsEntryIn, IsPairIn, change_count};
 ghost use Rattle.crs_base.specs.Entry.{canonical};
 ghost use Rattle.crs_log.specs.Items.{IsItem, Happens};
-ghost use Rattle.crs_log.specs.Known.{new_texts, with_texts, texts_of, change_texts, entry_of_event};
+ghost use Rattle.crs_log.specs.Known.{new_texts, texts_of, change_texts, entry_of_event};
 
 use super::adding::{intern_all, new_count};
 use super::texts::{canonical_text, value_spans};

@@ -1,4 +1,4 @@
-ghost use Rattle.std.specs.Prelude.{◌≡◌, ◌<◌, ◌≤◌, ◌∷◌, ◌++◌, [], length, map, IfOk, OnOk, List, ℕ};
+ghost use Rattle.std.specs.Prelude.{◌≡◌, ◌<◌, ◌∷◌, ◌++◌, map, IfOk, OnOk, List, ℕ};
 ghost use Rattle.crs_log.specs.SeenItems.{text_of, event_seen, change_in};
 ghost use Rattle.crs_base.specs.Entry.{canonical, args_text, more_text, change_text};
 ghost use Rattle.crs_log.specs.Known.{texts_of};

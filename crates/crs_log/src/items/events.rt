@@ -1,4 +1,4 @@
-ghost use Rattle.std.specs.Prelude.{◌≡◌, ◌<◌, IfOk, IfSome, option_map, List, ℕ};
+ghost use Rattle.std.specs.Prelude.{◌≡◌, ◌<◌, IfOk, IfSome, option_map, List};
 ghost use Rattle.crs_base.specs.SeenTokens.{token_of, tokens_seen};
 ghost use Rattle.crs_log.specs.SeenItems.{happens_seen};
 ghost use Rattle.crs_log.specs.ItemOf.{event_of};

@@ -1,4 +1,4 @@
-ghost use Rattle.std.specs.Prelude.{◌≡◌, ◌≤◌, ◌++◌, [], length, List, ℕ, map, IfOk, IfSome, option_map, ◌&&◌};
+ghost use Rattle.std.specs.Prelude.{◌≡◌, [], List, ℕ, map, IfOk, IfSome, option_map, ◌&&◌};
 ghost use Rattle.crs_base.specs.SeenTokens.{token_of, tokens_seen};
 ghost use Rattle.crs_log.specs.SeenItems.{text_of, change_in, IsWithin, parted_seen, pair_in};
 ghost use Rattle.crs_log.specs.ItemOf.{symbol_of, is_mark, more_of, args_of, change_of, led_by, pair_of};

@@ -1,5 +1,5 @@
 ghost use Rattle.std.specs.Prelude.{◌≡◌, ◌<◌, ◌≤◌, length, IfOk, IfErr, IfSome};
-ghost use Rattle.crs_base.specs.SeenTokens.{token_of, tokens_seen};
+ghost use Rattle.crs_base.specs.SeenTokens.{tokens_seen};
 ghost use Rattle.crs_log.specs.SeenItems.{what_seen, what_from, IsFormOrMemory, IsInRange, IsRead, Refuses};
 ghost use Rattle.crs_log.specs.ItemOf.{statement_of, what_is, what_of};
 

@@ -3,7 +3,8 @@ use Rattle.std.specs.Prelude.{Option, option_map}
 use Rattle.std.specs.declared.rc.Rc.{Rc}
 use Rattle.crs_base.specs.declared.entry.Entry.{Entry as CodeEntry}
 use Rattle.crs_base.specs.Seen.{entry_of}
-use Rattle.crs_history.specs.Histories.{HistoryState, IsInKeyOrder}
+use Rattle.crs_base.specs.Entry.{IsInKeyOrder}
+use Rattle.crs_history.specs.Histories.{HistoryState}
 use Rattle.crs_engine.proofs.Settling.{settled_none, settled_on, rest_of, same_on, comes_last, order_without, order_with, floor_with, ends_with}
 use Rattle.crs_engine.proofs.moving.settle.Goals as goal
 

@@ -1,5 +1,5 @@
 use Rattle.std.proofs.Common.{List, subst, sym}
-use Rattle.std.specs.Prelude.{Option, IsTrue, is_some, ◌↔◌}
+use Rattle.std.specs.Prelude.{Option, IsTrue, ◌↔◌}
 use Rattle.crs_base.specs.declared.symbols.Sym.{Sym}
 use Rattle.crs_base.specs.Seen.{entry_of}
 use Rattle.crs_model.specs.Bindings.{look_of, IsMatch}

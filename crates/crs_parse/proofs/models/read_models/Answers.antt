@@ -14,17 +14,17 @@ use Rattle.crs_parse.proofs.models.read_models.Goals as goal
 pub models-requires : goal.models-requires
 models-requires c = lines_read c.args.symbols.now.limit 1 c.args.symbols.now.texts (see.reading_of c.read_all.new.symbols.texts c.in_ok-reading.reading) (lines_of c.args.text.now) c.in_ok-reading.ensures.read
 
-pub returns-in-Ok-clause-numbered : goal.returns-in-Ok-clause-numbered
-returns-in-Ok-clause-numbered c =
-    numbered_in c.read_all.new.symbols.texts (see.reading_of c.read_all.new.symbols.texts c.in_ok-reading.reading) (view.models_of c.in-Ok.models)
-    (lines_read c.args.symbols.now.limit 1 c.args.symbols.now.texts (see.reading_of c.read_all.new.symbols.texts c.in_ok-reading.reading) (lines_of c.args.text.now) c.in_ok-reading.ensures.read) c.in-Ok.ensures
+pub returns-clause-numbered : goal.returns-clause-numbered
+returns-clause-numbered c =
+    numbered_in c.read_all.new.symbols.texts (see.reading_of c.read_all.new.symbols.texts c.in_ok-reading.reading) (view.models_of c.in_ok-models.models)
+    (lines_read c.args.symbols.now.limit 1 c.args.symbols.now.texts (see.reading_of c.read_all.new.symbols.texts c.in_ok-reading.reading) (lines_of c.args.text.now) c.in_ok-reading.ensures.read) c.in_ok-models.ensures
 
-pub returns-in-Ok-clause-proper : goal.returns-in-Ok-clause-proper
-returns-in-Ok-clause-proper c =
+pub returns-clause-proper : goal.returns-clause-proper
+returns-clause-proper c =
     let held : IsHeldReading c.read_all.new.symbols.texts (see.reading_of c.read_all.new.symbols.texts c.in_ok-reading.reading) =
     lines_read c.args.symbols.now.limit 1 c.args.symbols.now.texts (see.reading_of c.read_all.new.symbols.texts c.in_ok-reading.reading) (lines_of c.args.text.now) c.in_ok-reading.ensures.read in
-    proper_in c.read_all.new.symbols.texts (view.models_of c.in-Ok.models) c.len.ensures.distinct
-    (numbered_in c.read_all.new.symbols.texts (see.reading_of c.read_all.new.symbols.texts c.in_ok-reading.reading) (view.models_of c.in-Ok.models) held c.in-Ok.ensures)
-    (subst AreProper (sym c.in-Ok.ensures)
+    proper_in c.read_all.new.symbols.texts (view.models_of c.in_ok-models.models) c.len.ensures.distinct
+    (numbered_in c.read_all.new.symbols.texts (see.reading_of c.read_all.new.symbols.texts c.in_ok-reading.reading) (view.models_of c.in_ok-models.models) held c.in_ok-models.ensures)
+    (subst AreProper (sym c.in_ok-models.ensures)
     (reading_proper c.read_all.new.symbols.texts (see.reading_of c.read_all.new.symbols.texts c.in_ok-reading.reading) held
     (read_sound c.args.symbols.now.limit 1 c.args.symbols.now.texts (see.reading_of c.read_all.new.symbols.texts c.in_ok-reading.reading) (lines_of c.args.text.now) c.in_ok-reading.ensures.read)))

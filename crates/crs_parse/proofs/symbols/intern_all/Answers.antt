@@ -1,9 +1,8 @@
 use Rattle.std.proofs.Common.{◌≡◌, ◌<◌, ◌∙◌, ℕ, List, [], ◌∷◌, drop, get_or, suc, length, map, ap, drop-cons, add-one, Bor}
-use Rattle.crs_parse.specs.Faults.{with_texts}
 use Rattle.crs_parse.proofs.Grows.{grows_then, grows_one, is_in_at}
 use Rattle.crs_parse.proofs.Overfull.{refused_overfull}
 use Rattle.crs_parse.proofs.Pushed.{held_step}
-use Rattle.crs_base.specs.Symbols.{is_symbol}
+use Rattle.crs_base.specs.Symbols.{is_symbol, with_texts}
 use Rattle.std.proofs.Common.{true}
 use Rattle.crs_parse.proofs.symbols.intern_all.Goals as goal
 

@@ -1,24 +1,23 @@
+use Rattle.std.proofs.lemmas.Result.{err_from_is_err_and}
 use Rattle.crs_model.specs.Renaming.{text_in, renamed_models}
 use Rattle.crs_model.specs.Seen.{models_of}
-use Rattle.crs_top.proofs.Preparing.{compile_faulty, read_faulty, consistent_models}
+use Rattle.crs_top.proofs.Preparing.{compile_faulty, consistent_models}
 use Rattle.crs_top.proofs.Listed.{printables, minimal_named}
 use Rattle.crs_top.proofs.listing.minimal.Goals as goal
 
-pub returns-in-Err-clause-refused : goal.returns-in-Err-clause-refused
-returns-in-Err-clause-refused c = read_faulty c.args.limit c.args.text.now c.in-Err.refused (rw c.in-Ok.ensures.ok at c.in-Err.ensures.refused)
-
-pub returns-in-Err-compile-clause-refused : goal.returns-in-Err-compile-clause-refused
-returns-in-Err-compile-clause-refused c =
-    compile_faulty c.args.limit c.args.text.now c.in-Ok-read_models.models c.read_models.new.symbols.texts (rw c.in-Ok.ensures.ok at c.in-Ok-read_models.ensures.ok) c.in-Err-compile.refused c.in-Err-compile.ensures.refused
+pub returns-in_err-plans-clause-refused : goal.returns-in_err-plans-clause-refused
+returns-in_err-plans-clause-refused c =
+    let p = err_from_is_err_and c.from_residual-in_err-plans.result c.from_residual-in_err-plans.ensures.1 in
+    rw (p.1, p.2) (compile_faulty c.args.limit c.args.text.now c.in_ok-models.models c.in_ok-models.symbols.texts c.in_ok-models.ensures.ok.read c.in_err-plans.field-0.0 c.in_err-plans.ensures.refused)
 
 pub minimal_text-requires-clause-known : goal.minimal_text-requires-clause-known
 minimal_text-requires-clause-known c =
-    rw c.in-Ok-compile.ensures.chronicles (printables c.read_models.new.symbols.texts (models_of c.in-Ok-read_models.models).chronicles c.in-Ok-read_models.ensures.numbered.chronicles)
+    rw c.in_ok-plans.ensures.chronicles (printables c.in_ok-models.symbols.texts (models_of c.in_ok-models.models).chronicles c.in_ok-models.ensures.ok.numbered.chronicles)
 
-pub returns-in-Ok-minimal_text-clause-ok : goal.returns-in-Ok-minimal_text-clause-ok
-returns-in-Ok-minimal_text-clause-ok c =
-    let texts = c.read_models.new.symbols.texts in (
-      renamed_models (text_in texts) (models_of c.in-Ok-read_models.models),
-      record { texts = texts; read = rw c.in-Ok.ensures.ok at c.in-Ok-read_models.ensures.ok; consistent = consistent_models texts c.in-Ok-read_models.models _ c.in-Ok-compile.ensures.chronicles c.in-Ok-compile.ensures.plans },
-      minimal_named (text_in texts) (models_of c.in-Ok-read_models.models).chronicles _ (rw c.in-Ok-compile.ensures.chronicles at c.in-Ok-minimal_text.ensures),
+pub returns-clause-ok : goal.returns-clause-ok
+returns-clause-ok c =
+    let texts = c.in_ok-models.symbols.texts in (
+      renamed_models (text_in texts) (models_of c.in_ok-models.models),
+      record { texts = texts; read = c.in_ok-models.ensures.ok.read; consistent = consistent_models texts c.in_ok-models.models _ c.in_ok-plans.ensures.chronicles c.in_ok-plans.ensures.plans },
+      minimal_named (text_in texts) (models_of c.in_ok-models.models).chronicles _ (rw c.in_ok-plans.ensures.chronicles at c.in_ok-minimal.ensures),
     )

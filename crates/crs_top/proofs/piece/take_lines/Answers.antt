@@ -1,9 +1,9 @@
 use Rattle.std.proofs.Common.{◌++◌, [], ◌∷◌, ◌∙◌, ap, sym, refl, append-nil, append_assoc, List}
+use Rattle.std.proofs.Math.Bool.{or-false}
 use Rattle.crs_log.specs.Given.{seen}
 use Rattle.crs_log.specs.Reading.{Given, Gives, ahead}
 use Rattle.crs_top.specs.Texts.{setting_of}
 use Rattle.crs_log.specs.Run.{after_given}
-use Rattle.crs_top.proofs.Marking.{or_false}
 use Rattle.crs_top.proofs.Taken.{given_short, takes_more}
 use Rattle.crs_top.proofs.piece.take_lines.Goals as goal
 
@@ -35,5 +35,5 @@ loop-line-init c = record {
   finished = refl;
   fed = refl;
   ahead_is = λ m h. refl;
-  takes = λ f s r. record { state = r; text = []; says = refl; written = sym (append-nil c.args.out.now.items); noted = or_false c.args.session.now.refused };
+  takes = λ f s r. record { state = r; text = []; says = refl; written = sym (append-nil c.args.out.now.items); noted = sym (or-false c.args.session.now.refused) };
 }

@@ -13,12 +13,12 @@ use Rattle.crs_top.proofs.Marking.{still_running, clock_fine, clock_rises, clock
 use Rattle.crs_top.proofs.step.take_clock.Goals as goal
 
 pub push_answer-requires : goal.push_answer-requires
-push_answer-requires c =
+push_answer-requires g c =
     let f = c.requires.ready.0 in
     let s = c.requires.ready.1 in
     let r = c.requires.ready.2 in
     let x = c.args.session.now in
-    let new = c.clock_apart.new.engine in
+    let new = c.clock.new.self in
     let m : HasMoved x.engine new c.args.t (c.args.t - s.delay) = subst (λ (d : ℕ). HasMoved x.engine new c.args.t (c.args.t - d)) (sym r.delay) c.in-Ok.ensures.moved in
     let fine = clock_fine x.engine c.args.t c.in-Ok.answer r.running c.in-Ok.ensures.refused in
     let p = answer_printable f x s r new _ c.in-Ok.answer (c.args.t - s.delay) m.same_plans m.moved
@@ -28,9 +28,9 @@ push_answer-requires c =
     (subst (λ (a : List Recognition). ArePrintable new.plans x.symbols.texts a) (sym c.as_slice.ensures) p)
 
 pub returns-in-Ok : goal.returns-in-Ok
-returns-in-Ok c =
+returns-in-Ok g c =
     let x = c.args.session.now in
-    let new = c.clock_apart.new.engine in
+    let new = c.clock.new.self in
     IfOk-weaker c.push_answer.result
     (λ _. c.push_answer.new.out.items ≡ c.args.out.now.items ++ flat_map (line_in c.plans.result.now x.symbols.texts) c.as_slice.result.now)
     (λ _. BringsAll x (record x { engine = new }) c.args.number (λ f s. after_ordered (setting_of f) s (Clock c.args.t)) c.args.out.now.items c.push_answer.new.out.items)

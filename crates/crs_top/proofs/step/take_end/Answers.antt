@@ -12,12 +12,12 @@ use Rattle.crs_top.proofs.Marking.{still_running, end_rises, end_brings}
 use Rattle.crs_top.proofs.step.take_end.Goals as goal
 
 pub push_answer-requires : goal.push_answer-requires
-push_answer-requires c =
+push_answer-requires g c =
     let f = c.requires.ready.0 in
     let s = c.requires.ready.1 in
     let r = c.requires.ready.2 in
     let x = c.args.session.now in
-    let new = c.finish_apart.new.engine in
+    let new = c.finish.new.self in
     let m = c.in-Ok.ensures.moved in
     let p = answer_printable f x s r new _ c.in-Ok.answer (2 ^ 42) m.same_plans m.moved
     (end_rises f x s r new c.in-Ok.answer c.requires.met (still_running x.engine.stopped new.stopped c.in-Ok.answer r.running c.in-Ok.ensures.raised) c.requires.open)
@@ -26,9 +26,9 @@ push_answer-requires c =
     (subst (λ (a : List Recognition). ArePrintable new.plans x.symbols.texts a) (sym c.as_slice.ensures) p)
 
 pub returns-in-Ok : goal.returns-in-Ok
-returns-in-Ok c =
+returns-in-Ok g c =
     let x = c.args.session.now in
-    let new = c.finish_apart.new.engine in
+    let new = c.finish.new.self in
     IfOk-weaker c.push_answer.result
     (λ _. c.push_answer.new.out.items ≡ c.args.out.now.items ++ flat_map (line_in c.plans.result.now x.symbols.texts) c.as_slice.result.now)
     (λ _. BringsAll x (record x { engine = new; ended = true }) c.args.number (λ f s. after_ordered (setting_of f) s Finish) c.args.out.now.items c.push_answer.new.out.items)

@@ -1,6 +1,6 @@
 use Rattle.std.proofs.Common.{◌≤◌, subst, refl}
 use Rattle.std.specs.List.{AllByRecursion}
-use Rattle.crs_buffer.specs.Entries.{Ascends}
+use Rattle.crs_base.specs.Entry.{IsInKeyOrder}
 use Rattle.crs_buffer.proofs.Sorted.{ascends, none_held}
 use Rattle.crs_buffer.proofs.buffer.Buffer.release_before.Goals as goal
 
@@ -8,7 +8,7 @@ pub returns-clause-sorted : goal.returns-clause-sorted
 returns-clause-sorted c = ascends c.pop_first.new.self.keys c.pop_first.ensures.ordered
 
 pub returns-then-deref-h-clause-sorted : goal.returns-then-deref-h-clause-sorted
-returns-then-deref-h-clause-sorted c = subst Ascends c.self.view_is (ascends c.self.inside.set.keys c.len.ensures.ordered)
+returns-then-deref-h-clause-sorted c = subst IsInKeyOrder c.self.view_is (ascends c.self.inside.set.keys c.len.ensures.ordered)
 
 pub returns-then-deref-h-clause-none : goal.returns-then-deref-h-clause-none
 returns-then-deref-h-clause-none c = (

@@ -1,10 +1,8 @@
 use Rattle.std.proofs.Common.{arith, List, subst, sym, ap, ◌∙◌, ◌+◌, ◌++◌}
 use Rattle.std.specs.List.{AllByRecursion}
 use Rattle.crs_base.specs.declared.symbols.Sym.{Sym}
-use Rattle.crs_base.specs.Entry.{Entry}
+use Rattle.crs_base.specs.Entry.{Entry, IsInKeyOrder}
 use Rattle.crs_base.specs.Seen.{entry_of}
-use Rattle.crs_buffer.specs.Entries.{Ascends}
-use Rattle.crs_history.specs.Histories.{IsInKeyOrder}
 use Rattle.crs_engine.specs.Engines.{EngineState, IsWaiting}
 use Rattle.crs_engine.proofs.Accepting.{new_key, waiting_more, in_order_more, accepted_from}
 use Rattle.crs_engine.proofs.engine.Engine.accept.Goals as goal
@@ -23,7 +21,7 @@ invariant_of-self c =
       behind = c.self.invariant.behind;
       in_order = subst (λ (t : List (Entry Sym)). IsInKeyOrder (c.self.inside.history.entries ++ t)) (sym put)
           (in_order_more c.self.inside.history.entries c.self.inside.buffer (entry_of c.args.entry) c.self.inside.horizon c.self.invariant.in_order (c.self.invariant.settled c.if-self.false) c.if-entry-self.false
-          (subst Ascends put ((c.in-Ok.ensures {u = tt}).sorted)));
+          (subst IsInKeyOrder put ((c.in-Ok.ensures {u = tt}).sorted)));
       low = c.self.invariant.low;
       settled = c.self.invariant.settled;
     }

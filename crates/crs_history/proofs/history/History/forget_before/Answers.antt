@@ -6,15 +6,15 @@ use mir.Syntax.{w64}
 use Rattle.crs_base.specs.Sifted.{Sifts}
 use Rattle.crs_base.specs.Entry.{entry_cmp}
 use Rattle.crs_base.proofs.Sifted.{sifts_ordered}
+use Rattle.crs_base.proofs.KeyOrder.{in_dates}
 use Rattle.crs_history.specs.Histories.{entries_of, IsKept, StandsFor}
 use Rattle.crs_history.specs.Gathering.{IsByDate, nat_of}
 use Rattle.crs_history.proofs.Kept.{kept_raised}
 use Rattle.crs_history.proofs.KeptFrom.{front_of}
-use Rattle.crs_history.proofs.Order.{by_date}
 use Rattle.crs_history.proofs.history.History.forget_before.Goals as goal
 
 pub gather-start-requires : goal.gather-start-requires
-gather-start-requires c = subst (λ w. IsByDate (entries_of w)) (sym c.as_mut_slice.ensures.value) (by_date (entries_of c.self.inside.items.items) c.self.invariant)
+gather-start-requires c = subst (λ w. IsByDate (entries_of w)) (sym c.as_mut_slice.ensures.value) (in_dates (entries_of c.self.inside.items.items) c.self.invariant)
 
 pub invariant_of-self : goal.invariant_of-self
 invariant_of-self c =

@@ -2,8 +2,9 @@ use Rattle.std.proofs.Common.{◌≡◌, [], ◌∷◌, ◌++◌, sym, ap, subst
 use Rattle.std.proofs.lemmas.List.{map-append}
 use Rattle.crs_base.specs.Seen.{entry_of}
 use Rattle.crs_base.specs.Sifted.{Sifts}
+use Rattle.crs_base.specs.Entry.{IsInKeyOrder}
 use Rattle.crs_history.proofs.Kept.{kept_push}
-use Rattle.crs_history.specs.Histories.{HistoryState, entries_of, IsAfterAll, IsInKeyOrder, IsKept, StandsFor}
+use Rattle.crs_history.specs.Histories.{HistoryState, entries_of, IsAfterAll, IsKept, StandsFor}
 use Rattle.std.specs.Prelude.{pos, ◌≤ℤ◌}
 use Rattle.crs_history.proofs.Order.{in_order_push}
 use Rattle.crs_history.proofs.history.History.push.Goals as goal

@@ -1,13 +1,12 @@
 use Rattle.std.proofs.Common.{◌≡◌, ◌<◌, ◌+◌, ◌++◌, ◌∷◌, [], ◌∙◌, sym, ap, map, length, subst, get_or}
 use Rattle.std.specs.List.{take-map}
 use Rattle.std.proofs.lemmas.List.{map-append}
-use Rattle.crs_base.specs.Symbols.{with_text}
+use Rattle.crs_base.specs.Symbols.{with_text, with_texts}
 use Rattle.crs_log.specs.declared.items.Span.{Span}
 use Rattle.crs_log.specs.SeenItems.{text_of}
 use Rattle.crs_model.specs.Renaming.{text_in}
 use Rattle.crs_model.specs.Renaming.{AreKnown}
 use Rattle.crs_log.specs.Items.{AreSymbols}
-use Rattle.crs_log.specs.Known.{with_texts}
 use Rattle.crs_log.proofs.Added.{drops, takes, with_next, room_next, kept_texts, still_in}
 use Rattle.crs_log.proofs.entries.adding.intern_all.Goals as goal
 

@@ -3,8 +3,9 @@ use Rattle.crs_log.specs.SeenItems.{text_of}
 use Rattle.crs_model.specs.Renaming.{text_in}
 use Rattle.crs_model.specs.Renaming.{AreKnown}
 use Rattle.crs_log.specs.Items.{AreSymbols}
-use Rattle.crs_log.specs.Known.{new_texts, with_texts}
+use Rattle.crs_log.specs.Known.{new_texts}
 use Rattle.crs_log.proofs.entries.adding.intern_all.Given as goal
+use Rattle.crs_base.specs.Symbols.{with_texts}
 
 abbrev pub invariant-loop-span : goal.invariant-loop-span
 invariant-loop-span l = record {

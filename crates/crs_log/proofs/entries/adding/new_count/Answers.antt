@@ -1,9 +1,10 @@
 use Rattle.std.proofs.Common.{◌≡◌, ◌≤◌, ◌+◌, ◌∙◌, ap, map, take, drop, length, arith, get_or}
 use Rattle.crs_log.specs.declared.items.Span.{Span}
 use Rattle.crs_log.specs.SeenItems.{text_of}
-use Rattle.crs_log.specs.Known.{new_texts, with_texts, one_if_new}
+use Rattle.crs_log.specs.Known.{new_texts, one_if_new}
 use Rattle.crs_log.proofs.Added.{count_next, at_most_one}
 use Rattle.crs_log.proofs.entries.adding.new_count.Goals as goal
+use Rattle.crs_base.specs.Symbols.{with_texts}
 
 abbrev none : Span
 none = record { start = 0; len = 0 }

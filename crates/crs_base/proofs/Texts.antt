@@ -1,11 +1,7 @@
--- What is known where a test answers true.
-use Rattle.std.proofs.Common.{◌≡◌, ℕ, Bool, true, false, ◌&&◌, List, refl}
+-- Texts that the test of their bytes finds equal are equal.
+use Rattle.std.proofs.Common.{◌≡◌, ℕ, true, List, refl}
 use Rattle.std.specs.Prelude.{bytes_eq}
 use Rattle.std.proofs.lemmas.Slice.Eq.{bytes_eq-Decides}
-
-pub and_true : (a b : Bool) → (a && b) ≡ true → (a ≡ true) × (b ≡ true)
-and_true true b e = (refl, e)
-and_true false b e = cc
 
 pub bytes_same : (t u : List ℕ) → bytes_eq t u ≡ true → t ≡ u
 bytes_same t u h = (bytes_eq-Decides t u).0 h

@@ -1,32 +1,12 @@
--- What holds of each of some, and lists of texts put behind others.
+-- Texts put behind others.
 use Rattle.std.proofs.Common.{◌≡◌, ℕ, Bool, true, false, cond, ◌||◌, List, [], ◌∷◌, ◌++◌, refl, ap, ◌∙◌}
 use Rattle.std.specs.List.{AllByRecursion}
 use Rattle.std.proofs.lemmas.List.Folds.{list_any-append}
 use Rattle.std.specs.Prelude.{bytes_eq}
-use Rattle.crs_base.specs.Symbols.{is_known, with_text}
-use Rattle.crs_parse.specs.Faults.{with_texts}
-use Rattle.crs_grammar.proofs.Decided.{same_bytes}
-
-module _ {A : Type 0} (P : A → Type 0) where
-  pub all_append : (xs ys : List A) → AllByRecursion P xs → AllByRecursion P ys → AllByRecursion P (xs ++ ys)
-  all_append [] ys h k = k
-  all_append (x ∷ xs) ys h k = (h.0, all_append xs ys h.1 k)
-
-  pub all_put : (xs : List A) (x : A) → AllByRecursion P xs → P x → AllByRecursion P (xs ++ x ∷ [])
-  all_put xs x h p = all_append xs (x ∷ []) h (p, tt)
-
-  pub all_left : (xs ys : List A) → AllByRecursion P (xs ++ ys) → AllByRecursion P xs
-  all_left [] ys h = tt
-  all_left (x ∷ xs) ys h = (h.0, all_left xs ys h.1)
-
-  pub all_right : (xs ys : List A) → AllByRecursion P (xs ++ ys) → AllByRecursion P ys
-  all_right [] ys h = h
-  all_right (x ∷ xs) ys h = all_right xs ys h.1
-
-module _ {A : Type 0} {P Q : A → Type 0} where
-  pub all_each : (xs : List A) → ((x : A) → P x → Q x) → AllByRecursion P xs → AllByRecursion Q xs
-  all_each [] f h = tt
-  all_each (x ∷ xs) f h = (f x h.0, all_each xs f h.1)
+use Rattle.std.proofs.Math.Bool.{or-true}
+use Rattle.crs_base.specs.Symbols.{is_known, with_text, with_texts}
+use Rattle.crs_base.proofs.Texts.{same_bytes}
+use Rattle.crs_base.proofs.Alls.{all_put}
 
 module _ (P : List ℕ → Type 0) where
   with_one : (b : Bool) (texts : List (List ℕ)) (t : List ℕ) → AllByRecursion P texts → P t → AllByRecursion P (cond b texts (texts ++ t ∷ []))
@@ -36,10 +16,6 @@ module _ (P : List ℕ → Type 0) where
   pub all_with : (texts ts : List (List ℕ)) → AllByRecursion P texts → AllByRecursion P ts → AllByRecursion P (with_texts texts ts)
   all_with texts [] h k = h
   all_with texts (t ∷ ts) h k = all_with (with_text texts t) ts (with_one (is_known texts t) texts t h k.0) k.1
-
-or_true : (b : Bool) → (b || true) ≡ true
-or_true true = refl
-or_true false = refl
 
 pub known_left : (texts us : List (List ℕ)) (t : List ℕ) → is_known texts t ≡ true → is_known (texts ++ us) t ≡ true
 known_left texts us t h = list_any-append (bytes_eq t) texts us ∙ ap (λ b. b || is_known us t) h
@@ -55,7 +31,7 @@ known_behind texts (u ∷ us) t h = known_behind (with_text texts u) us t (known
 
 known_last : (texts : List (List ℕ)) (t : List ℕ) (b : Bool) → is_known texts t ≡ b → is_known (cond b texts (texts ++ t ∷ [])) t ≡ true
 known_last texts t true h = h
-known_last texts t false h = list_any-append (bytes_eq t) texts (t ∷ []) ∙ ap (λ b. is_known texts t || (b || false)) (same_bytes t) ∙ or_true (is_known texts t)
+known_last texts t false h = list_any-append (bytes_eq t) texts (t ∷ []) ∙ ap (λ b. is_known texts t || (b || false)) (same_bytes t) ∙ or-true (is_known texts t)
 
 -- each that is put is known
 pub known_put : (texts ts : List (List ℕ)) → AllByRecursion (λ t. is_known (with_texts texts ts) t ≡ true) ts
