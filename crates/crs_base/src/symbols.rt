@@ -36,10 +36,21 @@ fn all_symbol_bytes(bytes: &[u8]) -> bool
     bytes.iter().all(|b| is_symbol_byte(*b))
 }
 
+// Each symbol byte stands at its own place, and a comma at every other place.
+static SYMBOL_MAP: [u8; 256] = *b"\
+    ,,,,,,,,,,,,,,,,,,,,,,,,,,,,,,,,\
+    ,,,,,,,,,,,,,-.,0123456789,,,,,,\
+    ,ABCDEFGHIJKLMNOPQRSTUVWXYZ,,,,_\
+    ,abcdefghijklmnopqrstuvwxyz,,,,,\
+    ,,,,,,,,,,,,,,,,,,,,,,,,,,,,,,,,\
+    ,,,,,,,,,,,,,,,,,,,,,,,,,,,,,,,,\
+    ,,,,,,,,,,,,,,,,,,,,,,,,,,,,,,,,\
+    ,,,,,,,,,,,,,,,,,,,,,,,,,,,,,,,,";
+
 pub fn is_symbol_byte(b: u8) -> bool
     ensures { result ≡ is_symbol_byte b }
 {
-    matches!(b, b'0'..=b'9' | b'A'..=b'Z' | b'a'..=b'z' | b'_' | b'.' | b'-')
+    SYMBOL_MAP[b as usize] != b','
 }
 
 /// The symbols met so far, each with its number.
