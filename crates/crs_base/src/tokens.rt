@@ -1,4 +1,4 @@
-ghost use Rattle.std.specs.Prelude.{◌≡◌, ◌≤◌, length, IfOk, option_map};
+ghost use Rattle.std.specs.Prelude.{◌≡◌, ◌≤◌, length, IfOk, option_map, cond, Some, None};
 ghost use Rattle.std.specs.List.{prefix_len};
 ghost use Rattle.crs_base.specs.Symbols.{is_symbol_byte};
 ghost use Rattle.crs_base.specs.Tokens.{tokens_of, is_log_mark, is_model_mark, behind_equals, behind_mark};
@@ -82,16 +82,13 @@ fn behind_mark(mark: u8, bytes: &[u8]) -> Option<&[u8]>
     }
 }
 
-/// The words and marks of a line, or `None` where some byte is of neither.
-pub fn read_tokens(
-    alloc: Global,
-    line: &[u8],
-    marks: Marks,
-) -> Result<Option<Vec<Token>>, AllocError>
+/// Replaces what the vector holds by the words and marks of a line. The answer tells whether each
+/// byte is of one, and otherwise the vector holds those in front of the first byte that is of none.
+pub fn fill_tokens(line: &[u8], marks: Marks, out: &mut Vec<Token>) -> Result<bool, AllocError>
     requires { length line.now ≤ 4096 }
-    ensures { IfOk result (λ o. option_map (λ v. tokens_seen line.now v.items) o ≡ tokens_of (marks_of marks) line.now) }
+    ensures { IfOk result (λ whole. cond whole (Some (tokens_seen line.now out.new.items)) None ≡ tokens_of (marks_of marks) line.now) }
 {
-    let mut out = Vec::new(alloc);
+    out.clear();
     let mut rest = line;
     while let Some((first, more)) = rest.split_first() {
         if is_blank(*first) {
@@ -110,10 +107,27 @@ pub fn read_tokens(
             out.push(Token::Mark(*first))?;
             rest = behind;
         } else {
-            return Ok(None);
+            return Ok(false);
         }
     }
-    Ok(Some(out))
+    Ok(true)
+}
+
+/// The words and marks of a line, or `None` where some byte is of neither.
+pub fn read_tokens(
+    alloc: Global,
+    line: &[u8],
+    marks: Marks,
+) -> Result<Option<Vec<Token>>, AllocError>
+    requires { length line.now ≤ 4096 }
+    ensures { IfOk result (λ o. option_map (λ v. tokens_seen line.now v.items) o ≡ tokens_of (marks_of marks) line.now) }
+{
+    let mut out = Vec::new(alloc);
+    if fill_tokens(line, marks, &mut out)? {
+        Ok(Some(out))
+    } else {
+        Ok(None)
+    }
 }
 
 /// The bytes of a word, given its place in its line.

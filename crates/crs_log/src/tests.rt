@@ -92,7 +92,7 @@ fn kind_of(alloc: Global, line: &[u8]) -> Result<u8, AllocError> {
     if line.len() > 4096 {
         return Ok(b'!');
     }
-    match read_item(alloc, line) {
+    match read_item(alloc, line, &mut Vec::new(alloc)) {
         Ok(Item::Blank) => Ok(b' '),
         Ok(Item::Delay(_)) => Ok(b'd'),
         Ok(Item::Clock(_)) => Ok(b'c'),
@@ -202,7 +202,7 @@ fn names_are_known(rt: HostRuntime) -> Result<(), Fail> {
         (b"1 v[x]:(on,z)", Err(LineRefused::Value)),
         (b"1 w:(p,q)", Ok(Known::Name(2))),
     ] {
-        let Ok(Item::Event(raw)) = read_item(rt.alloc(), line) else {
+        let Ok(Item::Event(raw)) = read_item(rt.alloc(), line, &mut Vec::new(rt.alloc())) else {
             return Err(Fail::new("no event"));
         };
         assert!(rt;
@@ -221,7 +221,7 @@ fn entries_add_their_texts(rt: HostRuntime) -> Result<(), Fail> {
         let mut symbols = Symbols::new(rt.alloc(), limit)?;
         let _ = symbols.intern(b"v")?;
         let line = b" 7 v [ x,y , x ] : ( y,on )";
-        let Ok(Item::Event(raw)) = read_item(rt.alloc(), line) else {
+        let Ok(Item::Event(raw)) = read_item(rt.alloc(), line, &mut Vec::new(rt.alloc())) else {
             return Err(Fail::new("no event"));
         };
         assert!(rt; raw.args.len() <= 8);

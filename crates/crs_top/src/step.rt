@@ -15,7 +15,7 @@ ghost use Rattle.crs_report.specs.Lines.{refusal_line};
 
 use crate::answer::push_answer;
 use crate::session::Session;
-use crs_base::Steps;
+use crs_base::{Steps, Token};
 use crs_engine::Refused;
 use crs_log::naming::known;
 use crs_log::{Item, Known, Line, LineRefused, Raw, make_entry, read_item};
@@ -237,11 +237,12 @@ fn take_item(
     take_ordered(alloc, session, number, line, item, out)
 }
 
-/// Takes a line, and adds what it brings to the text.
+/// Takes a line, and adds what it brings to the text. The vector is room for the line's tokens.
 pub fn take_line(
     alloc: Global,
     session: &mut Session,
     line: Line<'_>,
+    tokens: &mut Vec<Token>,
     out: &mut Vec<u8>,
 ) -> Result<(), AllocError>
     requires ready { IsReady session.old }
@@ -250,7 +251,7 @@ pub fn take_line(
 {
     match line {
         Line::Long { number } => refuse(session, number, Fault::Long, out),
-        Line::Plain { number, bytes } => match read_item(alloc, bytes) {
+        Line::Plain { number, bytes } => match read_item(alloc, bytes, tokens) {
             Ok(item) => take_item(alloc, session, number, bytes, item, out),
             Err(LineRefused::Form) => refuse(session, number, Fault::Form, out),
             Err(_) => Err(AllocError),

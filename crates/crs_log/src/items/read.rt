@@ -6,7 +6,7 @@ ghost use Rattle.crs_log.specs.ItemOf.{statement_of, what_is, what_of};
 use super::events::event;
 use super::numbers::lone_number;
 use super::{Item, LineRefused};
-use crs_base::{Marks, Token, passed_over, read_tokens, word_bytes};
+use crs_base::{Marks, Token, fill_tokens, passed_over, word_bytes};
 use std::alloc::{AllocError, Global};
 
 /// The item that tokens are.
@@ -40,7 +40,7 @@ fn statement(alloc: Global, line: &[u8], tokens: &[Token]) -> Result<Option<Item
 }
 
 /// What a line of at most 4096 bytes is.
-fn read_what(alloc: Global, line: &[u8]) -> Result<Item, LineRefused>
+fn read_what(alloc: Global, line: &[u8], tokens: &mut Vec<Token>) -> Result<Item, LineRefused>
     requires { length line.now ≤ 4096 }
     ensures exact { IfOk result (λ item. what_seen line.now item ≡ what_of line.now) }
     ensures range { IfOk result IsInRange }
@@ -49,28 +49,29 @@ fn read_what(alloc: Global, line: &[u8]) -> Result<Item, LineRefused>
     if passed_over(line) {
         return Ok(Item::Blank);
     }
-    let Ok(read) = read_tokens(alloc, line, Marks::Log) else {
+    let Ok(whole) = fill_tokens(line, Marks::Log, tokens) else {
         return Err(LineRefused::Memory);
     };
-    let Some(read) = read else {
+    if !whole {
         return Err(LineRefused::Form);
-    };
-    match statement(alloc, line, read.as_slice()) {
+    }
+    match statement(alloc, line, tokens.as_slice()) {
         Ok(Some(item)) => Ok(item),
         Ok(None) => Err(LineRefused::Form),
         Err(_) => Err(LineRefused::Memory),
     }
 }
 
-/// The item that a line of at most 4096 bytes is.
-pub fn read_item(alloc: Global, line: &[u8]) -> Result<Item, LineRefused>
+/// The item that a line of at most 4096 bytes is. The vector is room for the line's tokens: what it
+/// holds before does not matter.
+pub fn read_item(alloc: Global, line: &[u8], tokens: &mut Vec<Token>) -> Result<Item, LineRefused>
     requires { length line.now ≤ 4096 }
     ensures item { IfOk result (IsRead line.now) }
     ensures exact { IfOk result (λ item. what_seen line.now item ≡ what_of line.now) }
     ensures range { IfOk result IsInRange }
     ensures err { IfErr result (IsFormOrMemory line.now) }
 {
-    match read_what(alloc, line) {
+    match read_what(alloc, line, tokens) {
         Ok(item) => Ok(item),
         Err(e) => Err(e),
     }

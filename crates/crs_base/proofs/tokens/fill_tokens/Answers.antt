@@ -3,7 +3,7 @@ use Rattle.std.proofs.lemmas.List.{map-append}
 use Rattle.crs_base.specs.SeenTokens.{tokens_seen, token_of, marks_of, word_at}
 use Rattle.crs_base.specs.Tokens.{Mark, tokens_behind}
 use Rattle.crs_base.proofs.TokenSteps.{word_step, token_step, blank_front, mark_front, place_behind, behind_first, behind_mark_place, Behind}
-use Rattle.crs_base.proofs.tokens.read_tokens.Goals as goal
+use Rattle.crs_base.proofs.tokens.fill_tokens.Goals as goal
 
 pub loop-first-preserved-then-is_blank : goal.loop-first-preserved-then-is_blank
 loop-first-preserved-then-is_blank c =

@@ -1,7 +1,7 @@
 use Rattle.std.proofs.Common.{◌≡◌, ◌≤◌, ◌-◌, ◌++◌, length, option_map, drop, false}
 use Rattle.crs_base.specs.Tokens.{tokens_behind}
 use Rattle.crs_base.specs.SeenTokens.{tokens_seen, marks_of}
-use Rattle.crs_base.proofs.tokens.read_tokens.Given as goal
+use Rattle.crs_base.proofs.tokens.fill_tokens.Given as goal
 
 -- the tokens so far and those of what is left
 abbrev pub invariant-loop-first : goal.invariant-loop-first
