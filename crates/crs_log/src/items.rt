@@ -2,13 +2,14 @@ mod events;
 mod numbers;
 pub mod parts;
 mod read;
+mod spans;
 
-use crs_base::List;
 pub use read::read_item;
+pub use spans::Spans;
 use thiserror::Error;
 
 /// A symbol's place in its line, in bytes from 0.
-#[derive(Clone, Copy, Debug, PartialEq, Eq)]
+#[derive(Clone, Copy, Debug, Default, Drop, PartialEq, Eq)]
 pub struct Span {
     pub start: u16,
     pub len: u8,
@@ -20,7 +21,7 @@ pub struct Raw {
     /// In ticks of the log's clock, from 0 to 2^40 - 1.
     pub date: u64,
     pub name: Span,
-    pub args: List<Span>,
+    pub args: Spans,
     /// The old and the new value, where there is a change.
     pub change: Option<(Span, Span)>,
 }

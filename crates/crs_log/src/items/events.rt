@@ -3,10 +3,10 @@ ghost use Rattle.crs_base.specs.SeenTokens.{token_of, tokens_seen};
 ghost use Rattle.crs_log.specs.SeenItems.{happens_seen};
 ghost use Rattle.crs_log.specs.ItemOf.{event_of};
 
-use super::Raw;
 use super::numbers::{DATES, log_number};
 use super::parts::{arguments, change, symbol};
-use crs_base::{List, Token};
+use super::{Raw, Spans};
+use crs_base::Token;
 use std::alloc::{AllocError, Global};
 
 /// The event that a date, a name and the tokens behind them are.
@@ -26,7 +26,7 @@ pub fn event(
     let Some(name) = symbol(line, name) else {
         return Ok(None);
     };
-    let mut args = List::new(alloc);
+    let mut args = Spans::new(alloc);
     let Some(behind) = arguments(line, tokens, &mut args)? else {
         return Ok(None);
     };

@@ -3,8 +3,8 @@ ghost use Rattle.crs_base.specs.SeenTokens.{token_of, tokens_seen};
 ghost use Rattle.crs_log.specs.SeenItems.{text_of, change_in, IsWithin, parted_seen, pair_in};
 ghost use Rattle.crs_log.specs.ItemOf.{symbol_of, is_mark, more_of, args_of, change_of, led_by, pair_of};
 
-use super::Span;
-use crs_base::{List, Token, is_symbol, word_bytes};
+use super::{Span, Spans};
+use crs_base::{Token, is_symbol, word_bytes};
 use std::alloc::AllocError;
 
 /// The bytes of a span.
@@ -47,7 +47,7 @@ fn is_mark(mark: u8, token: Token) -> bool
 fn more<'a>(
     line: &[u8],
     tokens: &'a [Token],
-    args: &mut List<Span>,
+    args: &mut Spans,
 ) -> Result<Option<&'a [Token]>, AllocError>
     ensures { IfOk result (λ o. option_map (λ b. parted_seen line.now args.new b.now) o ≡ option_map (led_by (map (text_of line.now) args.old)) (more_of (tokens_seen line.now tokens.now))) }
 {
@@ -75,7 +75,7 @@ fn more<'a>(
 pub fn arguments<'a>(
     line: &[u8],
     tokens: &'a [Token],
-    args: &mut List<Span>,
+    args: &mut Spans,
 ) -> Result<Option<&'a [Token]>, AllocError>
     requires { args.old ≡ [] }
     ensures { IfOk result (λ o. option_map (λ b. parted_seen line.now args.new b.now) o ≡ args_of (tokens_seen line.now tokens.now)) }
