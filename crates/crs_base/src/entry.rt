@@ -27,9 +27,10 @@ impl Entry {
     pub fn key_cmp(&self, other: &Entry) -> Ordering
         ensures { result ≡ entry_cmp (entry_of self.now) (entry_of other.now) }
     {
-        self.date
-            .cmp(&other.date)
-            .then(self.text.bytes().cmp(other.text.bytes()))
-            .then(self.arrival.cmp(&other.arrival))
+        if self.date != other.date {
+            return self.date.cmp(&other.date);
+        }
+        let by_text = self.text.bytes().cmp(other.text.bytes());
+        by_text.then(self.arrival.cmp(&other.arrival))
     }
 }
