@@ -54,14 +54,27 @@ fn push_change(
     Ok(())
 }
 
+/// How many bytes the canonical text takes, or fewer where that is many.
+fn text_len(raw: &Raw) -> usize {
+    let mut len = raw.name.len as usize + 1;
+    for arg in raw.args.as_slice() {
+        len = len.saturating_add(arg.len as usize + 1);
+    }
+    match raw.change {
+        Some((old, new)) => len.saturating_add(old.len as usize + new.len as usize + 4),
+        None => len,
+    }
+}
+
 /// The canonical text of an event.
 pub fn canonical_text(alloc: Global, line: &[u8], raw: &Raw) -> Result<Text, AllocError>
     ensures { IfOk result (λ t. t ≡ canonical (text_of line.now raw.now.name) (map (text_of line.now) raw.now.args) (change_in line.now raw.now.change)) }
 {
-    let mut out = Vec::from_slice(alloc, span_text(line, raw.name))?;
+    let mut out = Vec::with_capacity(alloc, text_len(raw))?;
+    out.extend_from_slice(span_text(line, raw.name))?;
     push_args(line, raw.args.as_slice(), &mut out)?;
     push_change(line, raw.change, &mut out)?;
-    Text::new(alloc, out.as_slice())
+    Ok(Text::from_vec(out))
 }
 
 /// The spans of the arguments and of the two values.
