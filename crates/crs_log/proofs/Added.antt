@@ -147,3 +147,12 @@ module _ {A : Type 0} (f : A → List ℕ) (xs : List A) (i : ℕ) (d : A) (lt :
       let a : length (new_texts T (map f (drop i xs))) ≡ one_if_new T t + length (new_texts (with_text T t) rest) = ap (λ ts. length (new_texts T ts)) drops ∙ new_step T rest t in
       let b : one_if_new T t ≡ 1 = ap (λ v. cond v 0 1) k in
       omega (arith, a, b, h)
+
+-- no more are new than there are
+pub new_at_most : (K ts : List (List ℕ)) → length (new_texts K ts) ≤ length ts
+new_at_most K [] = omega arith
+new_at_most K (t ∷ ts) =
+    let e = new_step K ts t in
+    let one = at_most_one K t in
+    let rest = new_at_most (with_text K t) ts in
+    omega (arith, e, one, rest)

@@ -43,7 +43,7 @@ fn one_if_new(line: &[u8], before: &[Span], span: Span, symbols: &Symbols) -> us
 }
 
 /// How many texts the spans have that aren't in the table, each counted once.
-pub fn new_count(line: &[u8], spans: &[Span], symbols: &Symbols) -> usize
+fn new_count(line: &[u8], spans: &[Span], symbols: &Symbols) -> usize
     requires { length spans.now ≤ 4096 }
     ensures { result ≡ length (new_texts symbols.now.texts (map (text_of line.now) spans.now)) }
 {
@@ -53,6 +53,21 @@ pub fn new_count(line: &[u8], spans: &[Span], symbols: &Symbols) -> usize
         count += one_if_new(line, before, *span, symbols);
     }
     count
+}
+
+/// Whether the texts that aren't in the table are more than `room`. The spans are counted one by one
+/// only where the table is nearly full.
+pub fn are_beyond(line: &[u8], spans: &[Span], symbols: &Symbols, room: u32) -> bool
+    requires { length spans.now ≤ 4096 }
+    ensures yes { result ≡ true → room < length (new_texts symbols.now.texts (map (text_of line.now) spans.now)) }
+    ensures no { result ≡ false → length (new_texts symbols.now.texts (map (text_of line.now) spans.now)) ≤ room }
+{
+    let most = room as usize;
+    if spans.len() <= most {
+        return false;
+    }
+    let count = new_count(line, spans, symbols);
+    most < count
 }
 
 /// The number of a text for which there is room.

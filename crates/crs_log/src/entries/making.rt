@@ -8,7 +8,7 @@ ghost use Rattle.crs_base.specs.Entry.{canonical};
 ghost use Rattle.crs_log.specs.Items.{IsItem, Happens};
 ghost use Rattle.crs_log.specs.Known.{new_texts, texts_of, change_texts, entry_of_event};
 
-use super::adding::{intern_all, new_count};
+use super::adding::{are_beyond, intern_all};
 use super::texts::{canonical_text, value_spans};
 use crate::items::parts::span_text;
 use crate::items::{LineRefused, Raw, Span};
@@ -83,7 +83,7 @@ pub fn make_entry(
         return Err(LineRefused::Memory);
     };
     let room = symbols.room();
-    if new_count(line, spans.as_slice(), symbols) > room as usize {
+    if are_beyond(line, spans.as_slice(), symbols, room) {
         return Err(LineRefused::Values {
             limit: symbols.len() + room,
         });

@@ -13,7 +13,7 @@ pub intern_all-requires-clause-room : goal.intern_all-requires-clause-room
 intern_all-requires-clause-room c =
     let T = c.args.symbols.now.texts in let f = text_of c.args.line.now in
     subst (λ xs. length T + length (new_texts T (map f xs)) ≤ c.args.symbols.now.limit) (c.as_slice.ensures.value ∙ sym c.as_slice-2.ensures.value)
-    (subst (λ n. length T + n ≤ c.args.symbols.now.limit) c.new_count.ensures (room_left c.new_count.result (length T) c.args.symbols.now.limit c.room-room.result c.room-room.ensures.value c.room-room.ensures.within c.if-new_count-room.false))
+    (room_left (length (new_texts T (map f c.as_slice.result.now))) (length T) c.args.symbols.now.limit c.room-room.result c.room-room.ensures.value c.room-room.ensures.within (c.are_beyond.ensures.no c.if-are_beyond.false))
 
 pub entry_with-requires-clause-count : goal.entry_with-requires-clause-count
 entry_with-requires-clause-count c =
@@ -46,7 +46,7 @@ pub returns-clause-room : goal.returns-clause-room
 returns-clause-room c =
     let T = c.args.symbols.now.texts in let f = text_of c.args.line.now in
     subst (λ ts. length T + length (new_texts T ts) ≤ c.args.symbols.now.limit) (ap (map f) c.as_slice.ensures.value ∙ c.in-Ok-value_spans.ensures.texts c.args.line.now)
-    (subst (λ n. length T + n ≤ c.args.symbols.now.limit) c.new_count.ensures (room_left c.new_count.result (length T) c.args.symbols.now.limit c.room-room.result c.room-room.ensures.value c.room-room.ensures.within c.if-new_count-room.false))
+    (room_left (length (new_texts T (map f c.as_slice.result.now))) (length T) c.args.symbols.now.limit c.room-room.result c.room-room.ensures.value c.room-room.ensures.within (c.are_beyond.ensures.no c.if-are_beyond.false))
 
 pub intern_all-requires-clause-symbols : goal.intern_all-requires-clause-symbols
 intern_all-requires-clause-symbols c =
