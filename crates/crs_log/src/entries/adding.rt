@@ -10,6 +10,7 @@ ghost use Rattle.crs_log.specs.Known.{new_texts, one_if_new};
 use crate::items::Span;
 use crate::items::parts::span_text;
 use crs_base::{Sym, SymRefused, Symbols};
+use smallvec::SmallVec;
 use std::alloc::{AllocError, Global};
 
 /// Whether one of the spans has this text.
@@ -93,7 +94,7 @@ pub fn intern_all(
     line: &[u8],
     spans: &[Span],
     symbols: &mut Symbols,
-) -> Result<Vec<Sym>, AllocError>
+) -> Result<SmallVec<Sym, 10>, AllocError>
     requires symbols { AreSymbols (map (text_of line.now) spans.now) }
     requires room { length symbols.old.texts + length (new_texts symbols.old.texts (map (text_of line.now) spans.now)) ≤ symbols.old.limit }
     ensures texts { OnOk result (symbols.new.texts ≡ with_texts symbols.old.texts (map (text_of line.now) spans.now)) }
@@ -102,9 +103,7 @@ pub fn intern_all(
     ensures limit { symbols.new.limit ≡ symbols.old.limit }
     ensures err { OnErr result ((k : ℕ) × (symbols.new.texts ≡ with_texts symbols.old.texts (take k (map (text_of line.now) spans.now)))) }
 {
-    let Ok(mut out) = Vec::with_capacity(alloc, spans.len()) else {
-        return Err(AllocError);
-    };
+    let mut out = SmallVec::new(alloc);
     for span in spans {
         let Ok(s) = intern_one(span_text(line, *span), symbols) else {
             return Err(AllocError);

@@ -6,6 +6,7 @@ ghost use Rattle.crs_log.specs.Known.{texts_of};
 use crate::items::parts::span_text;
 use crate::items::{Raw, Span};
 use crs_base::Text;
+use smallvec::SmallVec;
 use std::alloc::{AllocError, Global};
 
 /// Writes a byte and the text of a span.
@@ -78,10 +79,10 @@ pub fn canonical_text(alloc: Global, line: &[u8], raw: &Raw) -> Result<Text, All
 }
 
 /// The spans of the arguments and of the two values.
-pub fn value_spans(alloc: Global, raw: &Raw) -> Result<Vec<Span>, AllocError>
+pub fn value_spans(alloc: Global, raw: &Raw) -> Result<SmallVec<Span, 10>, AllocError>
     ensures texts { (line : List ℕ) → IfOk result (λ v. map (text_of line) v.items ≡ texts_of (event_seen line raw.now)) }
 {
-    let mut spans = Vec::from_slice(alloc, raw.args.as_slice())?;
+    let mut spans = SmallVec::from_slice(alloc, raw.args.as_slice())?;
     if let Some((old, new)) = raw.change {
         spans.push(old)?;
         spans.push(new)?;

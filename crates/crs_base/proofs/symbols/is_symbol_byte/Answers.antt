@@ -30,5 +30,5 @@ from_table : (table : List ℕ) (b : ℕ) → b < 256
 from_table table b lt h = agree_at _ _ 256 h b lt
 
 pub returns : goal.returns
-unfolding agree_below is_symbol_byte
+unfolding agree_below
 returns c = from_table SYMBOL_MAP c.args.b (omega arith) refl
