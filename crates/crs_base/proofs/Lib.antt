@@ -10,4 +10,5 @@ pub mod Distinct
 pub mod KeyOrder
 pub mod Values
 pub mod LineSteps
+pub mod Feeds
 pub mod TokenSteps

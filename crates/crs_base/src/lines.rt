@@ -3,6 +3,8 @@ ghost use Rattle.std.specs.List.{prefix_len};
 ghost use Rattle.crs_base.specs.Lines.{lines_of, bytes_of, is_long, is_blank, is_passed_over, is_no_feed};
 ghost use Rattle.crs_base.specs.SeenLines.{line_seen};
 
+use memchr::memchr;
+
 /// The greatest length of a line that is read, in bytes without its line feed.
 pub const LINE_LIMIT: usize = 4096;
 
@@ -25,12 +27,10 @@ pub fn line_len(text: &[u8]) -> usize
     ensures value { result ≡ prefix_len is_no_feed text.now }
     ensures bound { result ≤ length text.now }
 {
-    for (i, b) in text.iter().enumerate() {
-        if *b == b'\n' {
-            return i;
-        }
+    match memchr(b'\n', text) {
+        Some(place) => place,
+        None => text.len(),
     }
-    text.len()
 }
 
 /// The first line, and what stands behind it.
