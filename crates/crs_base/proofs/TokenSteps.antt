@@ -1,7 +1,7 @@
 -- The tokens of a line, from the front.
-use Rattle.std.proofs.Common.{◌≡◌, ℕ, ◌+◌, Bool, true, false, cond, List, [], ◌∷◌, ◌++◌, take, drop, length, refl, sym, ap, ◌∙◌, suc, Option, Some, None, option_map, option_and_then, true≢false, ◌==◌, ◌||◌, eqb-true, one-add, append_assoc, subst, ◌≤◌, ◌-◌, arith, length-drop}
+use Rattle.std.proofs.Common.{◌≡◌, ℕ, ◌+◌, Bool, true, false, cond, List, [], ◌∷◌, ◌++◌, take, drop, length, refl, sym, ap, ◌∙◌, suc, Option, Some, None, option_map, option_and_then, true≢false, ◌==◌, ◌||◌, ◌&&◌, eqb-true, one-add, append_assoc, subst, ◌≤◌, ◌-◌, arith, length-drop}
 use Rattle.std.proofs.lemmas.List.{drop-drop}
-use Rattle.std.specs.List.{prefix_len}
+use Rattle.std.specs.List.{prefix_len, list_all}
 use Rattle.crs_base.specs.Symbols.{is_symbol_byte}
 use Rattle.crs_base.specs.Lines.{is_blank}
 use Rattle.crs_base.specs.Tokens.{Token, Word, Mark, tokens_behind, behind_equals, behind_mark, begins_word, lengthened}
@@ -136,3 +136,14 @@ token_step m rest back t out new all is pushed before =
     ∙ push_token out t (tokens_behind m false back)
     ∙ ap (option_map (λ ts. out ++ ts)) (sym is)
     ∙ before
+
+-- the bytes of a word are symbol bytes
+pub all_in_front : (p : ℕ → Bool) (xs : List ℕ) → list_all p (take (prefix_len p xs) xs) ≡ true
+all_in_front p [] = refl
+all_in_front p (x ∷ xs) = by (p x) refl (all_in_front p xs)
+  where
+    by : (b : Bool) → p x ≡ b → list_all p (take (prefix_len p xs) xs) ≡ true → list_all p (take (cond (p x) (1 + prefix_len p xs) 0) (x ∷ xs)) ≡ true
+    by false e rest = λ i. list_all p (take (cond (e i) (1 + prefix_len p xs) 0) (x ∷ xs))
+    by true e rest = (λ i. list_all p (take (cond (e i) (1 + prefix_len p xs) 0) (x ∷ xs)))
+        ∙ ap (λ n. list_all p (take n (x ∷ xs))) (one-add (prefix_len p xs))
+        ∙ (λ i. e i && rest i)

@@ -1,8 +1,8 @@
-ghost use Rattle.std.specs.Prelude.{◌≡◌, ◌≤◌, length, IfOk, option_map, cond, Some, None};
+ghost use Rattle.std.specs.Prelude.{◌≡◌, ◌≤◌, length, IfOk, OnOk, option_map, cond, Some, None};
 ghost use Rattle.std.specs.List.{prefix_len};
 ghost use Rattle.crs_base.specs.Symbols.{is_symbol_byte};
 ghost use Rattle.crs_base.specs.Tokens.{tokens_of, is_log_mark, is_model_mark, behind_equals, behind_mark};
-ghost use Rattle.crs_base.specs.SeenTokens.{marks_of, word_at, tokens_seen};
+ghost use Rattle.crs_base.specs.SeenTokens.{marks_of, word_at, tokens_seen, AreWordsIn};
 
 use crate::lines::is_blank;
 use crate::symbols::is_symbol_byte;
@@ -86,7 +86,8 @@ fn behind_mark(mark: u8, bytes: &[u8]) -> Option<&[u8]>
 /// byte is of one, and otherwise the vector holds those in front of the first byte that is of none.
 pub fn fill_tokens(line: &[u8], marks: Marks, out: &mut Vec<Token>) -> Result<bool, AllocError>
     requires { length line.now ≤ 4096 }
-    ensures { IfOk result (λ whole. cond whole (Some (tokens_seen line.now out.new.items)) None ≡ tokens_of (marks_of marks) line.now) }
+    ensures words { OnOk result (AreWordsIn line.now out.new.items) }
+    ensures tokens { IfOk result (λ whole. cond whole (Some (tokens_seen line.now out.new.items)) None ≡ tokens_of (marks_of marks) line.now) }
 {
     out.clear();
     let mut rest = line;

@@ -1,5 +1,5 @@
 ghost use Rattle.std.specs.Prelude.{◌≡◌, ◌<◌, IfOk, IfSome, option_map, List};
-ghost use Rattle.crs_base.specs.SeenTokens.{token_of, tokens_seen};
+ghost use Rattle.crs_base.specs.SeenTokens.{token_of, tokens_seen, IsWordIn, AreWordsIn};
 ghost use Rattle.crs_log.specs.SeenItems.{happens_seen};
 ghost use Rattle.crs_log.specs.ItemOf.{event_of};
 
@@ -17,6 +17,8 @@ pub fn event(
     name: Token,
     tokens: &[Token],
 ) -> Result<Option<Raw>, AllocError>
+    requires name { IsWordIn line.now name }
+    requires words { AreWordsIn line.now tokens.now }
     ensures value { IfOk result (λ o. option_map (happens_seen line.now) o ≡ event_of date.now (token_of line.now name) (tokens_seen line.now tokens.now)) }
     ensures range { IfOk result (λ o. IfSome o (λ raw. raw.date < DATES)) }
 {

@@ -1,10 +1,12 @@
-ghost use Rattle.std.specs.Prelude.{◌≡◌, [], List, ℕ, map, IfOk, IfSome, option_map, ◌&&◌};
-ghost use Rattle.crs_base.specs.SeenTokens.{token_of, tokens_seen};
+ghost use Rattle.std.specs.Prelude.{◌≡◌, [], List, ℕ, map, IfOk, IfSome, option_map, ◌&&◌, true};
+ghost use Rattle.crs_base.specs.SeenTokens.{token_of, tokens_seen, IsWordIn, AreWordsIn};
+ghost use Rattle.crs_base.specs.Symbols.{is_symbol, is_symbol_byte};
+ghost use Rattle.std.specs.List.{list_all};
 ghost use Rattle.crs_log.specs.SeenItems.{text_of, change_in, IsWithin, parted_seen, pair_in};
 ghost use Rattle.crs_log.specs.ItemOf.{symbol_of, is_mark, more_of, args_of, change_of, led_by, pair_of};
 
 use super::{Span, Spans};
-use crs_base::{Token, is_symbol, word_bytes};
+use crs_base::{Token, word_bytes};
 use std::alloc::AllocError;
 
 /// The bytes of a span.
@@ -14,15 +16,24 @@ pub fn span_text<'a>(line: &'a [u8], span: Span) -> &'a [u8]
     word_bytes(line, span.start, span.len as u16)
 }
 
+/// Whether symbol bytes are a symbol, which they are unless they are none or too many.
+fn is_symbol_word(word: &[u8]) -> bool
+    requires { list_all is_symbol_byte word.now ≡ true }
+    ensures { result ≡ is_symbol word.now }
+{
+    1 <= word.len() && word.len() <= 64
+}
+
 /// The symbol that a token is.
 pub fn symbol(line: &[u8], token: Token) -> Option<Span>
+    requires { IsWordIn line.now token }
     ensures text { option_map (text_of line.now) result ≡ symbol_of (token_of line.now token) }
     ensures within { IfSome result (IsWithin line.now) }
 {
     match token {
         Token::Word { start, len } => {
             let word = word_bytes(line, start, len);
-            if !is_symbol(word) {
+            if !is_symbol_word(word) {
                 return None;
             }
             Some(Span {
@@ -49,7 +60,9 @@ fn more<'a>(
     tokens: &'a [Token],
     args: &mut Spans,
 ) -> Result<Option<&'a [Token]>, AllocError>
-    ensures { IfOk result (λ o. option_map (λ b. parted_seen line.now args.new b.now) o ≡ option_map (led_by (map (text_of line.now) args.old)) (more_of (tokens_seen line.now tokens.now))) }
+    requires { AreWordsIn line.now tokens.now }
+    ensures words { IfOk result (λ o. IfSome o (λ b. AreWordsIn line.now b.now)) }
+    ensures args { IfOk result (λ o. option_map (λ b. parted_seen line.now args.new b.now) o ≡ option_map (led_by (map (text_of line.now) args.old)) (more_of (tokens_seen line.now tokens.now))) }
 {
     let mut rest = tokens;
     while let Some((first, behind)) = rest.split_first() {
@@ -77,8 +90,10 @@ pub fn arguments<'a>(
     tokens: &'a [Token],
     args: &mut Spans,
 ) -> Result<Option<&'a [Token]>, AllocError>
-    requires { args.old ≡ [] }
-    ensures { IfOk result (λ o. option_map (λ b. parted_seen line.now args.new b.now) o ≡ args_of (tokens_seen line.now tokens.now)) }
+    requires none { args.old ≡ [] }
+    requires words { AreWordsIn line.now tokens.now }
+    ensures words { IfOk result (λ o. IfSome o (λ b. AreWordsIn line.now b.now)) }
+    ensures args { IfOk result (λ o. option_map (λ b. parted_seen line.now args.new b.now) o ≡ args_of (tokens_seen line.now tokens.now)) }
 {
     let Some((first, behind)) = tokens.split_first() else {
         return Ok(Some(tokens));
@@ -114,6 +129,7 @@ fn pair(old: Option<Span>, new: Option<Span>) -> Option<Option<(Span, Span)>>
 
 /// The two values of a change, where the tokens are one.
 pub fn change(line: &[u8], tokens: &[Token]) -> Option<Option<(Span, Span)>>
+    requires { AreWordsIn line.now tokens.now }
     ensures { option_map (change_in line.now) result ≡ change_of (tokens_seen line.now tokens.now) }
 {
     match tokens {

@@ -1,5 +1,5 @@
 ghost use Rattle.std.specs.Prelude.{◌≡◌, ◌<◌, ◌≤◌, length, IfOk, IfErr, IfSome};
-ghost use Rattle.crs_base.specs.SeenTokens.{tokens_seen};
+ghost use Rattle.crs_base.specs.SeenTokens.{tokens_seen, AreWordsIn};
 ghost use Rattle.crs_log.specs.SeenItems.{what_seen, what_from, IsFormOrMemory, IsInRange, IsRead, Refuses};
 ghost use Rattle.crs_log.specs.ItemOf.{statement_of, what_is, what_of};
 
@@ -11,6 +11,7 @@ use std::alloc::{AllocError, Global};
 
 /// The item that tokens are.
 fn statement(alloc: Global, line: &[u8], tokens: &[Token]) -> Result<Option<Item>, AllocError>
+    requires { AreWordsIn line.now tokens.now }
     ensures value { IfOk result (λ o. what_from line.now o ≡ what_is (statement_of (tokens_seen line.now tokens.now))) }
     ensures range { IfOk result (λ o. IfSome o IsInRange) }
 {

@@ -1,8 +1,11 @@
 use Rattle.std.proofs.Common.{◌≡◌, ◌∙◌, ◌≤◌, ◌-◌, ◌∷◌, ◌++◌, length, sym, ap, subst, take, drop, false, option_map, Some}
 use Rattle.std.proofs.lemmas.List.{map-append}
-use Rattle.crs_base.specs.SeenTokens.{tokens_seen, token_of, marks_of, word_at}
+use Rattle.std.specs.List.{list_all}
+use Rattle.crs_base.specs.Symbols.{is_symbol_byte}
+use Rattle.crs_base.specs.SeenTokens.{tokens_seen, token_of, marks_of, word_at, IsWordIn, AreWordsIn}
+use Rattle.crs_base.proofs.Alls.{all_put}
 use Rattle.crs_base.specs.Tokens.{Mark, tokens_behind}
-use Rattle.crs_base.proofs.TokenSteps.{word_step, token_step, blank_front, mark_front, place_behind, behind_first, behind_mark_place, Behind}
+use Rattle.crs_base.proofs.TokenSteps.{word_step, token_step, blank_front, mark_front, place_behind, behind_first, behind_mark_place, Behind, all_in_front}
 use Rattle.crs_base.proofs.tokens.fill_tokens.Goals as goal
 
 pub loop-first-preserved-then-is_blank : goal.loop-first-preserved-then-is_blank
@@ -11,6 +14,7 @@ loop-first-preserved-then-is_blank c =
     let f = behind_first l.rest.now c.in-Some.first.now c.in-Some.more.now c.in-Some.ensures.cases.0 in
     let k = place_behind c.args.line.now l.rest.now c.in-Some.more.now 1 l.invariant.within l.invariant.place f.0 f.1 in
     record {
+      words = l.invariant.words;
       within = k.0;
       place = k.1;
       told =
@@ -24,6 +28,9 @@ loop-first-preserved-then-is_symbol_byte c =
     let l = c.loop-first in
     let k = place_behind c.args.line.now l.rest.now c.split_at.result.1.now c.word_len-len.result l.invariant.within l.invariant.place c.word_len-len.ensures.bound c.split_at.ensures.back in
     record {
+      words = subst (AreWordsIn c.args.line.now) (sym c.in_ok-push.ensures.items)
+          (all_put (IsWordIn c.args.line.now) l.out.items _ l.invariant.words
+          (ap (list_all is_symbol_byte) (ap (take c.word_len-len.result) (sym l.invariant.place) ∙ ap (λ n. take n l.rest.now) c.word_len-len.ensures.value) ∙ all_in_front is_symbol_byte l.rest.now));
       within = k.0;
       place = k.1;
       told =
@@ -45,6 +52,7 @@ loop-first-preserved c =
     let short : b.0 ≤ length l.rest.now = subst (λ r. b.0 ≤ length r) (sym is) b.1 in
     let k = place_behind c.args.line.now l.rest.now back b.0 l.invariant.within l.invariant.place short (b.2 ∙ ap (drop b.0) (sym is)) in
     record {
+      words = subst (AreWordsIn c.args.line.now) (sym c.in_ok-push-2.ensures.items) (all_put (IsWordIn c.args.line.now) l.out.items _ l.invariant.words tt);
       within = k.0;
       place = k.1;
       told =
