@@ -1,4 +1,4 @@
-ghost use Rattle.std.specs.Prelude.{◌≡◌, ◌<◌, ◌≤◌, length, IfOk, IfErr, IfSome};
+ghost use Rattle.std.specs.Prelude.{bytes_eq, codes, ◌≡◌, ◌<◌, ◌≤◌, length, IfOk, IfErr, IfSome};
 ghost use Rattle.crs_base.specs.SeenTokens.{tokens_seen, AreWordsIn};
 ghost use Rattle.crs_log.specs.SeenItems.{what_seen, what_from, IsFormOrMemory, IsInRange, IsRead, Refuses};
 ghost use Rattle.crs_log.specs.ItemOf.{statement_of, what_is, what_of};
@@ -8,6 +8,18 @@ use super::numbers::lone_number;
 use super::{Item, LineRefused};
 use crs_base::{Marks, Token, fill_tokens, passed_over, word_bytes};
 use std::alloc::{AllocError, Global};
+
+fn is_delay(word: &[u8]) -> bool
+    ensures { result ≡ bytes_eq word.now (codes "delay") }
+{
+    matches!(word, [b'd', b'e', b'l', b'a', b'y'])
+}
+
+fn is_clock(word: &[u8]) -> bool
+    ensures { result ≡ bytes_eq word.now (codes "clock") }
+{
+    matches!(word, [b'c', b'l', b'o', b'c', b'k'])
+}
 
 /// The item that tokens are.
 fn statement(alloc: Global, line: &[u8], tokens: &[Token]) -> Result<Option<Item>, AllocError>
@@ -28,10 +40,10 @@ fn statement(alloc: Global, line: &[u8], tokens: &[Token]) -> Result<Option<Item
         }
         return Ok(None);
     };
-    if word == b"delay".as_slice() {
+    if is_delay(word) {
         return Ok(lone_number(line, *second, rest).map(|n| Item::Delay(n)));
     }
-    if word == b"clock".as_slice() {
+    if is_clock(word) {
         return Ok(lone_number(line, *second, rest).map(|n| Item::Clock(n)));
     }
     match event(alloc, line, word, *second, rest)? {
