@@ -1,5 +1,5 @@
 -- The numbers of an event's texts, in two parts.
-use Rattle.std.proofs.Common.{◌≡◌, ◌≤◌, ◌<◌, ℕ, ◌+◌, ◌-◌, List, [], ◌∷◌, ◌++◌, length, get_or, map, take, drop, refl, sym, ap, subst, ◌∙◌, arith, suc, zero, Option, Some, None, take_all, length-append, position, cond, nat_lt, lt-ltb, true, le_refl}
+use Rattle.std.proofs.Common.{◌≡◌, ◌≤◌, ◌<◌, ℕ, ◌+◌, ◌-◌, List, [], ◌∷◌, ◌++◌, length, get_or, map, take, drop, refl, sym, ap, subst, ◌∙◌, arith, suc, zero, Option, Some, None, option_map, take_all, length-append, position, cond, nat_lt, lt-ltb, true, le_refl}
 use Rattle.std.specs.Prelude.{bytes_eq}
 use Rattle.std.specs.List.{take-map, position_or_len}
 use Rattle.std.proofs.lemmas.List.{take-append-le, length-map}
@@ -10,7 +10,11 @@ use Rattle.crs_log.specs.Items.{Event, Change, AreSymbols, IsChange, IsItem, Hap
 use Rattle.crs_log.specs.Known.{change_texts, texts_of}
 use Rattle.crs_model.specs.Renaming.{text_in}
 use Rattle.crs_model.specs.Renaming.{AreKnown}
-use Rattle.crs_log.specs.SeenNames.{change_count}
+use Rattle.crs_log.specs.SeenNames.{change_count, IsTextAt, IsTold, HasNumber}
+use Rattle.crs_log.specs.declared.entries.Known.{Known}
+use Rattle.crs_log.specs.declared.entries.Known.TheVariants.{Other as CodeOther, Name as CodePlace}
+use Rattle.crs_log.specs.declared.items.LineRefused.{LineRefused}
+use Rattle.std.specs.Prelude.{Result, Ok, Err, IfOk, IfSome, is_some}
 use Rattle.crs_log.specs.SeenItems.{text_of, change_in, event_seen}
 use Rattle.crs_log.specs.declared.items.Span.{Span}
 use Rattle.crs_log.specs.declared.items.Raw.{Raw}
@@ -99,3 +103,14 @@ symbols_change (Some c) h = (h.0, (h.1, tt))
 -- the texts of an item are symbols
 pub symbols_of_item : (line : List ℕ) (e : Event) → IsItem line (Happens e) → AreSymbols (texts_of e)
 symbols_of_item line e h = symbols_append e.args (change_texts e.change) h.2.args (symbols_change e.change h.2.change)
+
+-- a number that was found is the text's
+pub text_found : (T : List (List ℕ)) (t : List ℕ) (r : Option Sym) → option_map (λ s. s.0) r ≡ position (bytes_eq t) T → is_some r ≡ is_known T t → IfSome r (IsTextAt T t)
+text_found T t None e k = tt
+text_found T t (Some s) e k = number_within T t s (sym k) e
+
+-- an answer with this number tells the text's
+pub told_by : (T : List (List ℕ)) (t : List ℕ) (n : Sym) → IsTextAt T t n → (r : Result Known LineRefused) → IfOk r (HasNumber n) → IfOk r (IsTold T t)
+told_by T t n at (Err e) h = tt
+told_by T t n at (Ok CodeOther) h = tt
+told_by T t n at (Ok (CodePlace i s)) h = subst (IsTextAt T t) (sym h) at

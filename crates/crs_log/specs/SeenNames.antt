@@ -43,7 +43,7 @@ AreNamesIn texts ns = AllByRecursion (IsNameOf (λ s. s.0 < length texts)) (map 
 -- an answer says what is known
 abbrev pub Says : Result Known LineRefused → Verdict → Type 0
 Says (Ok CodeOther) v = v ≡ Other
-Says (Ok (CodePlace i)) v = v ≡ Named i
+Says (Ok (CodePlace i s)) v = v ≡ Named i
 Says (Err Form) v = ⊥
 Says (Err Arity) v = v ≡ BadArity
 Says (Err Value) v = v ≡ BadValue
@@ -75,3 +75,17 @@ IsEntryIn texts e = IsEntryOf (λ s. s.0 < length texts) (entry_of e)
 abbrev pub change_count : Option (Span × Span) → ℕ
 change_count None = 0
 change_count (Some c) = 2
+
+-- the number is the text's
+abbrev pub IsTextAt : List (List ℕ) → List ℕ → Sym → Type 0
+IsTextAt texts text s = (s.0 < length texts) × (text_in texts s ≡ text)
+
+-- a declared name is told with this number
+abbrev pub HasNumber : Sym → Known → Type 0
+HasNumber number CodeOther = Unit {0}
+HasNumber number (CodePlace i s) = s ≡ number
+
+-- a declared name is told with the number of its text
+abbrev pub IsTold : List (List ℕ) → List ℕ → Known → Type 0
+IsTold texts text CodeOther = Unit {0}
+IsTold texts text (CodePlace i s) = IsTextAt texts text s

@@ -1,10 +1,10 @@
 //! The declared names that event lines have.
-ghost use Rattle.std.specs.Prelude.{◌≡◌, ◌≤◌, length, map, bytes_eq, List, ℕ};
+ghost use Rattle.std.specs.Prelude.{◌≡◌, ◌≤◌, length, map, bytes_eq, List, ℕ, IfOk, IfSome};
 ghost use Rattle.std.specs.List.{list_any};
-ghost use Rattle.crs_log.specs.SeenItems.{event_seen};
+ghost use Rattle.crs_log.specs.SeenItems.{event_seen, text_of};
 ghost use Rattle.crs_model.specs.Renaming.{text_in};
 ghost use Rattle.crs_model.specs.Renaming.{AreKnown};
-ghost use Rattle.crs_log.specs.SeenNames.{kind_seen, name_seen, IsNumberOf, IsKindIn, IsNameIn, AreNamesIn, Says};
+ghost use Rattle.crs_log.specs.SeenNames.{kind_seen, name_seen, IsNumberOf, IsKindIn, IsNameIn, AreNamesIn, Says, HasNumber, IsTold, IsTextAt};
 ghost use Rattle.crs_log.specs.Known.{is_of_kind, change_stands, agrees, known_of, judged};
 
 use crate::entries::Known;
@@ -15,7 +15,8 @@ use crs_model::{Kind, Name};
 
 /// The number of a text, which is no other text's.
 fn number_of(text: &[u8], symbols: &Symbols) -> Option<Sym>
-    ensures { IsNumberOf symbols.now.texts text.now result }
+    ensures number { IsNumberOf symbols.now.texts text.now result }
+    ensures text { IfSome result (IsTextAt symbols.now.texts text.now) }
 {
     // no text stands twice in the table
     let _ = symbols.len();
@@ -77,11 +78,13 @@ fn judge(
     line: &[u8],
     raw: &Raw,
     place: u32,
+    number: Sym,
     name: &Name,
     symbols: &Symbols,
 ) -> Result<Known, LineRefused>
     requires { IsNameIn symbols.now.texts name.now }
-    ensures { Says result (judged place (name_seen symbols.now.texts name.now) (event_seen line.now raw.now)) }
+    ensures number { IfOk result (HasNumber number) }
+    ensures says { Says result (judged place (name_seen symbols.now.texts name.now) (event_seen line.now raw.now)) }
 {
     if !agrees(raw, name) {
         return Err(LineRefused::Arity);
@@ -89,7 +92,7 @@ fn judge(
     if !is_of_kind(line, raw, &name.kind, symbols) {
         return Err(LineRefused::Value);
     }
-    Ok(Known::Name(place))
+    Ok(Known::Name(place, number))
 }
 
 /// The declared name of an event line, with the right arguments and value.
@@ -101,14 +104,15 @@ pub fn known(
 ) -> Result<Known, LineRefused>
     requires names { AreNamesIn symbols.now.texts names.now }
     requires count { length names.now ≤ 256 }
-    ensures { Says result (known_of (map (name_seen symbols.now.texts) names.now) (event_seen line.now raw.now)) }
+    ensures text { IfOk result (IsTold symbols.now.texts (text_of line.now raw.now.name)) }
+    ensures says { Says result (known_of (map (name_seen symbols.now.texts) names.now) (event_seen line.now raw.now)) }
 {
     let Some(number) = number_of(span_text(line, raw.name), symbols) else {
         return Ok(Known::Other);
     };
     for (i, name) in names.as_slice().iter().enumerate() {
         if name.name.0 == number.0 {
-            return judge(line, raw, i as u32, name, symbols);
+            return judge(line, raw, i as u32, number, name, symbols);
         }
     }
     Ok(Known::Other)

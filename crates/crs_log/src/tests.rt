@@ -191,16 +191,16 @@ fn names_are_known(rt: HostRuntime) -> Result<(), Fail> {
         (b"1 z".as_slice(), Ok(Known::Other)),
         (b"1 on:(p,q)", Ok(Known::Other)),
         (b"1 b[x,y]", Ok(Known::Other)),
-        (b"1 a[x]", Ok(Known::Name(0))),
+        (b"1 a[x]", Ok(Known::Name(0, a))),
         (b"1 a", Err(LineRefused::Arity)),
         (b"1 a[x,y]", Err(LineRefused::Arity)),
         (b"1 a[x]:(p,on)", Err(LineRefused::Arity)),
         (b"1 v[x]", Err(LineRefused::Arity)),
         (b"1 v:(p,up)", Err(LineRefused::Arity)),
-        (b"1 v[x]:(up,on)", Ok(Known::Name(1))),
+        (b"1 v[x]:(up,on)", Ok(Known::Name(1, v))),
         (b"1 v[x]:(on,up)", Err(LineRefused::Value)),
         (b"1 v[x]:(on,z)", Err(LineRefused::Value)),
-        (b"1 w:(p,q)", Ok(Known::Name(2))),
+        (b"1 w:(p,q)", Ok(Known::Name(2, w))),
     ] {
         let Ok(Item::Event(raw)) = read_item(rt.alloc(), line, &mut Vec::new(rt.alloc())) else {
             return Err(Fail::new("no event"));

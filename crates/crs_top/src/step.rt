@@ -4,8 +4,8 @@ ghost use Rattle.crs_log.specs.Given.{seen};
 ghost use Rattle.crs_log.specs.Items.{Clock, Finish as LogEnd, Happens, IsItem};
 ghost use Rattle.crs_log.specs.Known.{known_of};
 ghost use Rattle.crs_log.specs.Run.{after_ordered, after_named};
-ghost use Rattle.crs_log.specs.SeenItems.{event_seen, what_seen, IsInRange, IsRead};
-ghost use Rattle.crs_log.specs.SeenNames.{name_seen};
+ghost use Rattle.crs_log.specs.SeenItems.{event_seen, text_of, what_seen, IsInRange, IsRead};
+ghost use Rattle.crs_log.specs.SeenNames.{name_seen, IsTextAt};
 ghost use Rattle.crs_log.specs.Known.{Named};
 ghost use Rattle.std.specs.Prelude.{map};
 ghost use Rattle.crs_log.specs.Run.{after_given, after_what};
@@ -15,10 +15,10 @@ ghost use Rattle.crs_report.specs.Lines.{refusal_line};
 
 use crate::answer::push_answer;
 use crate::session::Session;
-use crs_base::{Steps, Token};
+use crs_base::{Steps, Sym, Token};
 use crs_engine::Refused;
 use crs_log::naming::known;
-use crs_log::{Item, Known, Line, LineRefused, Raw, make_entry, read_item};
+use crs_log::{Item, Known, Line, LineRefused, Raw, make_named, read_item};
 use crs_report::{Fault, push_refusal_line};
 use std::alloc::{AllocError, Global};
 use std::marker::Brand;
@@ -97,13 +97,15 @@ fn take_end<L: Ledger>(
     }
 }
 
-/// Accepts the event of a line, whose name is declared with these arguments and this value.
+/// Accepts the event of a line, whose name has this number, and is declared with these arguments and
+/// this value.
 fn accept_event(
     alloc: Global,
     session: &mut Session,
     number: u64,
     line: &[u8],
     raw: &Raw,
+    name: Sym,
     out: &mut Vec<u8>,
 ) -> Result<(), AllocError>
     requires ready { IsReady session.old }
@@ -111,6 +113,7 @@ fn accept_event(
     requires item { IsItem line.now (Happens (event_seen line.now raw.now)) }
     requires date { raw.now.date < 2 ^ 40 }
     requires due { session.old.engine.horizon ≤ raw.now.date }
+    requires name { IsTextAt session.old.symbols.texts (text_of line.now raw.now.name) name }
     requires named { (place : ℕ) × (known_of (map (name_seen session.old.symbols.texts) session.old.engine.plans.names) (event_seen line.now raw.now) ≡ Named place) }
     ensures { OnOk result (BringsAll session.old session.new number (λ f s. after_named (setting_of f) s (event_seen line.now raw.now)) out.old.items out.new.items) }
 {
@@ -119,7 +122,7 @@ fn accept_event(
         return refuse(session, number, Fault::Full { limit }, out);
     }
     let arrival = session.engine.accepted();
-    let entry = match make_entry(alloc, line, raw, arrival, &mut session.symbols) {
+    let entry = match make_named(alloc, line, raw, name, arrival, &mut session.symbols) {
         Ok(entry) => entry,
         Err(LineRefused::Values { limit }) => {
             return refuse(session, number, Fault::Values { limit }, out);
@@ -155,7 +158,7 @@ fn take_event(
         Err(_) => return Err(AllocError),
     }
     match known(line, raw, &session.engine.plans().names, &session.symbols) {
-        Ok(Known::Name(_)) => accept_event(alloc, session, number, line, raw, out),
+        Ok(Known::Name(_, name)) => { accept_event(alloc, session, number, line, raw, name, out) }
         Ok(Known::Other) => Ok(()),
         Err(LineRefused::Arity) => refuse(session, number, Fault::Arity, out),
         Err(_) => refuse(session, number, Fault::Value, out),

@@ -3,7 +3,7 @@ ghost use Rattle.crs_base.specs.Symbols.{is_known, with_texts};
 ghost use Rattle.crs_log.specs.SeenItems.{text_of, event_seen, change_in};
 ghost use Rattle.crs_model.specs.Renaming.{text_in};
 ghost use Rattle.crs_model.specs.Renaming.{AreKnown};
-ghost use Rattle.crs_log.specs.SeenNames.{entry_seen, change_seen, IsEntryRefusal, IsEntryIn, IsPairIn, change_count};
+ghost use Rattle.crs_log.specs.SeenNames.{entry_seen, change_seen, IsEntryRefusal, IsEntryIn, IsPairIn, IsTextAt, change_count};
 ghost use Rattle.crs_base.specs.Entry.{canonical};
 ghost use Rattle.crs_log.specs.Items.{IsItem, Happens};
 ghost use Rattle.crs_log.specs.Known.{new_texts, texts_of, change_texts, entry_of_event};
@@ -58,16 +58,17 @@ fn entry_with(arrival: u32, raw: &Raw, name: Sym, numbers: &[Sym], text: Text) -
     }
 }
 
-/// The entry of an event line whose name is declared.
-pub fn make_entry(
+/// The entry of an event line whose name has this number.
+pub fn make_named(
     alloc: Global,
     line: &[u8],
     raw: &Raw,
+    name: Sym,
     arrival: u32,
     symbols: &mut Symbols,
 ) -> Result<Entry, LineRefused>
     requires item { IsItem line.now (Happens (event_seen line.now raw.now)) }
-    requires name { is_known symbols.old.texts (text_of line.now raw.now.name) ≡ true }
+    requires name { IsTextAt symbols.old.texts (text_of line.now raw.now.name) name }
     requires arity { length raw.now.args ≤ 8 }
     ensures entry { IfOk result (λ e. entry_seen symbols.new.texts e ≡ entry_of_event arrival (event_seen line.now raw.now)) }
     ensures within { IfOk result (IsEntryIn symbols.new.texts) }
@@ -88,9 +89,30 @@ pub fn make_entry(
             limit: symbols.len() + room,
         });
     }
-    let name = known_symbol(span_text(line, raw.name), symbols);
     let Ok(numbers) = intern_all(alloc, line, spans.as_slice(), symbols) else {
         return Err(LineRefused::Memory);
     };
     Ok(entry_with(arrival, raw, name, numbers.as_slice(), text))
+}
+
+/// The entry of an event line whose name is declared.
+pub fn make_entry(
+    alloc: Global,
+    line: &[u8],
+    raw: &Raw,
+    arrival: u32,
+    symbols: &mut Symbols,
+) -> Result<Entry, LineRefused>
+    requires item { IsItem line.now (Happens (event_seen line.now raw.now)) }
+    requires name { is_known symbols.old.texts (text_of line.now raw.now.name) ≡ true }
+    requires arity { length raw.now.args ≤ 8 }
+    ensures entry { IfOk result (λ e. entry_seen symbols.new.texts e ≡ entry_of_event arrival (event_seen line.now raw.now)) }
+    ensures within { IfOk result (IsEntryIn symbols.new.texts) }
+    ensures texts { OnOk result (symbols.new.texts ≡ with_texts symbols.old.texts (texts_of (event_seen line.now raw.now))) }
+    ensures room { OnOk result (length symbols.old.texts + length (new_texts symbols.old.texts (texts_of (event_seen line.now raw.now))) ≤ symbols.old.limit) }
+    ensures limit { symbols.new.limit ≡ symbols.old.limit }
+    ensures err { IfErr result (IsEntryRefusal symbols.old symbols.new (texts_of (event_seen line.now raw.now))) }
+{
+    let name = known_symbol(span_text(line, raw.name), symbols);
+    make_named(alloc, line, raw, name, arrival, symbols)
 }

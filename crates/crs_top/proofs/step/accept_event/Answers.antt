@@ -12,14 +12,8 @@ use Rattle.crs_top.proofs.Marking.{still_running}
 use Rattle.crs_top.proofs.Results.{both_ok, not_true}
 use Rattle.crs_top.proofs.step.accept_event.Goals as goal
 
-pub make_entry-requires-clause-name : goal.make_entry-requires-clause-name
-make_entry-requires-clause-name c =
-    let x = c.args.session.now in
-    let r = c.requires.ready.2 in
-    (named_fits x.symbols.texts (event_seen c.args.line.now c.args.raw.now) x.engine.plans.names 0 c.requires.named.0 r.models.names_in r.models.arities c.requires.named.1).0
-
-pub make_entry-requires-clause-arity : goal.make_entry-requires-clause-arity
-make_entry-requires-clause-arity c =
+pub make_named-requires-clause-arity : goal.make_named-requires-clause-arity
+make_named-requires-clause-arity c =
     let x = c.args.session.now in
     let r = c.requires.ready.2 in
     let few = (named_fits x.symbols.texts (event_seen c.args.line.now c.args.raw.now) x.engine.plans.names 0 c.requires.named.0 r.models.names_in r.models.arities c.requires.named.1).1 in
@@ -43,7 +37,7 @@ returns-in-Ok-accept c = λ f s r.
     let x = c.args.session.now in
     let e = event_seen c.args.line.now c.args.raw.now in
     let arrival : c.accepted-arrival.result ≡ x.engine.accepted = c.accepted-arrival.ensures in
-    accept_brings f x s r e (λ q. not_true c.is_full.result c.if-is_full.false (c.is_full.ensures.1 q)) c.requires.met c.args.number c.accept.new.self c.make_entry.new.symbols c.in-Ok.entry c.args.out.now.items
+    accept_brings f x s r e (λ q. not_true c.is_full.result c.if-is_full.false (c.is_full.ensures.1 q)) c.requires.met c.args.number c.accept.new.self c.make_named.new.symbols c.in-Ok.entry c.args.out.now.items
     c.in-Ok-accept.ensures.accepted (still_running x.engine.stopped c.accept.new.self.stopped tt r.running c.in-Ok-accept.ensures.raised) c.in-Ok.ensures.texts c.in-Ok.ensures.limit
     (omega (arith, c.in-Ok.ensures.room))
     (c.in-Ok.ensures.entry ∙ ap (λ n. entry_of_event n e) arrival) c.in-Ok.ensures.within

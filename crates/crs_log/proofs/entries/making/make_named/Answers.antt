@@ -7,7 +7,7 @@ use Rattle.crs_model.specs.Renaming.{AreKnown}
 use Rattle.crs_log.specs.Known.{texts_of, new_texts}
 use Rattle.crs_log.proofs.Parts.{kept_all, count_of, room_left, symbols_of_item}
 use Rattle.crs_log.specs.Items.{AreSymbols}
-use Rattle.crs_log.proofs.entries.making.make_entry.Goals as goal
+use Rattle.crs_log.proofs.entries.making.make_named.Goals as goal
 
 pub intern_all-requires-clause-room : goal.intern_all-requires-clause-room
 intern_all-requires-clause-room c =
@@ -28,18 +28,18 @@ returns-clause-entry c =
     let T = c.args.symbols.now.texts in let f = text_of c.args.line.now in
     let ts = texts_of (event_seen c.args.line.now c.args.raw.now) in
     let spans : map f c.as_slice-2.result.now ≡ ts = ap (map f) c.as_slice-2.ensures ∙ c.in-Ok-value_spans.ensures.texts c.args.line.now in
-    let k = kept_all (map f c.as_slice-2.result.now) T c.known_symbol-name.result.0 c.known_symbol-name.ensures.within in
+    let k = kept_all (map f c.as_slice-2.result.now) T c.args.name.0 c.requires.name.0 in
     c.entry_with.ensures.entry c.args.line.now c.intern_all.new.symbols.texts
-    (ap (λ U. text_at U c.known_symbol-name.result.0) c.in-Ok-intern_all.ensures.texts ∙ k.1 ∙ c.known_symbol-name.ensures.text ∙ c.span_text.ensures)
+    (ap (λ U. text_at U c.args.name.0) c.in-Ok-intern_all.ensures.texts ∙ k.1 ∙ c.requires.name.1)
     (ap (map (text_in c.intern_all.new.symbols.texts)) c.as_slice-3.ensures ∙ c.in-Ok-intern_all.ensures.numbers ∙ spans)
     c.in-Ok.ensures
 
 pub returns-clause-within : goal.returns-clause-within
 returns-clause-within c =
     let T = c.args.symbols.now.texts in let f = text_of c.args.line.now in
-    let k = kept_all (map f c.as_slice-2.result.now) T c.known_symbol-name.result.0 c.known_symbol-name.ensures.within in
+    let k = kept_all (map f c.as_slice-2.result.now) T c.args.name.0 c.requires.name.0 in
     c.entry_with.ensures.within c.intern_all.new.symbols.texts
-    (subst (λ U. c.known_symbol-name.result.0 < length U) (sym c.in-Ok-intern_all.ensures.texts) k.0)
+    (subst (λ U. c.args.name.0 < length U) (sym c.in-Ok-intern_all.ensures.texts) k.0)
     (subst (λ ss. AreKnown c.intern_all.new.symbols.texts ss) (sym c.as_slice-3.ensures) c.in-Ok-intern_all.ensures.within)
 
 pub returns-clause-room : goal.returns-clause-room
