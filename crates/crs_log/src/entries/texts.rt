@@ -10,7 +10,12 @@ use smallvec::SmallVec;
 use std::alloc::{AllocError, Global};
 
 /// Writes a byte and the text of a span.
-fn push_part(line: &[u8], mark: u8, span: Span, out: &mut Vec<u8>) -> Result<(), AllocError>
+fn push_part(
+    line: &[u8],
+    mark: u8,
+    span: Span,
+    out: &mut SmallVec<u8, 24>,
+) -> Result<(), AllocError>
     ensures { OnOk result (out.new.items ≡ out.old.items ++ mark ∷ text_of line.now span) }
 {
     out.push(mark)?;
@@ -18,7 +23,7 @@ fn push_part(line: &[u8], mark: u8, span: Span, out: &mut Vec<u8>) -> Result<(),
 }
 
 /// Writes the arguments behind the first one.
-fn push_more(line: &[u8], args: &[Span], out: &mut Vec<u8>) -> Result<(), AllocError>
+fn push_more(line: &[u8], args: &[Span], out: &mut SmallVec<u8, 24>) -> Result<(), AllocError>
     ensures { OnOk result (out.new.items ≡ out.old.items ++ more_text (map (text_of line.now) args.now)) }
 {
     for arg in args {
@@ -28,7 +33,7 @@ fn push_more(line: &[u8], args: &[Span], out: &mut Vec<u8>) -> Result<(), AllocE
     Ok(())
 }
 
-fn push_args(line: &[u8], args: &[Span], out: &mut Vec<u8>) -> Result<(), AllocError>
+fn push_args(line: &[u8], args: &[Span], out: &mut SmallVec<u8, 24>) -> Result<(), AllocError>
     ensures { OnOk result (out.new.items ≡ out.old.items ++ args_text (map (text_of line.now) args.now)) }
 {
     let Some((first, more)) = args.split_first() else {
@@ -41,7 +46,7 @@ fn push_args(line: &[u8], args: &[Span], out: &mut Vec<u8>) -> Result<(), AllocE
 fn push_change(
     line: &[u8],
     change: Option<(Span, Span)>,
-    out: &mut Vec<u8>,
+    out: &mut SmallVec<u8, 24>,
 ) -> Result<(), AllocError>
     ensures { OnOk result (out.new.items ≡ out.old.items ++ change_text (change_in line.now change)) }
 {
@@ -71,11 +76,11 @@ fn text_len(raw: &Raw) -> usize {
 pub fn canonical_text(alloc: Global, line: &[u8], raw: &Raw) -> Result<Text, AllocError>
     ensures { IfOk result (λ t. t ≡ canonical (text_of line.now raw.now.name) (map (text_of line.now) raw.now.args) (change_in line.now raw.now.change)) }
 {
-    let mut out = Vec::with_capacity(alloc, text_len(raw))?;
+    let mut out = SmallVec::with_capacity(alloc, text_len(raw))?;
     out.extend_from_slice(span_text(line, raw.name))?;
     push_args(line, raw.args.as_slice(), &mut out)?;
     push_change(line, raw.change, &mut out)?;
-    Ok(Text::from_vec(out))
+    Ok(Text::from_small(out))
 }
 
 /// The spans of the arguments and of the two values.
