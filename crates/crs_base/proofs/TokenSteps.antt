@@ -147,3 +147,10 @@ all_in_front p (x ∷ xs) = by (p x) refl (all_in_front p xs)
     by true e rest = (λ i. list_all p (take (cond (e i) (1 + prefix_len p xs) 0) (x ∷ xs)))
         ∙ ap (λ n. list_all p (take n (x ∷ xs))) (one-add (prefix_len p xs))
         ∙ (λ i. e i && rest i)
+
+-- the size of a word, from that of what stands behind its first byte
+pub word_size : (rest : List ℕ) (b : ℕ) (bs : List ℕ) (k : ℕ) → rest ≡ b ∷ bs → is_symbol_byte b ≡ true → k ≡ prefix_len is_symbol_byte bs → 1 + k ≡ prefix_len is_symbol_byte rest
+word_size rest b bs k is symbol at = ap (λ n. 1 + n) at ∙ sym ((λ i. prefix_len is_symbol_byte (is i)) ∙ (λ i. cond (symbol i) (1 + prefix_len is_symbol_byte bs) 0))
+
+pub word_within : (rest : List ℕ) (b : ℕ) (bs : List ℕ) (k : ℕ) → rest ≡ b ∷ bs → k ≤ length bs → 1 + k ≤ length rest
+word_within rest b bs k is within = let one : length rest ≡ suc (length bs) = ap length is in omega (arith, one, within)

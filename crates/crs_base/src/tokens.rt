@@ -92,16 +92,16 @@ pub fn fill_tokens(line: &[u8], marks: Marks, out: &mut Vec<Token>) -> Result<bo
     out.clear();
     let mut rest = line;
     while let Some((first, more)) = rest.split_first() {
-        if is_blank(*first) {
-            rest = more;
-        } else if is_symbol_byte(*first) {
-            let len = word_len(rest);
+        if is_symbol_byte(*first) {
+            let len = 1 + word_len(more);
             let (_, behind) = rest.split_at(len);
             out.push(Token::Word {
                 start: (line.len() - rest.len()) as u16,
                 len: len as u16,
             })?;
             rest = behind;
+        } else if is_blank(*first) {
+            rest = more;
         } else if is_mark(marks, *first)
             && let Some(behind) = behind_mark(*first, more)
         {
