@@ -1,7 +1,7 @@
 -- The longest of spans.
 use Rattle.std.proofs.Common.{◌≡◌, ◌⊎◌, inl, inr, refl, sym, subst, ℤ, Option, Some, None, arith}
 use Rattle.std.proofs.lemmas.Int.{ints}
-use Rattle.crs_compile.specs.Reach.{Bounds, IsLongest, IsSmallSpan}
+use Rattle.crs_model.specs.Reach.{Bounds, IsLongest, IsSmallSpan}
 
 pub further : (a b s : Option ℤ) → Bounds a b → Bounds b s → Bounds a s
 further None b s h k = tt

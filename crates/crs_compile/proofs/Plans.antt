@@ -9,13 +9,14 @@ use Rattle.crs_model.specs.declared.models.ModelRefused.TheVariants.{At, Memory}
 use Rattle.crs_base.specs.declared.symbols.Sym.{Sym}
 use Rattle.crs_model.specs.Models.{Name}
 use Rattle.crs_model.specs.ProperModels.{IsProperChronicle}
+use Rattle.crs_model.specs.Plans.{IsProper}
 use Rattle.crs_model.specs.Seen.{chronicle_of}
-use Rattle.crs_compile.specs.Compiled.{IsPlan, IsAdded, ClosesFirst, IsRefusal}
+use Rattle.crs_compile.specs.Compiled.{IsAdded, ClosesFirst, IsRefusal}
 
 -- the plans are those of the first chronicles, and `rest` are the others
 pub record IsPlanned (all : List Chronicle) (plans : List Plan) (rest : List Chronicle) : Type 0 where
   pub parts : map (λ p. p.chronicle) plans ++ rest ≡ all
-  pub plans_are : AllByRecursion IsPlan plans
+  pub plans_are : AllByRecursion IsProper plans
   pub names : List (Name Sym)
   pub proper : AllByRecursion (IsProperChronicle names) (map chronicle_of rest)
 
@@ -30,15 +31,15 @@ pub planned_more : (all : List Chronicle) (plans : List Plan) (c : Chronicle) (r
     → IsAdded c plans new → IsPlanned all plans (c ∷ rest) → IsPlanned all new rest
 planned_more all plans c rest new a h = record {
   parts = rw (a.last, map-append, a.chronicle, append_assoc) h.parts;
-  plans_are = rw a.last (all_push IsPlan plans a.plan h.plans_are a.proper);
+  plans_are = rw a.last (all_push IsProper plans a.plan h.plans_are a.proper);
   names = h.names;
   proper = h.proper.1;
 }
 
-closes_within : (plans : List Plan) (c : Chronicle) (rest : List Chronicle) (line : _) → AllByRecursion IsPlan plans → ClosesFirst (c ∷ []) line → ClosesFirst (map (λ p. p.chronicle) plans ++ c ∷ rest) line
+closes_within : (plans : List Plan) (c : Chronicle) (rest : List Chronicle) (line : _) → AllByRecursion IsProper plans → ClosesFirst (c ∷ []) line → ClosesFirst (map (λ p. p.chronicle) plans ++ c ∷ rest) line
 closes_within [] c rest line h (inl k) = inl k
 closes_within [] c rest line h (inr k) = absurd k.1
-closes_within (p ∷ ps) c rest line h k = inr (h.0.proper.consistent, closes_within ps c rest line h.1 k)
+closes_within (p ∷ ps) c rest line h k = inr (h.0.consistent, closes_within ps c rest line h.1 k)
 
 pub refused_within : (all : List Chronicle) (plans : List Plan) (c : Chronicle) (rest : List Chronicle) (e : ModelRefused)
     → IsPlanned all plans (c ∷ rest) → IsRefusal (c ∷ []) e → IsRefusal all e

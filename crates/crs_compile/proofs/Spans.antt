@@ -5,7 +5,7 @@ use Rattle.std.proofs.lemmas.Int.{ints}
 use borrow.Author.Count.{below_none, below_more}
 use Rattle.crs_base.specs.Words.{IsIn}
 use Rattle.crs_model.specs.Models.{Anchor}
-use Rattle.crs_compile.specs.Reach.{IsLongest, IsZero, span_of, IsSpanFrom, IsPairSpan, IsStartSpan, IsReach, IsReachOfAll, IsSmallSpan}
+use Rattle.crs_model.specs.Reach.{IsLongest, IsZero, span_of, IsSpanFrom, IsPairSpan, IsStartSpan, IsReach, IsReachOfAll, IsSmallSpan}
 use Rattle.crs_compile.proofs.Longest.{joined, alone, small_of}
 
 abbrev Most : Type 0

@@ -9,7 +9,7 @@ use Rattle.crs_stn.specs.declared.bound.Bound.{Bound}
 use Rattle.crs_stn.specs.Network.{IsMost, IsMinimal, IsEarliest, negated}
 use Rattle.crs_model.specs.Models.{Anchor, Window, Chronicle, Name}
 use Rattle.crs_model.specs.ProperModels.{IsProperWindow, IsProperChronicle}
-use Rattle.crs_compile.specs.Reach.{Bounds, IsLongest, IsZero, IsPairSpan, IsStartSpan, IsReach}
+use Rattle.crs_model.specs.Reach.{Bounds, IsLongest, IsZero, IsPairSpan, IsStartSpan, IsReach}
 use Rattle.crs_compile.specs.Minimal.{pair_line, lines_of_point, pair_lines, head_text, earliest_text, points_of, point_count, IsChronicleText, IsMinimalText}
 
 equal_spans : (x y : Option ℤ) → Bounds x y → Bounds y x → x ≡ y

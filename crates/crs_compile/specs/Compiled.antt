@@ -3,7 +3,6 @@ use Rattle.std.specs.Prelude.{◌≡◌, ◌⊎◌, ℕ, List, [], ◌∷◌, �
 use Rattle.std.specs.declared.rc.Rc.{Rc}
 use Rattle.std.specs.Global.{Global}
 use Rattle.crs_stn.specs.Bound.{IsConsistent}
-use Rattle.crs_stn.specs.Table.{most_of}
 use Rattle.crs_stn.specs.declared.network.StnRefused.{StnRefused}
 use Rattle.crs_stn.specs.declared.network.StnRefused.TheVariants.{Inconsistent as NoDates, Memory as NoMemory}
 use Rattle.crs_model.specs.declared.chronicle.Chronicle.{Chronicle}
@@ -11,14 +10,7 @@ use Rattle.crs_model.specs.declared.models.ModelRefused.{ModelRefused}
 use Rattle.crs_model.specs.declared.models.ModelRefused.TheVariants.{At, Memory}
 use Rattle.crs_model.specs.declared.models.ModelWord.TheVariants.{Inconsistent}
 use Rattle.crs_model.specs.declared.plan.Plan.{Plan}
-use Rattle.crs_model.specs.Plans.{chronicle, IsProper}
-use Rattle.crs_compile.specs.Reach.{IsReachOf, IsSmallSpan}
-
--- the network and the reach are those of the chronicle
-pub record IsPlan (p : Plan) : Type 0 where
-  pub proper : IsProper p
-  pub reach : IsReachOf (chronicle p) (most_of p.network) p.reach
-  pub small : IsSmallSpan p.reach
+use Rattle.crs_model.specs.Plans.{IsProper}
 
 -- the plans themselves
 abbrev pub plans_in : List (Rc Plan Global) → List Plan
@@ -32,7 +24,7 @@ chronicles_in plans = map (λ p. p.chronicle) (plans_in plans)
 pub record IsAdded (c : Chronicle) (old new : List Plan) : Type 0 where
   pub plan : Plan
   pub chronicle : plan.chronicle ≡ c
-  pub proper : IsPlan plan
+  pub proper : IsProper plan
   pub last : new ≡ old ++ plan ∷ []
 
 -- the line closes the first chronicle whose bounds no whole dates meet

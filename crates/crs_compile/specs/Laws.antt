@@ -3,7 +3,7 @@ use Rattle.std.specs.Prelude.{◌≡◌, ℕ, ℤ, List, Option}
 use Rattle.std.specs.List.{AllByRecursion}
 use Rattle.crs_model.specs.Models.{Anchor, Chronicle, Name}
 use Rattle.crs_model.specs.ProperModels.{IsProperChronicle}
-use Rattle.crs_compile.specs.Reach.{IsReach}
+use Rattle.crs_model.specs.Reach.{IsReach}
 use Rattle.crs_compile.specs.Minimal.{IsMinimalText}
 
 -- there is one reach for given least bounds

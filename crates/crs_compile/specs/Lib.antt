@@ -1,4 +1,3 @@
-pub mod Reach
 pub mod Compiled
 pub mod Minimal
 pub mod Laws

@@ -5,7 +5,7 @@ use Rattle.crs_base.specs.declared.symbols.Sym.{Sym}
 use Rattle.crs_stn.specs.Network.{IsMinimal, IsEarliest, negated}
 use Rattle.crs_model.specs.Models.{Chronicle}
 use Rattle.crs_model.specs.Renaming.{AreKnown}
-use Rattle.crs_compile.specs.Reach.{IsReachOf}
+use Rattle.crs_model.specs.Reach.{IsReachOf}
 
 -- a number, or the word for an infinite one
 abbrev pub end_text : List ℕ → Option ℤ → List ℕ

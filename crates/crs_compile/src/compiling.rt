@@ -3,9 +3,10 @@ ghost use Rattle.std.specs.List.{AllByRecursion};
 ghost use Rattle.crs_base.specs.declared.symbols.Sym.{Sym};
 ghost use Rattle.crs_model.specs.Models.{Name};
 ghost use Rattle.crs_model.specs.ProperModels.{IsProperChronicle, AreProper};
+ghost use Rattle.crs_model.specs.Plans.{IsProper};
 ghost use Rattle.crs_model.specs.Seen.{chronicle_of, models_of};
-ghost use Rattle.crs_compile.specs.Reach.{IsReachOfAll};
-ghost use Rattle.crs_compile.specs.Compiled.{IsPlan, IsAdded, plans_in, chronicles_in, IsRefusal, refusal_of};
+ghost use Rattle.crs_model.specs.Reach.{IsReachOfAll};
+ghost use Rattle.crs_compile.specs.Compiled.{IsAdded, plans_in, chronicles_in, IsRefusal, refusal_of};
 
 use crate::reach::{reach_of, reach_of_all};
 use crs_base::List;
@@ -31,7 +32,7 @@ fn refusal(line: u32, why: StnRefused) -> ModelRefused
 fn plan_of(alloc: Global, chronicle: Chronicle) -> Result<Plan, ModelRefused>
     requires { (names : Items (Name Sym)) × IsProperChronicle names (chronicle_of chronicle) }
     ensures chronicle { IfOk result (λ plan. plan.chronicle ≡ chronicle) }
-    ensures plan { IfOk result IsPlan }
+    ensures plan { IfOk result IsProper }
     ensures refused { IfErr result (IsRefusal (chronicle ∷ [])) }
 {
     let points = chronicle.events.len() as u8 + chronicle.free.len() as u8;
@@ -74,7 +75,7 @@ fn push_plan(
 fn plans_of(alloc: Global, chronicles: List<Chronicle>) -> Result<List<Rc<Plan>>, ModelRefused>
     requires { (names : Items (Name Sym)) × AllByRecursion (IsProperChronicle names) (map chronicle_of chronicles) }
     ensures chronicles { IfOk result (λ plans. chronicles_in plans ≡ chronicles) }
-    ensures plans { IfOk result (λ plans. AllByRecursion IsPlan (plans_in plans)) }
+    ensures plans { IfOk result (λ plans. AllByRecursion IsProper (plans_in plans)) }
     ensures refused { IfErr result (IsRefusal chronicles) }
 {
     let mut plans = List::new(alloc);
@@ -91,7 +92,7 @@ pub fn compile(alloc: Global, models: Models) -> Result<Plans, ModelRefused>
     requires { AreProper (models_of models) }
     ensures names { IfOk result (λ plans. plans.names ≡ models.names) }
     ensures chronicles { IfOk result (λ plans. chronicles_in plans.plans ≡ models.chronicles) }
-    ensures plans { IfOk result (λ plans. AllByRecursion IsPlan (plans_in plans.plans)) }
+    ensures plans { IfOk result (λ plans. AllByRecursion IsProper (plans_in plans.plans)) }
     ensures reach { IfOk result (λ plans. IsReachOfAll (map (λ p. p.reach) (plans_in plans.plans)) plans.reach) }
     ensures refused { IfErr result (IsRefusal models.chronicles) }
 {

@@ -2,8 +2,9 @@ ghost use Rattle.std.specs.Prelude.{◌≡◌, ◌+◌, ◌≤◌, ◌<◌, ◌+
 ghost use Rattle.std.specs.List.{AllByRecursion};
 ghost use Rattle.crs_stn.specs.Network.{negated};
 ghost use Rattle.crs_stn.specs.Table.{most_of};
+ghost use Rattle.crs_model.specs.Plans.{IsProper};
 ghost use Rattle.crs_model.specs.Seen.{chronicle_of};
-ghost use Rattle.crs_compile.specs.Compiled.{IsPlan, plans_in, chronicles_in};
+ghost use Rattle.crs_compile.specs.Compiled.{plans_in, chronicles_in};
 ghost use Rattle.crs_model.specs.Renaming.{text_in, AreKnown};
 ghost use Rattle.crs_compile.specs.Minimal.{pair_line, lines_of_point, pair_lines, date_text, head_text, earliest_text, points_of, IsChronicleText, IsMinimalText, IsPrintable, Appends};
 
@@ -197,7 +198,7 @@ fn push_plan(
     symbols: &Symbols,
     plan: &Plan,
 ) -> Result<(), AllocError>
-    requires plan { IsPlan plan.now }
+    requires plan { IsProper plan.now }
     requires known { IsPrintable symbols.now.texts (chronicle_of plan.now.chronicle) }
     ensures { OnOk result (Appends (IsChronicleText (text_in symbols.now.texts) (chronicle_of plan.now.chronicle)) out.old.items out.new.items) }
 {
@@ -215,7 +216,7 @@ fn push_plans(
     symbols: &Symbols,
     plans: &[Rc<Plan>],
 ) -> Result<(), AllocError>
-    requires plans { AllByRecursion IsPlan (plans_in plans.now) }
+    requires plans { AllByRecursion IsProper (plans_in plans.now) }
     requires known { AllByRecursion (IsPrintable symbols.now.texts) (map chronicle_of (chronicles_in plans.now)) }
     ensures { OnOk result (Appends (IsMinimalText (text_in symbols.now.texts) (map chronicle_of (chronicles_in plans.now))) out.old.items out.new.items) }
 {
@@ -230,7 +231,7 @@ fn push_plans(
 
 /// The least bounds, the reach and the earliest dates of each plan's chronicle, as text.
 pub fn minimal_text(alloc: Global, plans: &Plans, symbols: &Symbols) -> Result<Text, AllocError>
-    requires plans { AllByRecursion IsPlan (plans_in plans.now.plans) }
+    requires plans { AllByRecursion IsProper (plans_in plans.now.plans) }
     requires known { AllByRecursion (IsPrintable symbols.now.texts) (map chronicle_of (chronicles_in plans.now.plans)) }
     ensures { IfOk result (IsMinimalText (text_in symbols.now.texts) (map chronicle_of (chronicles_in plans.now.plans))) }
 {

@@ -1,8 +1,7 @@
 ghost use Rattle.std.specs.Prelude.{◌≡◌, ◌<◌, ◌≤◌, ◌^◌, [], length, None, IfOk};
 ghost use Rattle.std.specs.List.{AllByRecursion};
-ghost use Rattle.crs_stn.specs.Bound.{IsWithin};
 ghost use Rattle.crs_model.specs.Plans.{chronicle, IsProper};
-ghost use Rattle.crs_instance.specs.Fixtures.{IsPlain, IsFixture};
+ghost use Rattle.crs_instance.specs.Fixtures.{IsPlain, IsFixture, spaced};
 
 use crate::{Engine, Refused};
 use crs_base::{Entry, List, Steps, Sym, SymList, Text};
@@ -31,7 +30,7 @@ fn event(alloc: Global, name: u32) -> EventDef
 
 /// That b comes 1 to 5 ticks after a.
 fn bounds(alloc: Global) -> Result<List<Bound>, AllocError>
-    ensures { IfOk result (IsWithin 2) }
+    ensures { IfOk result (λ bounds. bounds ≡ spaced 1) }
 {
     let mut bounds = List::new(alloc);
     bounds.push(Bound {
@@ -49,7 +48,7 @@ fn bounds(alloc: Global) -> Result<List<Bound>, AllocError>
 
 /// `a then b within [1,5]`.
 fn a_then_b(alloc: Global) -> Result<Chronicle, AllocError>
-    ensures { IfOk result IsFixture }
+    ensures { IfOk result (IsFixture 1) }
 {
     let mut events = List::new(alloc);
     events.push(event(alloc, 0))?;

@@ -1,9 +1,8 @@
-ghost use Rattle.std.specs.Prelude.{◌≡◌, ◌<◌, ◌^◌, [], length, None, IfOk, OnOk};
-ghost use Rattle.crs_stn.specs.Bound.{IsWithin};
+ghost use Rattle.std.specs.Prelude.{◌≡◌, ◌<◌, ◌≤◌, ◌^◌, [], length, None, IfOk, OnOk};
 ghost use Rattle.crs_model.specs.Plans.{IsProper};
 ghost use Rattle.crs_model.specs.Partial.{at};
 ghost use Rattle.crs_instance.specs.Instances.{IsOf};
-ghost use Rattle.crs_instance.specs.Fixtures.{IsPlain, IsFixture};
+ghost use Rattle.crs_instance.specs.Fixtures.{IsPlain, IsFixture, spaced};
 
 use crate::{Fit, Instance};
 use crs_base::{Entry, List, Steps, Sym, SymList, Text};
@@ -17,6 +16,7 @@ use std::test::Fail;
 
 /// An event of this name and of the level of the same number, without arguments.
 fn event(alloc: Global, name: u8) -> EventDef
+    requires { name ≤ 7 }
     ensures { IsPlain result }
 {
     EventDef {
@@ -32,7 +32,7 @@ fn event(alloc: Global, name: u8) -> EventDef
 
 /// That b comes 1 to 5 ticks after a.
 fn bounds(alloc: Global) -> Result<List<Bound>, AllocError>
-    ensures { IfOk result (IsWithin 2) }
+    ensures { IfOk result (λ bounds. bounds ≡ spaced 1) }
 {
     let mut bounds = List::new(alloc);
     bounds.push(Bound {
@@ -50,7 +50,7 @@ fn bounds(alloc: Global) -> Result<List<Bound>, AllocError>
 
 /// `a then b within [1,5]`.
 fn a_then_b(alloc: Global) -> Result<Chronicle, AllocError>
-    ensures { IfOk result IsFixture }
+    ensures { IfOk result (IsFixture 1) }
 {
     let mut events = List::new(alloc);
     events.push(event(alloc, 0))?;

@@ -1,19 +1,22 @@
 -- Plans that come of accepted models.
-use Rattle.std.specs.Prelude.{◌≡◌, ◌<◌, ◌≤◌, ◌+◌, length}
+use Rattle.std.specs.Prelude.{◌≡◌, ◌<◌, ◌≤◌, ◌+◌, List, length}
 use Rattle.std.specs.List.{AllByRecursion}
 use Rattle.crs_base.specs.declared.symbols.Sym.{Sym}
 use Rattle.crs_stn.specs.Bound.{IsWithin, IsConsistent}
 use Rattle.crs_stn.specs.Network.{IsMinimal}
 use Rattle.crs_stn.specs.Table.{most_of}
 use Rattle.crs_model.specs.declared.plan.Plan.{Plan}
-use Rattle.crs_model.specs.Models.{Chronicle}
+use Rattle.crs_model.specs.Models.{Chronicle, Name}
 use Rattle.crs_model.specs.Proper.{IsNamed}
+use Rattle.crs_model.specs.ProperModels.{IsProperChronicle}
+use Rattle.crs_model.specs.Reach.{IsReachOf, IsSmallSpan}
 use Rattle.crs_model.specs.Bindings.{PatternIsBelow}
 use Rattle.crs_model.specs.Seen.{chronicle_of}
 
 abbrev pub chronicle : Plan → Chronicle Sym
 chronicle p = chronicle_of p.chronicle
 
+-- the chronicle is that of an accepted models text, and the network and the reach are the chronicle's
 pub record IsProper (p : Plan) : Type 0 where
   pub points : p.network.points ≡ length p.chronicle.events + length p.chronicle.free
   pub few : p.network.points ≤ 24
@@ -25,3 +28,6 @@ pub record IsProper (p : Plan) : Type 0 where
   pub minimal : IsMinimal p.chronicle.bounds p.network.points (most_of p.network)
   pub named : IsNamed (chronicle p)
   pub below : AllByRecursion (λ v. PatternIsBelow (length p.chronicle.variables) v.pattern) (chronicle p).events
+  pub declared : (names : List (Name Sym)) × IsProperChronicle names (chronicle p)
+  pub reach : IsReachOf (chronicle p) (most_of p.network) p.reach
+  pub small : IsSmallSpan p.reach

@@ -1,7 +1,6 @@
 ghost use Rattle.std.specs.Prelude.{◌≡◌, ◌<◌, ◌^◌, [], None, IfOk};
-ghost use Rattle.crs_stn.specs.Bound.{IsWithin};
 ghost use Rattle.crs_model.specs.Plans.{chronicle, IsProper};
-ghost use Rattle.crs_instance.specs.Fixtures.{IsPlain, IsFixture};
+ghost use Rattle.crs_instance.specs.Fixtures.{IsPlain, IsFixture, spaced};
 
 use crate::{Store, StoreRefused};
 use crs_base::{Entry, List, Steps, Sym, SymList, Text};
@@ -31,7 +30,7 @@ fn event(alloc: Global, name: u32) -> EventDef
 
 /// That the second event comes from `least` to 5 ticks after the first.
 fn bounds(alloc: Global, least: u8) -> Result<List<Bound>, AllocError>
-    ensures { IfOk result (IsWithin 2) }
+    ensures { IfOk result (λ bounds. bounds ≡ spaced least) }
 {
     let mut bounds = List::new(alloc);
     bounds.push(Bound {
@@ -49,7 +48,7 @@ fn bounds(alloc: Global, least: u8) -> Result<List<Bound>, AllocError>
 
 /// The one event, and the other from `least` to 5 ticks later.
 fn one_then_other(alloc: Global, one: u32, other: u32, least: u8) -> Result<Chronicle, AllocError>
-    ensures { IfOk result IsFixture }
+    ensures { IfOk result (IsFixture least) }
 {
     let mut events = List::new(alloc);
     events.push(event(alloc, one))?;

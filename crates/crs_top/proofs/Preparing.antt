@@ -7,7 +7,6 @@ use Rattle.std.proofs.Common.{Global}
 use Rattle.std.proofs.lemmas.List.{length-map}
 use Rattle.crs_base.specs.declared.symbols.Sym.{Sym}
 use Rattle.crs_base.specs.Symbols.{Table}
-use Rattle.crs_base.proofs.Alls.{all_each}
 use Rattle.crs_stn.specs.Bound.{IsConsistent}
 use Rattle.crs_model.specs.declared.chronicle.Chronicle.{Chronicle as CodeChronicle}
 use Rattle.crs_model.specs.declared.models.Models.{Models as CodeModels}
@@ -24,7 +23,7 @@ use Rattle.crs_model.specs.Seen.{chronicle_of, name_of, models_of}
 use Rattle.crs_log.specs.Run.{at_start}
 use Rattle.crs_log.specs.SeenNames.{name_seen, AreNamesIn}
 use Rattle.crs_parse.specs.Meant.{models_read}
-use Rattle.crs_compile.specs.Compiled.{IsPlan, chronicles_in, ClosesFirst, IsRefusal}
+use Rattle.crs_compile.specs.Compiled.{chronicles_in, ClosesFirst, IsRefusal}
 use Rattle.crs_engine.specs.Engines.{EngineState, StandsFor, plans_of}
 use Rattle.crs_top.specs.Session.{HasText, chronicle_in, HasModels, Represents}
 use Rattle.crs_top.specs.Models.{IsAccepted, IsRejected, ClosesInconsistent, ClosesWindowed}
@@ -84,12 +83,12 @@ arities_by : (ns : List CodeName) → AllByRecursion (λ n. n.arity ≤ 8) (map 
 arities_by [] h = tt
 arities_by (n ∷ ns) h = (h.0, arities_by ns h.1)
 
-consistent_by : (texts : List (List ℕ)) (ps : List Plan) → AllByRecursion IsPlan ps → AllByRecursion (λ c. IsConsistent c.bounds) (map (chronicle_in texts) ps)
+consistent_by : (texts : List (List ℕ)) (ps : List Plan) → AllByRecursion IsProper ps → AllByRecursion (λ c. IsConsistent c.bounds) (map (chronicle_in texts) ps)
 consistent_by texts [] h = tt
-consistent_by texts (p ∷ ps) h = (h.0.proper.consistent, consistent_by texts ps h.1)
+consistent_by texts (p ∷ ps) h = (h.0.consistent, consistent_by texts ps h.1)
 
 -- whole dates meet the bounds of models that were compiled
-pub consistent_models : (texts : List (List ℕ)) (m : CodeModels) (plans : List (Rc Plan Global)) → chronicles_in plans ≡ m.chronicles → AllByRecursion IsPlan (map (λ r. r.value) plans)
+pub consistent_models : (texts : List (List ℕ)) (m : CodeModels) (plans : List (Rc Plan Global)) → chronicles_in plans ≡ m.chronicles → AllByRecursion IsProper (map (λ r. r.value) plans)
     → AllByRecursion (λ c. IsConsistent c.bounds) (map (renamed_chronicle (text_in texts)) (map chronicle_of m.chronicles))
 consistent_models texts m plans e made =
     subst (λ (cs : List CodeChronicle). AllByRecursion (λ c. IsConsistent c.bounds) (map (renamed_chronicle (text_in texts)) (map chronicle_of cs))) e (subst (AllByRecursion (λ c. IsConsistent c.bounds)) (chronicles_by texts (map (λ r. r.value) plans)) (consistent_by texts (map (λ r. r.value) plans) made))
@@ -102,13 +101,10 @@ pub by_value : (F : Plan → Type 0) (rs : List (Rc Plan Global)) → AllByRecur
 by_value F [] h = tt
 by_value F (r ∷ rs) h = (h.0, by_value F rs h.1)
 
-pub plans_proper : (ps : List Plan) → AllByRecursion IsPlan ps → AllByRecursion IsProper ps
-plans_proper ps h = all_each {P = IsPlan} ps (λ p k. k.proper) h
-
 -- the models of a text, as they were read and compiled
 module _ (symbols entries : ℕ) (text : List ℕ) (m : CodeModels) (table : Table) (plans : Plans)
     (is : AreReadIn symbols text m table)
-    (names : plans.names ≡ m.names) (chronicles : chronicles_in plans.plans ≡ m.chronicles) (made : AllByRecursion IsPlan (plans_of plans)) where
+    (names : plans.names ≡ m.names) (chronicles : chronicles_in plans.plans ≡ m.chronicles) (made : AllByRecursion IsProper (plans_of plans)) where
   abbrev pub frame : Frame
   frame = record { models = renamed_models (text_in table.texts) (models_of m); texts = table.texts; symbols = symbols; entries = entries }
 
@@ -146,7 +142,7 @@ module _ (symbols entries : ℕ) (text : List ℕ) (m : CodeModels) (table : Tab
 
     has_models : HasModels frame plans table
     has_models = record {
-      proper = plans_proper (plans_of plans) made;
+      proper = made;
       windowless = windowless;
       names = names_by table.texts m.names ∙ ap (map (name_seen table.texts)) (sym names);
       names_in = subst (AreNamesIn table.texts) (sym names) is.numbered.names;

@@ -1,8 +1,7 @@
 use Rattle.std.proofs.Common.{◌≡◌, refl, []}
 use Rattle.std.proofs.lemmas.Result.{err_from_is_err_and}
 use Rattle.crs_model.specs.Plans.{IsProper, chronicle}
-use Rattle.crs_engine.specs.Engines.{plans_of}
-use Rattle.crs_top.proofs.Preparing.{by_value, compile_faulty, faulty_is_refused, plans_proper, plans_windowless, rejected_windowed, accepted, represented, frame}
+use Rattle.crs_top.proofs.Preparing.{by_value, compile_faulty, faulty_is_refused, plans_windowless, rejected_windowed, accepted, represented, frame}
 use Rattle.crs_top.proofs.models.prepare.Goals as goal
 
 pub returns-in_err-models-clause-refused : goal.returns-in_err-models-clause-refused
@@ -21,7 +20,7 @@ returns-in-Some-clause-refused c =
     rejected_windowed c.args.limits.symbols c.args.limits.entries c.args.text.now c.in_ok-models.models c.in_ok-models.symbols c.in_ok-plans.plans c.in_ok-models.ensures.ok e.names e.chronicles e.plans c.in-Some.line (rw c.as_slice.ensures at c.in-Some.ensures)
 
 pub new-requires-clause-proper : goal.new-requires-clause-proper
-new-requires-clause-proper c = by_value IsProper c.in_ok-plans.plans.plans (plans_proper (plans_of c.in_ok-plans.plans) c.in_ok-plans.ensures.plans)
+new-requires-clause-proper c = by_value IsProper c.in_ok-plans.plans.plans c.in_ok-plans.ensures.plans
 
 pub new-requires-clause-windowless : goal.new-requires-clause-windowless
 new-requires-clause-windowless c =
