@@ -13,7 +13,7 @@ use Rattle.crs_model.specs.Renaming.{AreKnown}
 use Rattle.crs_log.specs.SeenNames.{change_count, IsTextAt, IsTold, HasNumber}
 use Rattle.crs_log.specs.declared.entries.Known.{Known}
 use Rattle.crs_log.specs.declared.entries.Known.TheVariants.{Other as CodeOther, Name as CodePlace}
-use Rattle.crs_log.specs.declared.items.LineRefused.{LineRefused}
+use Rattle.crs_log.specs.declared.naming.NameRefused.{NameRefused}
 use Rattle.std.specs.Prelude.{Result, Ok, Err, IfOk, IfSome, is_some}
 use Rattle.crs_log.specs.SeenItems.{text_of, change_in, event_seen}
 use Rattle.crs_log.specs.declared.items.Span.{Span}
@@ -110,7 +110,7 @@ text_found T t None e k = tt
 text_found T t (Some s) e k = number_within T t s (sym k) e
 
 -- an answer with this number tells the text's
-pub told_by : (T : List (List ℕ)) (t : List ℕ) (n : Sym) → IsTextAt T t n → (r : Result Known LineRefused) → IfOk r (HasNumber n) → IfOk r (IsTold T t)
+pub told_by : (T : List (List ℕ)) (t : List ℕ) (n : Sym) → IsTextAt T t n → (r : Result Known NameRefused) → IfOk r (HasNumber n) → IfOk r (IsTold T t)
 told_by T t n at (Err e) h = tt
 told_by T t n at (Ok CodeOther) h = tt
 told_by T t n at (Ok (CodePlace i s)) h = subst (IsTextAt T t) (sym h) at

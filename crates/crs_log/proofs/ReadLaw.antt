@@ -2,8 +2,8 @@
 use Rattle.std.proofs.Common.{◌≡◌, ℕ, Bool, true, false, cond, List, refl, sym, ap, ◌∙◌, Option, Some, None}
 use Rattle.crs_log.specs.declared.items.Item.{Item as CodeItem}
 use Rattle.crs_log.specs.declared.items.Item.TheVariants.{Blank as CodeBlank, Delay as CodeDelay, Clock as CodeClock, Finish as CodeFinish, Event as CodeEvent}
-use Rattle.crs_log.specs.declared.items.LineRefused.{LineRefused}
-use Rattle.crs_log.specs.declared.items.LineRefused.TheVariants.{Form, Arity, Value, Values, Memory}
+use Rattle.crs_log.specs.declared.items.ItemRefused.{ItemRefused}
+use Rattle.crs_log.specs.declared.items.ItemRefused.TheVariants.{Form, Memory}
 use Rattle.crs_base.specs.Lines.{is_passed_over}
 use Rattle.crs_log.specs.Items.{Item, Delay, Clock, Finish, Happens, IsItem}
 use Rattle.crs_log.specs.ItemOf.{Empty, Is, Faulty, what_is, what_of, item_of}
@@ -43,9 +43,6 @@ faulty_by line false p e = (p, λ item h. never item (ap what_is (sym (item_agai
     never : (i : Item) → Is i ≡ Faulty → ⊥
     never i e = cc
 
-pub refused_is : (line : List ℕ) (e : LineRefused) → Refuses line e → IsFormOrMemory line e
+pub refused_is : (line : List ℕ) (e : ItemRefused) → Refuses line e → IsFormOrMemory line e
 refused_is line Form h = faulty_by line (is_passed_over line) refl h
-refused_is line Arity h = h
-refused_is line Value h = h
-refused_is line (Values limit) h = h
 refused_is line Memory h = tt

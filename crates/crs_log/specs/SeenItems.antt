@@ -4,8 +4,8 @@ use Rattle.crs_log.specs.declared.items.Item.{Item as CodeItem}
 use Rattle.crs_log.specs.declared.items.Item.TheVariants.{Blank as CodeBlank, Delay as CodeDelay, Clock as CodeClock, Finish as CodeFinish, Event as CodeEvent}
 use Rattle.crs_log.specs.declared.items.Raw.{Raw}
 use Rattle.crs_log.specs.declared.items.Span.{Span}
-use Rattle.crs_log.specs.declared.items.LineRefused.{LineRefused}
-use Rattle.crs_log.specs.declared.items.LineRefused.TheVariants.{Form, Arity, Value, Values, Memory}
+use Rattle.crs_log.specs.declared.items.ItemRefused.{ItemRefused}
+use Rattle.crs_log.specs.declared.items.ItemRefused.TheVariants.{Form, Memory}
 use Rattle.crs_log.specs.Items.{Item, Delay, Clock, Finish, Happens, Event, Change, IsItem}
 use Rattle.crs_log.specs.ItemOf.{What, Empty, Is, Faulty, what_of, Parted}
 use Rattle.crs_base.specs.Lines.{is_passed_over}
@@ -44,19 +44,13 @@ abbrev pub IsFaulty : List ℕ → Type 0
 IsFaulty line = (is_passed_over line ≡ false) × ((item : Item) → IsItem line item → ⊥)
 
 -- only a fault of form has a cause
-abbrev pub IsFormOrMemory : List ℕ → LineRefused → Type 0
+abbrev pub IsFormOrMemory : List ℕ → ItemRefused → Type 0
 IsFormOrMemory line Form = IsFaulty line
-IsFormOrMemory line Arity = ⊥
-IsFormOrMemory line Value = ⊥
-IsFormOrMemory line (Values limit) = ⊥
 IsFormOrMemory line Memory = Unit {0}
 
 -- the same, as what the line is
-abbrev pub Refuses : List ℕ → LineRefused → Type 0
+abbrev pub Refuses : List ℕ → ItemRefused → Type 0
 Refuses line Form = what_of line ≡ Faulty
-Refuses line Arity = ⊥
-Refuses line Value = ⊥
-Refuses line (Values limit) = ⊥
 Refuses line Memory = Unit {0}
 
 -- the span lies in the line

@@ -8,8 +8,10 @@ use Rattle.crs_model.specs.declared.models.Kind.{Kind as CodeKind}
 use Rattle.crs_log.specs.declared.entries.Known.{Known}
 use Rattle.crs_log.specs.declared.entries.Known.TheVariants.{Other as CodeOther, Name as CodePlace}
 use Rattle.crs_log.specs.declared.items.Span.{Span}
-use Rattle.crs_log.specs.declared.items.LineRefused.{LineRefused}
-use Rattle.crs_log.specs.declared.items.LineRefused.TheVariants.{Form, Arity, Value, Values, Memory}
+use Rattle.crs_log.specs.declared.entries.EntryRefused.{EntryRefused}
+use Rattle.crs_log.specs.declared.entries.EntryRefused.TheVariants.{Values, Memory}
+use Rattle.crs_log.specs.declared.naming.NameRefused.{NameRefused}
+use Rattle.crs_log.specs.declared.naming.NameRefused.TheVariants.{Arity, Value}
 use Rattle.crs_base.specs.Entry.{Entry}
 use Rattle.crs_base.specs.Seen.{entry_of}
 use Rattle.crs_base.specs.Symbols.{Table, with_texts}
@@ -41,14 +43,11 @@ abbrev pub AreNamesIn : List (List ℕ) → List CodeName → Type 0
 AreNamesIn texts ns = AllByRecursion (IsNameOf (λ s. s.0 < length texts)) (map name_of ns)
 
 -- an answer says what is known
-abbrev pub Says : Result Known LineRefused → Verdict → Type 0
+abbrev pub Says : Result Known NameRefused → Verdict → Type 0
 Says (Ok CodeOther) v = v ≡ Other
 Says (Ok (CodePlace i s)) v = v ≡ Named i
-Says (Err Form) v = ⊥
 Says (Err Arity) v = v ≡ BadArity
 Says (Err Value) v = v ≡ BadValue
-Says (Err (Values limit)) v = ⊥
-Says (Err Memory) v = ⊥
 
 abbrev pub change_seen : List (List ℕ) → Option (Sym × Sym) → Option Change
 change_seen texts change = option_map (λ c. (text_in texts c.0, text_in texts c.1)) change
@@ -57,10 +56,7 @@ abbrev pub entry_seen : List (List ℕ) → CodeEntry → Entry (List ℕ)
 entry_seen texts e = renamed_entry (text_in texts) (entry_of e)
 
 -- a refusal, for the table as it was and is, and the texts that are new
-abbrev pub IsEntryRefusal : Table → Table → List (List ℕ) → LineRefused → Type 0
-IsEntryRefusal old new texts Form = ⊥
-IsEntryRefusal old new texts Arity = ⊥
-IsEntryRefusal old new texts Value = ⊥
+abbrev pub IsEntryRefusal : Table → Table → List (List ℕ) → EntryRefused → Type 0
 IsEntryRefusal old new texts (Values limit) = (limit ≡ old.limit) × (new ≡ old) × (old.limit < length old.texts + length (new_texts old.texts texts))
 IsEntryRefusal old new texts Memory = (k : ℕ) × (new.texts ≡ with_texts old.texts (take k texts))
 

@@ -38,21 +38,13 @@ pub enum Item {
     Event(Raw),
 }
 
-/// Why a line is refused.
+/// Why a line has no item.
 #[derive(Clone, Copy, Debug, PartialEq, Eq, Drop, Error)]
-pub enum LineRefused {
+pub enum ItemRefused {
     /// It has no form of a log statement.
     #[error("Form")]
     Form,
-    /// Its arguments or its change do not agree with the declaration of its name.
-    #[error("Arity")]
-    Arity,
-    /// Its new value is none of the attribute's.
-    #[error("Value")]
-    Value,
-    /// Its new symbols do not fit into the table, which holds at most `limit`.
-    #[error("Values")]
-    Values { limit: u32 },
+    /// Memory ran out.
     #[error("Memory")]
     Memory,
 }

@@ -7,8 +7,8 @@ pub mod laws;
 mod lines;
 pub mod naming;
 
-pub use entries::{Known, make_entry, make_named};
-pub use items::{Item, LineRefused, Raw, Span, read_item};
+pub use entries::{EntryRefused, Known, make_entry, make_named};
+pub use items::{Item, ItemRefused, Raw, Span, read_item};
 pub use lines::{Line, Lines, Told, lines_of_pieces};
 
 #[cfg(test)]

@@ -9,9 +9,21 @@ ghost use Rattle.crs_log.specs.Known.{is_of_kind, change_stands, agrees, known_o
 
 use crate::entries::Known;
 use crate::items::parts::span_text;
-use crate::items::{LineRefused, Raw};
+use crate::items::Raw;
 use crs_base::{List, Sym, Symbols};
 use crs_model::{Kind, Name};
+use thiserror::Error;
+
+/// Why an event does not agree with the declaration of its name.
+#[derive(Clone, Copy, Debug, PartialEq, Eq, Drop, Error)]
+pub enum NameRefused {
+    /// The number of its arguments or its change does not.
+    #[error("Arity")]
+    Arity,
+    /// Its new value is none of the attribute's.
+    #[error("Value")]
+    Value,
+}
 
 /// The number of a text, which is no other text's.
 fn number_of(text: &[u8], symbols: &Symbols) -> Option<Sym>
@@ -81,16 +93,16 @@ fn judge(
     number: Sym,
     name: &Name,
     symbols: &Symbols,
-) -> Result<Known, LineRefused>
+) -> Result<Known, NameRefused>
     requires { IsNameIn symbols.now.texts name.now }
     ensures number { IfOk result (HasNumber number) }
     ensures says { Says result (judged place (name_seen symbols.now.texts name.now) (event_seen line.now raw.now)) }
 {
     if !agrees(raw, name) {
-        return Err(LineRefused::Arity);
+        return Err(NameRefused::Arity);
     }
     if !is_of_kind(line, raw, &name.kind, symbols) {
-        return Err(LineRefused::Value);
+        return Err(NameRefused::Value);
     }
     Ok(Known::Name(place, number))
 }
@@ -101,7 +113,7 @@ pub fn known(
     raw: &Raw,
     names: &List<Name>,
     symbols: &Symbols,
-) -> Result<Known, LineRefused>
+) -> Result<Known, NameRefused>
     requires names { AreNamesIn symbols.now.texts names.now }
     requires count { length names.now ≤ 256 }
     ensures text { IfOk result (IsTold symbols.now.texts (text_of line.now raw.now.name)) }

@@ -2,8 +2,8 @@ ghost use Rattle.std.specs.Prelude.{◌<◌, List as Items, ℕ, length, IfOk};
 ghost use Rattle.crs_log.specs.SeenNames.{AreNamesIn};
 
 use crate::items::parts::span_text;
-use crate::naming::known;
-use crate::{Item, Known, Line, LineRefused, Lines, lines_of_pieces, make_entry, read_item};
+use crate::naming::{NameRefused, known};
+use crate::{EntryRefused, Item, ItemRefused, Known, Line, Lines, lines_of_pieces, make_entry, read_item};
 use crs_base::{List, Sym, Symbols};
 use crs_model::{Kind, Name};
 use std::alloc::{AllocError, Global};
@@ -98,8 +98,8 @@ fn kind_of(alloc: Global, line: &[u8]) -> Result<u8, AllocError> {
         Ok(Item::Clock(_)) => Ok(b'c'),
         Ok(Item::Finish) => Ok(b'f'),
         Ok(Item::Event(_)) => Ok(b'e'),
-        Err(LineRefused::Memory) => Err(AllocError),
-        Err(_) => Ok(b'?'),
+        Err(ItemRefused::Form) => Ok(b'?'),
+        Err(ItemRefused::Memory) => Err(AllocError),
     }
 }
 
@@ -192,14 +192,14 @@ fn names_are_known(rt: HostRuntime) -> Result<(), Fail> {
         (b"1 on:(p,q)", Ok(Known::Other)),
         (b"1 b[x,y]", Ok(Known::Other)),
         (b"1 a[x]", Ok(Known::Name(0, a))),
-        (b"1 a", Err(LineRefused::Arity)),
-        (b"1 a[x,y]", Err(LineRefused::Arity)),
-        (b"1 a[x]:(p,on)", Err(LineRefused::Arity)),
-        (b"1 v[x]", Err(LineRefused::Arity)),
-        (b"1 v:(p,up)", Err(LineRefused::Arity)),
+        (b"1 a", Err(NameRefused::Arity)),
+        (b"1 a[x,y]", Err(NameRefused::Arity)),
+        (b"1 a[x]:(p,on)", Err(NameRefused::Arity)),
+        (b"1 v[x]", Err(NameRefused::Arity)),
+        (b"1 v:(p,up)", Err(NameRefused::Arity)),
         (b"1 v[x]:(up,on)", Ok(Known::Name(1, v))),
-        (b"1 v[x]:(on,up)", Err(LineRefused::Value)),
-        (b"1 v[x]:(on,z)", Err(LineRefused::Value)),
+        (b"1 v[x]:(on,up)", Err(NameRefused::Value)),
+        (b"1 v[x]:(on,z)", Err(NameRefused::Value)),
         (b"1 w:(p,q)", Ok(Known::Name(2, w))),
     ] {
         let Ok(Item::Event(raw)) = read_item(rt.alloc(), line, &mut Vec::new(rt.alloc())) else {
@@ -217,7 +217,7 @@ fn names_are_known(rt: HostRuntime) -> Result<(), Fail> {
 #[test]
 fn entries_add_their_texts(rt: HostRuntime) -> Result<(), Fail> {
     // how many symbols the table may hold, and how many it holds then
-    for (limit, want) in [(4, Ok(4)), (3, Err(LineRefused::Values { limit: 3 }))] {
+    for (limit, want) in [(4, Ok(4)), (3, Err(EntryRefused::Values { limit: 3 }))] {
         let mut symbols = Symbols::new(rt.alloc(), limit)?;
         let _ = symbols.intern(b"v")?;
         let line = b" 7 v [ x,y , x ] : ( y,on )";

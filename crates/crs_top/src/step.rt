@@ -17,8 +17,8 @@ use crate::answer::push_answer;
 use crate::session::Session;
 use crs_base::{Steps, Sym, Token};
 use crs_engine::Refused;
-use crs_log::naming::known;
-use crs_log::{Item, Known, Line, LineRefused, Raw, make_named, read_item};
+use crs_log::naming::{NameRefused, known};
+use crs_log::{EntryRefused, Item, ItemRefused, Known, Line, Raw, make_named, read_item};
 use crs_report::{Fault, push_refusal_line};
 use std::alloc::{AllocError, Global};
 use std::marker::Brand;
@@ -124,10 +124,10 @@ fn accept_event(
     let arrival = session.engine.accepted();
     let entry = match make_named(alloc, line, raw, name, arrival, &mut session.symbols) {
         Ok(entry) => entry,
-        Err(LineRefused::Values { limit }) => {
+        Err(EntryRefused::Values { limit }) => {
             return refuse(session, number, Fault::Values { limit }, out);
         }
-        Err(_) => return Err(AllocError),
+        Err(EntryRefused::Memory) => return Err(AllocError),
     };
     match session.engine.accept(entry) {
         Ok(()) => Ok(()),
@@ -160,8 +160,8 @@ fn take_event(
     match known(line, raw, &session.engine.plans().names, &session.symbols) {
         Ok(Known::Name(_, name)) => { accept_event(alloc, session, number, line, raw, name, out) }
         Ok(Known::Other) => Ok(()),
-        Err(LineRefused::Arity) => refuse(session, number, Fault::Arity, out),
-        Err(_) => refuse(session, number, Fault::Value, out),
+        Err(NameRefused::Arity) => refuse(session, number, Fault::Arity, out),
+        Err(NameRefused::Value) => refuse(session, number, Fault::Value, out),
     }
 }
 
@@ -256,8 +256,8 @@ pub fn take_line(
         Line::Long { number } => refuse(session, number, Fault::Long, out),
         Line::Plain { number, bytes } => match read_item(alloc, bytes, tokens) {
             Ok(item) => take_item(alloc, session, number, bytes, item, out),
-            Err(LineRefused::Form) => refuse(session, number, Fault::Form, out),
-            Err(_) => Err(AllocError),
+            Err(ItemRefused::Form) => refuse(session, number, Fault::Form, out),
+            Err(ItemRefused::Memory) => Err(AllocError),
         },
     }
 }

@@ -8,10 +8,11 @@ ghost use Rattle.crs_base.specs.Entry.{canonical};
 ghost use Rattle.crs_log.specs.Items.{IsItem, Happens};
 ghost use Rattle.crs_log.specs.Known.{new_texts, texts_of, change_texts, entry_of_event};
 
+use super::EntryRefused;
 use super::adding::{are_beyond, intern_all};
 use super::texts::{canonical_text, value_spans};
 use crate::items::parts::span_text;
-use crate::items::{LineRefused, Raw, Span};
+use crate::items::{Raw, Span};
 use crs_base::{Entry, Sym, SymList, Symbols, Text};
 use std::alloc::Global;
 
@@ -66,7 +67,7 @@ pub fn make_named(
     name: Sym,
     arrival: u32,
     symbols: &mut Symbols,
-) -> Result<Entry, LineRefused>
+) -> Result<Entry, EntryRefused>
     requires item { IsItem line.now (Happens (event_seen line.now raw.now)) }
     requires name { IsTextAt symbols.old.texts (text_of line.now raw.now.name) name }
     requires arity { length raw.now.args ≤ 8 }
@@ -78,19 +79,19 @@ pub fn make_named(
     ensures err { IfErr result (IsEntryRefusal symbols.old symbols.new (texts_of (event_seen line.now raw.now))) }
 {
     let Ok(text) = canonical_text(alloc, line, raw) else {
-        return Err(LineRefused::Memory);
+        return Err(EntryRefused::Memory);
     };
     let Ok(spans) = value_spans(alloc, raw) else {
-        return Err(LineRefused::Memory);
+        return Err(EntryRefused::Memory);
     };
     let room = symbols.room();
     if are_beyond(line, spans.as_slice(), symbols, room) {
-        return Err(LineRefused::Values {
+        return Err(EntryRefused::Values {
             limit: symbols.len() + room,
         });
     }
     let Ok(numbers) = intern_all(alloc, line, spans.as_slice(), symbols) else {
-        return Err(LineRefused::Memory);
+        return Err(EntryRefused::Memory);
     };
     Ok(entry_with(arrival, raw, name, numbers.as_slice(), text))
 }
@@ -102,7 +103,7 @@ pub fn make_entry(
     raw: &Raw,
     arrival: u32,
     symbols: &mut Symbols,
-) -> Result<Entry, LineRefused>
+) -> Result<Entry, EntryRefused>
     requires item { IsItem line.now (Happens (event_seen line.now raw.now)) }
     requires name { is_known symbols.old.texts (text_of line.now raw.now.name) ≡ true }
     requires arity { length raw.now.args ≤ 8 }

@@ -5,7 +5,7 @@ ghost use Rattle.crs_log.specs.ItemOf.{statement_of, what_is, what_of};
 
 use super::events::event;
 use super::numbers::lone_number;
-use super::{Item, LineRefused};
+use super::{Item, ItemRefused};
 use crs_base::{Marks, Token, fill_tokens, passed_over, word_bytes};
 use std::alloc::{AllocError, Global};
 
@@ -53,7 +53,7 @@ fn statement(alloc: Global, line: &[u8], tokens: &[Token]) -> Result<Option<Item
 }
 
 /// What a line of at most 4096 bytes is.
-fn read_what(alloc: Global, line: &[u8], tokens: &mut Vec<Token>) -> Result<Item, LineRefused>
+fn read_what(alloc: Global, line: &[u8], tokens: &mut Vec<Token>) -> Result<Item, ItemRefused>
     requires { length line.now ≤ 4096 }
     ensures exact { IfOk result (λ item. what_seen line.now item ≡ what_of line.now) }
     ensures range { IfOk result IsInRange }
@@ -63,21 +63,21 @@ fn read_what(alloc: Global, line: &[u8], tokens: &mut Vec<Token>) -> Result<Item
         return Ok(Item::Blank);
     }
     let Ok(whole) = fill_tokens(line, Marks::Log, tokens) else {
-        return Err(LineRefused::Memory);
+        return Err(ItemRefused::Memory);
     };
     if !whole {
-        return Err(LineRefused::Form);
+        return Err(ItemRefused::Form);
     }
     match statement(alloc, line, tokens.as_slice()) {
         Ok(Some(item)) => Ok(item),
-        Ok(None) => Err(LineRefused::Form),
-        Err(_) => Err(LineRefused::Memory),
+        Ok(None) => Err(ItemRefused::Form),
+        Err(_) => Err(ItemRefused::Memory),
     }
 }
 
 /// The item that a line of at most 4096 bytes is. The vector is room for the line's tokens: what it
 /// holds before does not matter.
-pub fn read_item(alloc: Global, line: &[u8], tokens: &mut Vec<Token>) -> Result<Item, LineRefused>
+pub fn read_item(alloc: Global, line: &[u8], tokens: &mut Vec<Token>) -> Result<Item, ItemRefused>
     requires { length line.now ≤ 4096 }
     ensures item { IfOk result (IsRead line.now) }
     ensures exact { IfOk result (λ item. what_seen line.now item ≡ what_of line.now) }
