@@ -83,5 +83,6 @@ accepted_from seen old x ws view is late put sorted s w stands =
       numbered = numbered_more seen.accepted s w x is so.numbered;
       held = held;
       history = so.history;
+      far_back = so.far_back;
       stores = so.stores;
     }

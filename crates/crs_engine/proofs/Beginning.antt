@@ -1,13 +1,13 @@
 -- The stores of the plans at the start.
-use Rattle.std.proofs.Common.{◌≡◌, ℕ, zero, suc, ◌<◌, ◌≤◌, ◌+◌, List, [], ◌∷◌, ◌++◌, length, map, take, refl, sym, ap, subst, ◌∙◌, arith, get_or, Global}
+use Rattle.std.proofs.Common.{◌≡◌, ℕ, zero, suc, ◌<◌, ◌≤◌, ◌+◌, List, [], ◌∷◌, ◌++◌, length, map, take, refl, sym, ap, subst, ◌∙◌, inl, arith, get_or, Global}
 use Rattle.std.specs.List.{AllByRecursion}
 use Rattle.std.specs.declared.rc.Rc.{Rc}
 use Rattle.std.proofs.lemmas.List.{map-append, take_more}
 use Rattle.std.proofs.Math.Seq.{take-length}
 use Rattle.crs_model.specs.declared.plan.Plan.{Plan}
-use Rattle.crs_history.specs.Histories.{HistoryState}
+use Rattle.crs_history.specs.Histories.{HistoryState, lowest, IsFarBack}
 use Rattle.crs_store.specs.Stores.{StoreState, Stands}
-use Rattle.std.specs.Prelude.{false}
+use Rattle.std.specs.Prelude.{false, ℤ}
 use Rattle.crs_base.specs.declared.symbols.Sym.{Sym}
 use Rattle.crs_base.specs.Entry.{Entry}
 use Rattle.crs_base.proofs.Alls.{all_put}
@@ -51,7 +51,11 @@ pub started_all : (plans : List (Rc Plan Global)) (n : ℕ) (stores : List Store
 started_all plans n stores e h =
     (subst (λ (t : List (Rc Plan Global)). AreStoresOf (planned t) 0 stores) (ap (λ (m : ℕ). take m plans) e ∙ take-length plans) h.of, h.stand)
 
-pub new_stands : (plans : Plans) (stores : List StoreState) (limit : ℕ) → AreStoresOf (plans_of plans) 0 stores → AllByRecursion (λ s. Stands s [] [] [] 0 0) stores → (past : HistoryState) → past.entries ≡ [] → (ws : List (Entry Sym)) → ws ≡ [] →
+all_far : {floor : ℤ} → floor ≡ lowest → (ps : List Plan) → AllByRecursion (λ p. IsFarBack p.reach 0 floor) ps
+all_far e [] = tt
+all_far e (p ∷ ps) = (inl e, all_far e ps)
+
+pub new_stands : (plans : Plans) (stores : List StoreState) (limit : ℕ) → AreStoresOf (plans_of plans) 0 stores → AllByRecursion (λ s. Stands s [] [] [] 0 0) stores → (past : HistoryState) → past ≡ record { entries = []; floor = lowest } → (ws : List (Entry Sym)) → ws ≡ [] →
     StandsFor (record { plans = plans; stores = stores; history = past; waiting = ws; delay = 0; last = 0; horizon = 0; accepted = 0; limit = limit; stopped = false }) [] []
 new_stands plans stores limit of stand past none ws e = record {
   settled_before = tt;
@@ -59,6 +63,7 @@ new_stands plans stores limit of stand past none ws e = record {
   in_order = tt;
   numbered = record { distinct = tt; numbers = λ k. (λ l. absurd (omega arith), λ i. absurd i) };
   held = e;
-  history = none;
+  history = ap (λ (h : HistoryState). h.entries) none;
+  far_back = all_far (ap (λ (h : HistoryState). h.floor) none) (plans_of plans);
   stores = stores_at [] 0 (plans_of plans) 0 stores of stand;
 }

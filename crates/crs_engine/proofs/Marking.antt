@@ -1,8 +1,10 @@
 -- What an engine stands for after a mark, and its answer.
-use Rattle.std.proofs.Common.{◌≡◌, ◌≢◌, ℕ, zero, suc, ◌<◌, ◌≤◌, ◌-◌, ◌^◌, List, [], ◌∷◌, ◌++◌, length, map, refl, sym, ap, subst, ◌∙◌, inl, arith, append_assoc, append-nil, take, drop, Bool}
+use Rattle.std.proofs.Common.{◌≡◌, ◌≢◌, ℕ, zero, suc, ◌<◌, ◌≤◌, ◌-◌, ◌^◌, List, [], ◌∷◌, ◌++◌, length, map, refl, sym, ap, subst, ◌∙◌, inl, inr, arith, append_assoc, append-nil, take, drop, Bool}
 use Rattle.std.specs.List.{AllByRecursion, AllZip}
 use Rattle.std.specs.declared.cmp.Ordering.TheVariants.{Less}
 use Rattle.std.proofs.lemmas.List.{take_all}
+use Rattle.std.proofs.lemmas.Int.{ints}
+use Rattle.std.proofs.Math.Nat.{max-eq_right}
 use Rattle.crs_base.specs.declared.symbols.Sym.{Sym}
 use Rattle.crs_base.specs.Words.{IsIn, Ordered}
 use Rattle.crs_base.specs.Entry.{Entry, entry_cmp, IsInKeyOrder}
@@ -12,66 +14,115 @@ use Rattle.crs_base.proofs.KeyOrder.{in_dates}
 use Rattle.crs_model.specs.declared.plan.Plan.{Plan}
 use Rattle.crs_model.specs.declared.recognition.Mark.{Mark}
 use Rattle.crs_model.specs.declared.recognition.Recognition.{Recognition}
-use Rattle.crs_model.specs.Matching.{Assignment, AreDistinct}
-use Rattle.crs_model.specs.Open.{IsRecognised, before}
+use Rattle.crs_model.specs.Matching.{AreDistinct}
+use Rattle.crs_model.specs.Steps.{IsFresh}
+use Rattle.crs_model.specs.Open.{IsNew, before}
 use Rattle.crs_model.specs.Order.{Lists, assignment_cmp}
 use Rattle.crs_model.specs.Plans.{chronicle}
 use Rattle.crs_model.specs.Seen.{assignment_of}
 use Rattle.crs_store.specs.Stores.{StoreState, Stands}
 use Rattle.crs_store.specs.Answers.{IsAnswer, IsMarked}
-use Rattle.std.specs.Prelude.{ℤ, pos, ◌≤ℤ◌, false, Result, Ok, Err, IfOk, OnOk}
-use Rattle.crs_history.specs.Histories.{HistoryState}
+use Rattle.std.specs.Prelude.{ℤ, pos, ◌≤ℤ◌, false, Option, Some, None, Result, Ok, Err, IfOk, OnOk}
+use Rattle.crs_history.specs.Histories.{HistoryState, IsFarBack, StandsFor as HistoryStandsFor}
 use Rattle.crs_model.specs.Models.{Chronicle}
 use Rattle.crs_engine.specs.declared.refused.Refused.{Refused}
 use Rattle.crs_engine.specs.Engines.{HasMoved, EngineState, StandsFor, HaveNumbersBelow, IsStoreAt, AreStoresOf, IsWaiting, IsEngine, plans_of, since}
 use Rattle.crs_engine.specs.Marks.{ListsNew, ListsAllNew, AfterMark}
-use Rattle.crs_engine.specs.Moves.{AreSameStores, AreOffered, AreOfferedAll, AreAdvanced, AreMarked, IsRestOf}
+use Rattle.crs_engine.specs.Moves.{AreSameStores, AreOffered, HasPut, AreOfferedAll, AreAdvanced, AreMarked, IsRestOf}
 use Rattle.crs_engine.proofs.Order.{ordered_left, ordered_right, ordered_cross, before_parts, since_parts}
 
 abbrev pub AllStand : List StoreState → List (Entry Sym) → List (Entry Sym) → ℕ → ℕ → Type 0
 AllStand ss was pool d g = AllByRecursion (λ s. Stands s was pool pool d g) ss
 
+abbrev pub AllFar : List StoreState → ℕ → ℤ → Type 0
+AllFar ss g floor = AllByRecursion (λ s. IsFarBack s.plan.reach g floor) ss
+
+-- ---- the history goes far enough back
+
+far_later : (reach : Option ℤ) (g h : ℕ) (floor : ℤ) → g ≤ h → IsFarBack reach g floor → IsFarBack reach h floor
+far_later reach g h floor l (inl e) = inl e
+far_later None g h floor l (inr k) = absurd k
+far_later (Some r) g h floor l (inr k) = inr (omega (arith, ints))
+
+plans_later : (g h : ℕ) (floor : ℤ) → g ≤ h → (ps : List Plan) → AllByRecursion (λ p. IsFarBack p.reach g floor) ps → AllByRecursion (λ p. IsFarBack p.reach h floor) ps
+plans_later g h floor l [] k = tt
+plans_later g h floor l (p ∷ ps) k = (far_later p.reach g h floor l k.0, plans_later g h floor l ps k.1)
+
+stores_far : (g : ℕ) (floor : ℤ) (ps : List Plan) (n : ℕ) (ss : List StoreState) → AreStoresOf ps n ss → AllByRecursion (λ p. IsFarBack p.reach g floor) ps → AllFar ss g floor
+stores_far g floor [] n [] of k = tt
+stores_far g floor [] n (s ∷ ss) of k = absurd of
+stores_far g floor (p ∷ ps) n [] of k = absurd of
+stores_far g floor (p ∷ ps) n (s ∷ ss) of k = (subst (λ (q : Plan). IsFarBack q.reach g floor) (sym of.0) k.0, stores_far g floor ps (suc n) ss of.2 k.1)
+
+same_far : (g : ℕ) (floor : ℤ) (olds news : List StoreState) → AreSameStores olds news → AllFar olds g floor → AllFar news g floor
+same_far g floor [] [] s k = tt
+same_far g floor [] (n ∷ news) s k = absurd s
+same_far g floor (o ∷ olds) [] s k = absurd s
+same_far g floor (o ∷ olds) (n ∷ news) s k = (subst (λ (q : Plan). IsFarBack q.reach g floor) (sym (s.0).plan) k.0, same_far g floor olds news s.1 k.1)
+
 -- ---- offered
 
-offered_one : (olds news : List StoreState) (x : Entry Sym) (was pool : List (Entry Sym)) (d g : ℕ) → AllStand olds was pool d g → AreOffered olds x news → ((e : Entry Sym) → IsIn e pool → e.arrival ≢ x.arrival) → d ≤ x.date → AllStand news was (pool ++ x ∷ []) x.date g
-offered_one [] [] x was pool d g h k fresh later = tt
-offered_one [] (n ∷ news) x was pool d g h k fresh later = absurd k
-offered_one (o ∷ olds) [] x was pool d g h k fresh later = absurd k
-offered_one (o ∷ olds) (n ∷ news) x was pool d g h k fresh later = (k.0 was pool pool d g h.0 fresh later, offered_one olds news x was pool d g h.1 k.1 fresh later)
+offered_one : (olds news : List StoreState) (put : HistoryState) (x : Entry Sym) (was pool : List (Entry Sym)) (d g : ℕ) → AllStand olds was pool d g → AreOffered olds put x news → HistoryStandsFor (pool ++ x ∷ []) put → AllFar olds g put.floor → IsFresh pool x → d ≤ x.date →
+    AllStand news was (pool ++ x ∷ []) x.date g
+offered_one [] [] put x was pool d g h k kept far fresh later = tt
+offered_one [] (n ∷ news) put x was pool d g h k kept far fresh later = absurd k
+offered_one (o ∷ olds) [] put x was pool d g h k kept far fresh later = absurd k
+offered_one (o ∷ olds) (n ∷ news) put x was pool d g h k kept far fresh later = (k.0 was pool d g h.0 kept far.0 fresh later, offered_one olds news put x was pool d g h.1 k.1 kept far.1 fresh later)
 
-offered_all : (xs : List (Entry Sym)) (olds news : List StoreState) (was pool : List (Entry Sym)) (d g h : ℕ) → AllStand olds was pool d g → AreOfferedAll olds xs news → AreDistinct (pool ++ xs) → AllByRecursion (λ x. d ≤ x.date) xs → Ordered (λ x y. x.date ≤ y.date) xs → d ≤ h → AllByRecursion (λ x. x.date < h) xs →
-    (e : ℕ) × AllStand news was (pool ++ xs) e g × (e ≤ h)
-offered_all [] olds news was pool d g h stand k apart later dates low before_h =
-    (d, subst (λ (t : List (Entry Sym)). AllStand news was t d g) (sym (append-nil pool)) (subst (λ (t : List StoreState). AllStand t was pool d g) (sym k) stand), low)
-offered_all (x ∷ xs) olds news was pool d g h stand k apart later dates low before_h =
+-- the stores and the history stand for what is settled, and the history goes far enough back
+pub record StandTogether (ss : List StoreState) (past : HistoryState) (was pool : List (Entry Sym)) (d g : ℕ) : Type 0 where
+  pub stores : AllStand ss was pool d g
+  pub history : HistoryStandsFor pool past
+  pub far : AllFar ss g past.floor
+
+stand_offered : (olds next : List StoreState) (past put : HistoryState) (x : Entry Sym) (was pool : List (Entry Sym)) (d g : ℕ) → StandTogether olds past was pool d g → HasPut past x put → AreSameStores olds next → AreOffered olds put x next → IsFresh pool x → d ≤ x.date →
+    StandTogether next put was (pool ++ x ∷ []) x.date g
+stand_offered olds next past put x was pool d g stand has same k fresh later =
+    let far : AllFar olds g put.floor = subst (AllFar olds g) (sym has.floor) stand.far in
+    record {
+      stores = offered_one olds next put x was pool d g stand.stores k (has.stands pool stand.history) far fresh later;
+      history = has.stands pool stand.history;
+      far = same_far g put.floor olds next same far;
+    }
+
+offered_all : (xs : List (Entry Sym)) (olds news : List StoreState) (past now : HistoryState) (was pool : List (Entry Sym)) (d g h : ℕ) → StandTogether olds past was pool d g → AreOfferedAll olds past xs news now → AreDistinct (pool ++ xs) → AllByRecursion (λ x. d ≤ x.date) xs → Ordered (λ x y. x.date ≤ y.date) xs → d ≤ h → AllByRecursion (λ x. x.date < h) xs →
+    (e : ℕ) × StandTogether news now was (pool ++ xs) e g × (e ≤ h)
+offered_all [] olds news past now was pool d g h stand k apart later dates low before_h = (
+  d,
+  subst (λ (t : List (Entry Sym)). StandTogether news now was t d g) (sym (append-nil pool))
+      (subst (λ (t : List StoreState). StandTogether t now was pool d g) (sym k.0) (subst (λ (t : HistoryState). StandTogether olds t was pool d g) (sym k.1) stand)),
+  low,
+)
+offered_all (x ∷ xs) olds news past now was pool d g h stand k apart later dates low before_h =
     let next = k.0 in
+    let put = k.1 in
     let joined : (pool ++ x ∷ []) ++ xs ≡ pool ++ x ∷ xs = append_assoc pool (x ∷ []) xs in
-    let one : AllStand next was (pool ++ x ∷ []) x.date g = offered_one olds next x was pool d g stand k.1 (λ e i. ordered_cross (λ a b. a.arrival ≢ b.arrival) pool (x ∷ xs) apart e x i (inl refl)) later.0 in
-    let r = offered_all xs next news was (pool ++ x ∷ []) x.date g h one k.2 (subst AreDistinct (sym joined) apart) dates.0 dates.1 (let b = before_h.0 in omega arith) before_h.1 in
-    (r.0, subst (λ (t : List (Entry Sym)). AllStand news was t r.0 g) joined r.1, r.2)
+    let one = stand_offered olds next past put x was pool d g stand k.2 k.3 k.4 (λ e i. ordered_cross (λ a b. a.arrival ≢ b.arrival) pool (x ∷ xs) apart e x i (inl refl)) later.0 in
+    let r = offered_all xs next news put now was (pool ++ x ∷ []) x.date g h one k.5 (subst AreDistinct (sym joined) apart) dates.0 dates.1 (let b = before_h.0 in omega arith) before_h.1 in
+    (r.0, subst (λ (t : List (Entry Sym)). StandTogether news now was t r.0 g) joined r.1, r.2)
 
 -- ---- advanced
 
-answer_as : (p : Plan) (n : ℕ) (o : StoreState) (mark : Mark) (was pool : List (Entry Sym)) (g h : ℕ) (first : List Recognition) → o.plan ≡ p → o.number ≡ n → before g pool ≡ was → IsAnswer (chronicle o.plan) o.number mark was pool pool g h first → ListsNew (chronicle p) n mark was g pool h first
+answer_as : (p : Plan) (n : ℕ) (o : StoreState) (mark : Mark) (was pool : List (Entry Sym)) (g h : ℕ) (first : List Recognition) → o.plan ≡ p → o.number ≡ n → before g pool ≡ was → IsAnswer (chronicle o.plan) o.number mark was pool pool g h first → ListsNew (chronicle p) n mark was was g pool pool h first
 answer_as p n o mark was pool g h first sp sn sw a =
     let b : IsAnswer (chronicle p) n mark was pool pool g h first = subst (λ (q : Plan). IsAnswer (chronicle q) n mark was pool pool g h first) sp (subst (λ (m : ℕ). IsAnswer (chronicle o.plan) m mark was pool pool g h first) sn a) in
     record {
-      listed = subst (λ (t : List (Entry Sym)). Lists assignment_cmp (λ (b : Assignment Sym). IsRecognised (chronicle p) pool pool h b × (IsRecognised (chronicle p) was t g b → ⊥)) (map assignment_of first)) sw b.listed;
+      listed = subst (λ (t : List (Entry Sym)). Lists assignment_cmp (IsNew (chronicle p) was t g pool pool h) (map assignment_of first)) sw b.listed;
       each = b.each;
     }
 
-module _ (mark : Mark) (was pool : List (Entry Sym)) (d g h : ℕ) (sw : before g pool ≡ was) (apart : AreDistinct pool) (later : d ≤ h) (dated : (e : Entry Sym) → IsIn e pool → e.date < h) (dates : Ordered (λ x y. x.date ≤ y.date) pool) where
-  advanced_all : (ps : List Plan) (n : ℕ) (olds news : List StoreState) (answer : List Recognition) → AreStoresOf ps n olds → AllStand olds was pool d g → AreAdvanced h mark olds news answer → AllStand news pool pool h h × ListsAllNew ps n mark was g pool h answer
-  advanced_all [] n [] news answer of stand k = (subst (λ (t : List StoreState). AllStand t pool pool h h) (sym k.0) tt, k.1)
-  advanced_all [] n (o ∷ olds) news answer of stand k = absurd of
-  advanced_all (p ∷ ps) n [] news answer of stand k = absurd of
-  advanced_all (p ∷ ps) n (o ∷ olds) news answer of stand k =
+module _ (history : HistoryState) (mark : Mark) (was pool : List (Entry Sym)) (d g h : ℕ) (sw : before g pool ≡ was) (kept : HistoryStandsFor pool history) (apart : AreDistinct pool) (later : d ≤ h) (dated : (e : Entry Sym) → IsIn e pool → e.date < h) (dates : Ordered (λ x y. x.date ≤ y.date) pool) where
+  advanced_all : (ps : List Plan) (n : ℕ) (olds news : List StoreState) (answer : List Recognition) → AreStoresOf ps n olds → AllStand olds was pool d g → AllFar olds g history.floor → AreAdvanced history h mark olds news answer → AllStand news pool pool h h × ListsAllNew ps n mark was g pool h answer
+  advanced_all [] n [] news answer of stand far k = (subst (λ (t : List StoreState). AllStand t pool pool h h) (sym k.0) tt, k.1)
+  advanced_all [] n (o ∷ olds) news answer of stand far k = absurd of
+  advanced_all (p ∷ ps) n [] news answer of stand far k = absurd of
+  advanced_all (p ∷ ps) n (o ∷ olds) news answer of stand far k =
       let new_one = k.0 in
       let rest = k.1 in
       let first = k.2 in
       let more = k.3 in
-      let marked : IsMarked o new_one mark was pool pool g h first = k.6 was pool pool d g stand.0 apart later dated dates in
-      let r = advanced_all ps (suc n) olds rest more of.2 stand.1 k.7 in (
+      let marked : IsMarked o new_one mark was pool pool g h first = k.6 was pool pool d g stand.0 kept far.0 apart later dated dates in
+      let r = advanced_all ps (suc n) olds rest more of.2 stand.1 far.1 k.7 in (
         subst (λ (t : List StoreState). AllStand t pool pool h h) (sym k.4) (marked.stands, r.0),
         (first, more, k.5, answer_as p n o mark was pool g h first of.0 of.1 sw marked.answers, r.1),
       )
@@ -100,7 +151,7 @@ stores_at settled h (p ∷ ps) n (s ∷ ss) of stand = ((of.0, stand.0), stores_
 
 -- ---- a mark
 
-module _ (seen new : EngineState) (mark : Mark) (answer : List Recognition) (same_plans : new.plans ≡ seen.plans) (same_count : new.accepted ≡ seen.accepted) (of : AreStoresOf (plans_of seen.plans) 0 seen.stores) (later : seen.horizon ≤ new.horizon)
+module _ (seen new : EngineState) (mark : Mark) (answer : List Recognition) (same_plans : new.plans ≡ seen.plans) (same_count : new.accepted ≡ seen.accepted) (floor : new.history.floor ≡ seen.history.floor) (of : AreStoresOf (plans_of seen.plans) 0 seen.stores) (later : seen.horizon ≤ new.horizon)
     (marked : AreMarked new.horizon mark seen.stores seen.history seen.waiting new.stores new.history new.waiting answer) (same : AreSameStores seen.stores new.stores) (s w : List (Entry Sym)) (stands : StandsFor seen s w) where
   parted : w ≡ (marked.settled).done ++ new.waiting
   parted = sym stands.held ∙ (marked.settled).parted
@@ -132,14 +183,24 @@ module _ (seen new : EngineState) (mark : Mark) (answer : List Recognition) (sam
   all_before : AllByRecursion (λ x. x.date < new.horizon) (s ++ (marked.settled).done)
   all_before = all_append (λ x. x.date < new.horizon) s (marked.settled).done (all_each {P = λ x. x.date < seen.horizon} s (λ x l. omega arith) stands.settled_before) (marked.settled).done_before
 
-  offers : (e : ℕ) × AllStand marked.between s (s ++ (marked.settled).done) e seen.horizon × (e ≤ new.horizon)
-  offers = offered_all (marked.settled).done seen.stores marked.between s s seen.horizon seen.horizon new.horizon (all_stand s seen.horizon (plans_of seen.plans) seen.stores stands.stores) (marked.settled).offered apart done_after
+  together : StandTogether seen.stores seen.history s s seen.horizon seen.horizon
+  together = record {
+    stores = all_stand s seen.horizon (plans_of seen.plans) seen.stores stands.stores;
+    history = stands.history;
+    far = stores_far seen.horizon seen.history.floor (plans_of seen.plans) 0 seen.stores of stands.far_back;
+  }
+
+  offers : (e : ℕ) × StandTogether marked.between new.history s (s ++ (marked.settled).done) e seen.horizon × (e ≤ new.horizon)
+  offers = offered_all (marked.settled).done seen.stores marked.between seen.history new.history s s seen.horizon seen.horizon new.horizon together (marked.settled).offered apart done_after
       (ordered_right (λ x y. x.date ≤ y.date) s (marked.settled).done (in_dates (s ++ (marked.settled).done) up_now)) later (marked.settled).done_before
 
   after : AllStand new.stores (s ++ (marked.settled).done) (s ++ (marked.settled).done) new.horizon new.horizon × ListsAllNew (plans_of seen.plans) 0 mark s seen.horizon (s ++ (marked.settled).done) new.horizon answer
-  after = advanced_all mark s (s ++ (marked.settled).done) offers.0 seen.horizon new.horizon (before_parts seen.horizon s (marked.settled).done stands.settled_before done_after) apart offers.2
+  after = advanced_all new.history mark s (s ++ (marked.settled).done) offers.0 seen.horizon new.horizon (before_parts seen.horizon s (marked.settled).done stands.settled_before done_after) (offers.1).history apart offers.2
       (λ e i. in_from_each (λ x. x.date < new.horizon) (s ++ (marked.settled).done) all_before e i) (in_dates (s ++ (marked.settled).done) up_now)
-      (plans_of seen.plans) 0 marked.between new.stores answer (stores_same (plans_of seen.plans) 0 seen.stores marked.between of (marked.settled).same) offers.1 marked.advanced
+      (plans_of seen.plans) 0 marked.between new.stores answer (stores_same (plans_of seen.plans) 0 seen.stores marked.between of (marked.settled).same) (offers.1).stores (offers.1).far marked.advanced
+
+  far_back : AllByRecursion (λ p. IsFarBack p.reach new.horizon new.history.floor) (plans_of seen.plans)
+  far_back = subst (λ (z : ℤ). AllByRecursion (λ p. IsFarBack p.reach new.horizon z) (plans_of seen.plans)) (sym floor) (plans_later seen.horizon new.horizon seen.history.floor later (plans_of seen.plans) stands.far_back)
 
   stands_parted : StandsFor new (s ++ (marked.settled).done) new.waiting
   stands_parted = record {
@@ -148,7 +209,8 @@ module _ (seen new : EngineState) (mark : Mark) (answer : List Recognition) (sam
     in_order = up;
     numbered = subst (λ (n : ℕ). HaveNumbersBelow n ((s ++ (marked.settled).done) ++ new.waiting)) (sym same_count) numbered;
     held = refl;
-    history = (marked.settled).stands s stands.history;
+    history = (offers.1).history;
+    far_back = subst (λ (ps : List Plan). AllByRecursion (λ p. IsFarBack p.reach new.horizon new.history.floor) ps) (sym (ap plans_of same_plans)) far_back;
     stores = subst (λ (ps : List Plan). AllZip (IsStoreAt (s ++ (marked.settled).done) new.horizon) ps new.stores) (sym (ap plans_of same_plans))
         (stores_at (s ++ (marked.settled).done) new.horizon (plans_of seen.plans) 0 new.stores (stores_same (plans_of seen.plans) 0 seen.stores new.stores of same) after.0);
   }
@@ -202,16 +264,16 @@ engine_on seen news now rest t h stopped is same r low behind order floor settle
   settled = settled;
 }
 
-pub marked_from : (seen old : EngineState) (news : List StoreState) (now : HistoryState) (rest : List (Entry Sym)) (t h : ℕ) (stopped : Bool) (mark : Mark) (answer : List Recognition) → seen ≡ old → IsEngine seen → seen.horizon ≤ h → AreMarked h mark seen.stores seen.history seen.waiting news now rest answer → AreSameStores seen.stores news →
+pub marked_from : (seen old : EngineState) (news : List StoreState) (now : HistoryState) (rest : List (Entry Sym)) (t h : ℕ) (stopped : Bool) (mark : Mark) (answer : List Recognition) → seen ≡ old → IsEngine seen → seen.horizon ≤ h → AreMarked h mark seen.stores seen.history seen.waiting news now rest answer → AreSameStores seen.stores news → now.floor ≡ seen.history.floor →
     (s w : List (Entry Sym)) → StandsFor old s w → AfterMark old (record { plans = seen.plans; stores = news; history = now; waiting = rest; delay = seen.delay; last = t; horizon = h; accepted = seen.accepted; limit = seen.limit; stopped = stopped }) mark s w answer
-marked_from seen old news now rest t h stopped mark answer view is later marked same s w stands =
+marked_from seen old news now rest t h stopped mark answer view is later marked same floor s w stands =
     let new : EngineState = record { plans = seen.plans; stores = news; history = now; waiting = rest; delay = seen.delay; last = t; horizon = h; accepted = seen.accepted; limit = seen.limit; stopped = stopped } in
     subst (λ (o : EngineState). AfterMark o new mark s w answer) view
-    (after_mark seen new mark answer refl refl is.stores later marked same s w (subst (λ (o : EngineState). StandsFor o s w) (sym view) stands))
+    (after_mark seen new mark answer refl refl floor is.stores later marked same s w (subst (λ (o : EngineState). StandsFor o s w) (sym view) stands))
 
 -- ---- the end again
 
-none_newly : (c : Chronicle Sym) (n : ℕ) (mark : Mark) (s : List (Entry Sym)) (h : ℕ) (answer : List Recognition) → ListsNew c n mark s h s h answer → answer ≡ []
+none_newly : (c : Chronicle Sym) (n : ℕ) (mark : Mark) (s : List (Entry Sym)) (h : ℕ) (answer : List Recognition) → ListsNew c n mark s s h s s h answer → answer ≡ []
 none_newly c n mark s h [] l = refl
 none_newly c n mark s h (r ∷ answer) l = let k = (l.listed).each in absurd ((k.0).1 (k.0).0)
 
@@ -234,7 +296,7 @@ end_again old new small at now mark s w answer stands m =
 
 pub again_by : (r : Result (List Recognition) Refused) (seen old new : EngineState) (mark : Mark) → seen ≡ old → IsEngine seen → OnOk r (HasMoved old new (2 ^ 42) (2 ^ 42)) → IfOk r (λ a. (s w : List (Entry Sym)) → StandsFor old s w → AfterMark old new mark s w a) → old.horizon ≡ 2 ^ 42 → IfOk r (λ a. (s w : List (Entry Sym)) → StandsFor old s w → a ≡ [])
 again_by (Ok a) seen old new mark view is moved marked at = λ s w stands.
-    end_again old new (subst (λ (o : EngineState). AllByRecursion (IsWaiting o.accepted) o.waiting) view is.waiting) at moved.moved mark s w a stands (marked s w stands)
+    end_again old new (subst (λ (o : EngineState). AllByRecursion (IsWaiting o.accepted) o.waiting) view is.waiting) at (moved.moved ∙ max-eq_right (let e = at in omega arith)) mark s w a stands (marked s w stands)
 again_by (Err e) seen old new mark view is moved marked at = tt
 
 -- a delay changes nothing of what an engine stands for
@@ -242,4 +304,8 @@ pub delayed : (seen old : EngineState) (d : ℕ) → seen ≡ old → (s w : Lis
     StandsFor (record { plans = seen.plans; stores = seen.stores; history = seen.history; waiting = seen.waiting; delay = d; last = seen.last; horizon = seen.horizon; accepted = seen.accepted; limit = seen.limit; stopped = seen.stopped }) s w
 delayed seen old d view s w stands =
     let so : StandsFor seen s w = subst (λ (o : EngineState). StandsFor o s w) (sym view) stands in
-    record { settled_before = so.settled_before; waiting_after = so.waiting_after; in_order = so.in_order; numbered = so.numbered; held = so.held; history = so.history; stores = so.stores }
+    record { settled_before = so.settled_before; waiting_after = so.waiting_after; in_order = so.in_order; numbered = so.numbered; held = so.held; history = so.history; far_back = so.far_back; stores = so.stores }
+
+-- the horizon moves where that is forward
+pub moved_forward : (old new : EngineState) (t h : ℕ) → HasMoved old new t h → old.horizon ≤ h → new.horizon ≡ h
+moved_forward old new t h m l = m.moved ∙ max-eq_right l

@@ -14,24 +14,31 @@ use Rattle.crs_buffer.specs.Entries.{released, left}
 use Rattle.crs_history.specs.Histories.{HistoryState, EndsWith, IsAfterAll, StandsFor}
 use Rattle.crs_store.specs.Stores.{StoreState, IsSameStore}
 use Rattle.crs_store.specs.Answers.{IsAdvanced}
-use Rattle.crs_engine.specs.Moves.{AreSameStores, AreOffered, AreOfferedAll, AreSettled, IsRestOf, AreAdvanced}
+use Rattle.crs_engine.specs.Moves.{AreSameStores, AreOffered, HasPut, AreOfferedAll, AreSettled, IsRestOf, AreAdvanced}
 use Rattle.crs_engine.proofs.Order.{ordered_cross, ordered_without}
 
 pub same_all : (ss : List StoreState) → AreSameStores ss ss
 same_all [] = tt
-same_all (s ∷ ss) = (record { plan = refl; number = refl }, same_all ss)
+same_all (s ∷ ss) = (record { plan = refl; number = refl; focus = refl }, same_all ss)
 
 pub same_on : (xs ys zs : List StoreState) → AreSameStores xs ys → AreSameStores ys zs → AreSameStores xs zs
 same_on [] [] zs h k = k
 same_on [] (y ∷ ys) zs h k = absurd h
 same_on (x ∷ xs) [] zs h k = absurd h
 same_on (x ∷ xs) (y ∷ ys) [] h k = absurd k
-same_on (x ∷ xs) (y ∷ ys) (z ∷ zs) h k = (record { plan = (k.0).plan ∙ (h.0).plan; number = (k.0).number ∙ (h.0).number }, same_on xs ys zs h.1 k.1)
+same_on (x ∷ xs) (y ∷ ys) (z ∷ zs) h k = (record { plan = (k.0).plan ∙ (h.0).plan; number = (k.0).number ∙ (h.0).number; focus = (k.0).focus ∙ (h.0).focus }, same_on xs ys zs h.1 k.1)
 
 -- one more entry
-offered_more : (olds : List StoreState) (xs : List (Entry Sym)) (x : Entry Sym) (news next : List StoreState) → AreOfferedAll olds xs news → AreOffered news x next → AreOfferedAll olds (xs ++ x ∷ []) next
-offered_more olds [] x news next h k = (next, subst (λ (t : List StoreState). AreOffered t x next) h k, refl)
-offered_more olds (y ∷ xs) x news next h k = (h.0, h.1, offered_more h.0 xs x news next h.2 k)
+offered_more : (olds : List StoreState) (past : HistoryState) (xs : List (Entry Sym)) (x : Entry Sym) (news : List StoreState) (now : HistoryState) (next : List StoreState) (put : HistoryState) → AreOfferedAll olds past xs news now → HasPut now x put → AreSameStores news next → AreOffered news put x next → AreOfferedAll olds past (xs ++ x ∷ []) next put
+offered_more olds past [] x news now next put h p s k = (
+  next,
+  put,
+  subst (λ (t : HistoryState). HasPut t x put) h.1 p,
+  subst (λ (t : List StoreState). AreSameStores t next) h.0 s,
+  subst (λ (t : List StoreState). AreOffered t put x next) h.0 k,
+  (refl, refl),
+)
+offered_more olds past (y ∷ xs) x news now next put h p s k = (h.0, h.1, h.2, h.3, h.4, offered_more h.0 h.1 xs x news now next put h.5 p s k)
 
 abbrev pub IsSmall : Entry Sym → Type 0
 IsSmall x = x.date < 2 ^ 40
@@ -44,10 +51,9 @@ pub record AreSettledSoFar (olds : List StoreState) (past : HistoryState) (held 
   pub parted : held ≡ done ++ rest
   pub done_before : AllByRecursion (λ x. x.date < h) done
   pub kept : now.entries ≡ past.entries ++ done
-  pub stands : (es : List (Entry Sym)) → StandsFor es past → StandsFor (es ++ done) now
   pub order : IsInKeyOrder (now.entries ++ rest)
   pub floor : now.floor ≡ past.floor
-  pub offered : AreOfferedAll olds done news
+  pub offered : AreOfferedAll olds past done news now
 
 pub settled_none : (olds : List StoreState) (past : HistoryState) (held : List (Entry Sym)) (h : ℕ) → AllByRecursion IsSmall held → IsInKeyOrder (past.entries ++ held) → AreSettledSoFar olds past held h olds past held
 settled_none olds past held h small order = record {
@@ -57,10 +63,9 @@ settled_none olds past held h small order = record {
   parted = refl;
   done_before = tt;
   kept = sym (append-nil past.entries);
-  stands = λ es k. subst (λ (t : List (Entry Sym)). StandsFor t past) (sym (append-nil es)) k;
   order = order;
   floor = refl;
-  offered = refl;
+  offered = (refl, refl);
 }
 
 -- an entry comes out where it is the first, and dated before h
@@ -118,12 +123,13 @@ module _ (olds : List StoreState) (past : HistoryState) (held : List (Entry Sym)
     floor_with = ap (λ (t : HistoryState). t.floor) is ∙ so.floor
 
     module _ (stands_on : (es : List (Entry Sym)) → StandsFor es now → StandsFor (es ++ y ∷ []) pushed) where
-      stands_with : (es : List (Entry Sym)) → StandsFor es past → StandsFor (es ++ (so.done ++ x ∷ [])) pushed
-      stands_with es k =
-          subst (λ (t : List (Entry Sym)). StandsFor t pushed) (append_assoc es so.done (x ∷ []))
-          (subst (λ (t : Entry Sym). StandsFor ((es ++ so.done) ++ t ∷ []) pushed) same_entry (stands_on (es ++ so.done) (so.stands es k)))
+      put_last : HasPut now x pushed
+      put_last = record {
+        floor = ap (λ (t : HistoryState). t.floor) is;
+        stands = λ es k. subst (λ (t : Entry Sym). StandsFor (es ++ t ∷ []) pushed) same_entry (stands_on es k);
+      }
 
-      pub settled_on : (next : List StoreState) → AreSameStores news next → AreOffered news x next → AreSettledSoFar olds past held h next pushed after
+      pub settled_on : (next : List StoreState) → AreSameStores news next → AreOffered news pushed x next → AreSettledSoFar olds past held h next pushed after
       settled_on next same offered = record {
         same = same_on olds news next so.same same;
         small = (subst (AllByRecursion IsSmall) cut so.small).1;
@@ -131,10 +137,9 @@ module _ (olds : List StoreState) (past : HistoryState) (held : List (Entry Sym)
         parted = parted_more;
         done_before = all_put (λ y. y.date < h) so.done x so.done_before (came_out rest h x e).1;
         kept = entries_are ∙ ap (λ (t : List (Entry Sym)). t ++ x ∷ []) so.kept ∙ append_assoc past.entries so.done (x ∷ []);
-        stands = stands_with;
         order = order_with;
         floor = floor_with;
-        offered = offered_more olds so.done x news next so.offered offered;
+        offered = offered_more olds past so.done x news now next pushed so.offered put_last same offered;
       }
 
   pub rest_of : IsRestOf held after
@@ -147,7 +152,7 @@ module _ (olds : List StoreState) (past : HistoryState) (held : List (Entry Sym)
   pub settled_all : AllByRecursion (λ x. h ≤ x.date) rest → AreSettled olds past held h news now after
   settled_all late =
       subst (λ (t : List (Entry Sym)). AreSettled olds past held h news now t) (sym all_left)
-      (record { same = so.same; done = so.done; parted = so.parted; done_before = so.done_before; rest_after = late; kept = so.kept; stands = so.stands; offered = so.offered })
+      (record { same = so.same; done = so.done; parted = so.parted; done_before = so.done_before; rest_after = late; kept = so.kept; offered = so.offered })
 
   pub rest_after_none : IsRestOf held after
   rest_after_none = (so.done, so.parted ∙ ap (λ (t : List (Entry Sym)). so.done ++ t) (sym all_left))
@@ -160,10 +165,10 @@ module _ (olds : List StoreState) (past : HistoryState) (held : List (Entry Sym)
 pub same_first : (ss : List StoreState) (o n : StoreState) (rest : List StoreState) → ss ≡ o ∷ rest → IsSameStore o n → AreSameStores ss (n ∷ rest)
 same_first ss o n rest e h = subst (λ (t : List StoreState). AreSameStores t (n ∷ rest)) (sym e) (h, same_all rest)
 
-pub advanced_more : (h : ℕ) (mark : Mark) (ss : List StoreState) (o n : StoreState) (rest news : List StoreState) (first was mid new : List Recognition) → ss ≡ o ∷ rest → mid ≡ was ++ first → IsAdvanced o h mark n first → ((more : List Recognition) × (new ≡ mid ++ more) × AreAdvanced h mark rest news more) →
-    (x : List Recognition) × (new ≡ was ++ x) × AreAdvanced h mark ss (n ∷ news) x
-advanced_more h mark ss o n rest news first was mid new e m adv k = (
+pub advanced_more : (history : HistoryState) (h : ℕ) (mark : Mark) (ss : List StoreState) (o n : StoreState) (rest news : List StoreState) (first was mid new : List Recognition) → ss ≡ o ∷ rest → mid ≡ was ++ first → IsAdvanced o history h mark n first → ((more : List Recognition) × (new ≡ mid ++ more) × AreAdvanced history h mark rest news more) →
+    (x : List Recognition) × (new ≡ was ++ x) × AreAdvanced history h mark ss (n ∷ news) x
+advanced_more history h mark ss o n rest news first was mid new e m adv k = (
   first ++ k.0,
   k.1 ∙ ap (λ (t : List Recognition). t ++ k.0) m ∙ append_assoc was first k.0,
-  subst (λ (t : List StoreState). AreAdvanced h mark t (n ∷ news) (first ++ k.0)) (sym e) (n, news, first, k.0, refl, refl, adv, k.2),
+  subst (λ (t : List StoreState). AreAdvanced history h mark t (n ∷ news) (first ++ k.0)) (sym e) (n, news, first, k.0, refl, refl, adv, k.2),
 )

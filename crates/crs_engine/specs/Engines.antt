@@ -1,5 +1,5 @@
 -- Engines, and what they stand for.
-use Rattle.std.specs.Prelude.{◌≡◌, ◌<◌, ◌≤◌, ◌≤ℤ◌, pos, ◌+◌, ◌-◌, ◌^◌, ◌↔◌, ℕ, suc, List, [], ◌∷◌, ◌++◌, map, filter, not, nat_lt, min, sum, length, Bool, false}
+use Rattle.std.specs.Prelude.{◌≡◌, ◌<◌, ◌≤◌, ◌≤ℤ◌, pos, ◌+◌, ◌-◌, ◌^◌, ◌↔◌, ℕ, suc, List, [], ◌∷◌, ◌++◌, map, filter, not, nat_lt, min, max, sum, length, Bool, false}
 use Rattle.std.specs.List.{AllByRecursion, AllZip}
 use Rattle.std.specs.declared.cmp.Ordering.TheVariants.{Less}
 use Rattle.crs_base.specs.declared.symbols.Sym.{Sym}
@@ -8,7 +8,7 @@ use Rattle.crs_base.specs.Entry.{Entry, entry_cmp, IsInKeyOrder}
 use Rattle.crs_model.specs.declared.plan.Plan.{Plan}
 use Rattle.crs_model.specs.declared.plan.Plans.{Plans}
 use Rattle.crs_model.specs.Matching.{AreDistinct}
-use Rattle.crs_history.specs.Histories.{HistoryState, StandsFor as HistoryStandsFor}
+use Rattle.crs_history.specs.Histories.{HistoryState, IsFarBack, StandsFor as HistoryStandsFor}
 use Rattle.crs_store.specs.Stores.{StoreState, Stands}
 
 -- an engine, as contracts see it
@@ -37,11 +37,15 @@ module _ {S : Type 0} where
     pub distinct : AreDistinct entries
     pub numbers : (k : ℕ) → (k < n) ↔ IsIn k (map (λ e. e.arrival) entries)
 
--- a store of the plan that stands for the entries settled at h
-abbrev pub IsStoreAt : List (Entry Sym) → ℕ → Plan → StoreState → Type 0
-IsStoreAt settled h p s = (s.plan ≡ p) × Stands s settled settled settled h h
+-- the entries that the assignments of a plan may take: the settled ones
+abbrev pub pool_of : Plan → List (Entry Sym) → List (Entry Sym)
+pool_of p settled = settled
 
--- The settled entries are dated before the horizon and the waiting ones at or after it. All are in key order, and have the arrival numbers below the count of accepted ones. The buffer holds the waiting ones, and the history and each plan's store stand for the settled ones.
+-- a store of the plan that stands for its pool and for the entries settled at h
+abbrev pub IsStoreAt : List (Entry Sym) → ℕ → Plan → StoreState → Type 0
+IsStoreAt settled h p s = (s.plan ≡ p) × Stands s (pool_of p settled) (pool_of p settled) settled h h
+
+-- The settled entries are dated before the horizon and the waiting ones at or after it. All are in key order, and have the arrival numbers below the count of accepted ones. The buffer holds the waiting ones, the history and each plan's store stand for the settled ones, and the history goes far enough back for each plan.
 pub record StandsFor (e : EngineState) (settled waiting : List (Entry Sym)) : Type 0 where
   pub settled_before : AllByRecursion (λ x. x.date < e.horizon) settled
   pub waiting_after : AllByRecursion (λ x. e.horizon ≤ x.date) waiting
@@ -49,6 +53,7 @@ pub record StandsFor (e : EngineState) (settled waiting : List (Entry Sym)) : Ty
   pub numbered : HaveNumbersBelow e.accepted (settled ++ waiting)
   pub held : e.waiting ≡ waiting
   pub history : HistoryStandsFor settled e.history
+  pub far_back : AllByRecursion (λ p. IsFarBack p.reach e.horizon e.history.floor) (plans_of e.plans)
   pub stores : AllZip (IsStoreAt settled e.horizon) (plans_of e.plans) e.stores
 
 -- how many partial assignments are held, or 2^64 - 1 where there are more
@@ -97,11 +102,11 @@ pub record HasAccepted (old new : EngineState) : Type 0 where
   pub same_horizon : new.horizon ≡ old.horizon
   pub one_more : new.accepted ≡ old.accepted + 1
 
--- the clock moved on to t, and the horizon to h
+-- the clock moved on to t, and the horizon to h where that is the greater
 pub record HasMoved (old new : EngineState) (t h : ℕ) : Type 0 where
   pub same_plans : new.plans ≡ old.plans
   pub same_limit : new.limit ≡ old.limit
   pub same_delay : new.delay ≡ old.delay
   pub same_count : new.accepted ≡ old.accepted
   pub clock : new.last ≡ t
-  pub moved : new.horizon ≡ h
+  pub moved : new.horizon ≡ max old.horizon h

@@ -7,28 +7,24 @@ use Rattle.crs_model.specs.declared.plan.Plan.{Plan}
 use Rattle.crs_model.specs.declared.recognition.Mark.{Mark}
 use Rattle.crs_model.specs.declared.recognition.Recognition.{Recognition}
 use Rattle.crs_model.specs.Models.{Chronicle}
-use Rattle.crs_model.specs.Matching.{Assignment}
-use Rattle.crs_model.specs.Open.{IsRecognised, before}
+use Rattle.crs_model.specs.Open.{IsNew, before}
 use Rattle.crs_model.specs.Order.{Lists, assignment_cmp}
 use Rattle.crs_model.specs.Plans.{chronicle}
 use Rattle.crs_model.specs.Seen.{assignment_of}
 use Rattle.crs_store.specs.Answers.{IsRecognitionOf}
-use Rattle.crs_engine.specs.Engines.{EngineState, StandsFor, plans_of, since}
+use Rattle.crs_engine.specs.Engines.{EngineState, StandsFor, plans_of, pool_of, since}
 
--- recognised over the entries settled now at h, and not over those settled before at g
-abbrev pub IsNewly : Chronicle Sym → List (Entry Sym) → ℕ → List (Entry Sym) → ℕ → Assignment Sym → Type 0
-IsNewly c was g now h b = IsRecognised c now now h b × (IsRecognised c was was g b → ⊥)
-
--- What a mark answers of a chronicle: exactly the newly recognised assignments, ascending by the lists of their entries' keys, each with the chronicle's number, the mark, an entry for each event and a symbol for each variable.
-pub record ListsNew (c : Chronicle Sym) (number : ℕ) (mark : Mark) (was : List (Entry Sym)) (g : ℕ) (now : List (Entry Sym)) (h : ℕ) (answer : List Recognition) : Type 0 where
-  pub listed : Lists assignment_cmp (IsNewly c was g now h) (map assignment_of answer)
+-- What a mark answers of a chronicle: exactly the newly recognised assignments, ascending by the lists of their entries' keys, each with the chronicle's number, the mark, an entry for each event and a symbol for each variable. Its pool and the settled entries were those at g, and are these at h.
+pub record ListsNew (c : Chronicle Sym) (number : ℕ) (mark : Mark) (was_pool was : List (Entry Sym)) (g : ℕ) (pool now : List (Entry Sym)) (h : ℕ) (answer : List Recognition) : Type 0 where
+  pub listed : Lists assignment_cmp (IsNew c was_pool was g pool now h) (map assignment_of answer)
   pub each : AllByRecursion (IsRecognitionOf c number mark) answer
 
 -- one chronicle after another in file order, the first of which has the number n
 abbrev pub ListsAllNew : List Plan → ℕ → Mark → List (Entry Sym) → ℕ → List (Entry Sym) → ℕ → List Recognition → Type 0
 ListsAllNew [] n mark was g now h answer = answer ≡ []
 ListsAllNew (p ∷ ps) n mark was g now h answer =
-    (first : List Recognition) × (rest : List Recognition) × (answer ≡ first ++ rest) × ListsNew (chronicle p) n mark was g now h first × ListsAllNew ps (suc n) mark was g now h rest
+    (first : List Recognition) × (rest : List Recognition) × (answer ≡ first ++ rest)
+    × ListsNew (chronicle p) n mark (pool_of p was) was g (pool_of p now) now h first × ListsAllNew ps (suc n) mark was g now h rest
 
 -- after a mark: the engine stands for the two lists parted at its new horizon, and the answer has what is new
 pub record AfterMark (old new : EngineState) (mark : Mark) (settled waiting : List (Entry Sym)) (answer : List Recognition) : Type 0 where

@@ -12,14 +12,20 @@ use Rattle.crs_store.specs.Answers.{IsAdvanced}
 abbrev pub AreSameStores : List StoreState → List StoreState → Type 0
 AreSameStores olds news = AllZip IsSameStore olds news
 
--- each was offered x
-abbrev pub AreOffered : List StoreState → Entry Sym → List StoreState → Type 0
-AreOffered olds x news = AllZip (λ o n. IsOffered o x n) olds news
+-- each was offered x, which the history has as its last
+abbrev pub AreOffered : List StoreState → HistoryState → Entry Sym → List StoreState → Type 0
+AreOffered olds history x news = AllZip (λ o n. IsOffered o history x n) olds news
 
--- each was offered each entry in turn
-abbrev pub AreOfferedAll : List StoreState → List (Entry Sym) → List StoreState → Type 0
-AreOfferedAll olds [] news = news ≡ olds
-AreOfferedAll olds (x ∷ xs) news = (next : List StoreState) × AreOffered olds x next × AreOfferedAll next xs news
+-- x was put last in the history
+pub record HasPut (past : HistoryState) (x : Entry Sym) (now : HistoryState) : Type 0 where
+  pub floor : now.floor ≡ past.floor
+  pub stands : (es : List (Entry Sym)) → StandsFor es past → StandsFor (es ++ x ∷ []) now
+
+-- each entry in turn was put last in the history, and each store was offered it
+abbrev pub AreOfferedAll : List StoreState → HistoryState → List (Entry Sym) → List StoreState → HistoryState → Type 0
+AreOfferedAll olds past [] news now = (news ≡ olds) × (now ≡ past)
+AreOfferedAll olds past (x ∷ xs) news now =
+    (next : List StoreState) × (put : HistoryState) × HasPut past x put × AreSameStores olds next × AreOffered olds put x next × AreOfferedAll next put xs news now
 
 -- the entries dated before h were taken out in turn, put last in the history, and offered; the rest is dated at or after h
 pub record AreSettled (olds : List StoreState) (past : HistoryState) (held : List (Entry Sym)) (h : ℕ) (news : List StoreState) (now : HistoryState) (rest : List (Entry Sym)) : Type 0 where
@@ -29,22 +35,21 @@ pub record AreSettled (olds : List StoreState) (past : HistoryState) (held : Lis
   pub done_before : AllByRecursion (λ x. x.date < h) done
   pub rest_after : AllByRecursion (λ x. h ≤ x.date) rest
   pub kept : now.entries ≡ past.entries ++ done
-  pub stands : (es : List (Entry Sym)) → StandsFor es past → StandsFor (es ++ done) now
-  pub offered : AreOfferedAll olds done news
+  pub offered : AreOfferedAll olds past done news now
 
 -- the rest of the entries
 abbrev pub IsRestOf : List (Entry Sym) → List (Entry Sym) → Type 0
 IsRestOf held rest = (done : List (Entry Sym)) × (held ≡ done ++ rest)
 
 -- each was advanced to h, and the answers stand one after another
-abbrev pub AreAdvanced : ℕ → Mark → List StoreState → List StoreState → List Recognition → Type 0
-AreAdvanced h mark [] news answer = (news ≡ []) × (answer ≡ [])
-AreAdvanced h mark (o ∷ olds) news answer =
+abbrev pub AreAdvanced : HistoryState → ℕ → Mark → List StoreState → List StoreState → List Recognition → Type 0
+AreAdvanced history h mark [] news answer = (news ≡ []) × (answer ≡ [])
+AreAdvanced history h mark (o ∷ olds) news answer =
     (n : StoreState) × (rest : List StoreState) × (first : List Recognition) × (more : List Recognition)
-    × (news ≡ n ∷ rest) × (answer ≡ first ++ more) × IsAdvanced o h mark n first × AreAdvanced h mark olds rest more
+    × (news ≡ n ∷ rest) × (answer ≡ first ++ more) × IsAdvanced o history h mark n first × AreAdvanced history h mark olds rest more
 
 -- the settled entries were offered, and then each store was advanced
 pub record AreMarked (h : ℕ) (mark : Mark) (olds : List StoreState) (past : HistoryState) (held : List (Entry Sym)) (news : List StoreState) (now : HistoryState) (rest : List (Entry Sym)) (answer : List Recognition) : Type 0 where
   pub between : List StoreState
   pub settled : AreSettled olds past held h between now rest
-  pub advanced : AreAdvanced h mark between news answer
+  pub advanced : AreAdvanced now h mark between news answer

@@ -59,7 +59,7 @@ impl Engine {
     /// An engine that accepted nothing, and will accept at most `limit` entries. Without focus every
     /// event counts as of level 0.
     pub fn new(alloc: Global, plans: Plans, focus: bool, limit: u32) -> Result<Engine, AllocError>
-        requires flat { focus ≡ false }
+        requires unfocused { focus ≡ false }
         requires proper { AllByRecursion (λ r. IsProper r.value) plans.plans }
         requires windowless { AllByRecursion (λ r. (chronicle r.value).windows ≡ []) plans.plans }
         requires few { length plans.plans ≤ 64 }
@@ -128,7 +128,6 @@ impl Engine {
         requires small { d < 2 ^ 40 }
         requires none { self.old.accepted ≡ 0 }
         requires no_clock { self.old.last ≡ 0 }
-        requires at_start { self.old.horizon ≡ 0 }
         ensures value { self.new ≡ record self.old { delay = d } }
         ensures stands { (settled : Items (LogEntry Sym)) (waiting : Items (LogEntry Sym)) → StandsFor self.old settled waiting → StandsFor self.new settled waiting }
     {

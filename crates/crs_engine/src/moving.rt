@@ -28,7 +28,7 @@ fn offer_all<L: Ledger>(
     requires last { EndsWith (entry_of entry.now.value) history.now.entries }
     requires date { entry.now.value.date < 2 ^ 40 }
     ensures same { AreSameStores stores.old stores.new }
-    ensures offered { OnOk result (AreOffered stores.old (entry_of entry.now.value) stores.new) }
+    ensures offered { OnOk result (AreOffered stores.old history.now (entry_of entry.now.value) stores.new) }
 {
     match stores.split_first_mut() {
         None => Ok(()),
@@ -85,7 +85,7 @@ fn advance_all(
 ) -> Result<(), NoMemory>
     requires { h ≤ 2 ^ 42 }
     ensures same { AreSameStores stores.old stores.new }
-    ensures advanced { OnOk result ((more : Items Recognition) × (answer.new ≡ answer.old ++ more) × AreAdvanced h mark stores.old stores.new more) }
+    ensures advanced { OnOk result ((more : Items Recognition) × (answer.new ≡ answer.old ++ more) × AreAdvanced history.now h mark stores.old stores.new more) }
 {
     match stores.split_first_mut() {
         None => Ok(()),
@@ -106,7 +106,7 @@ pub(crate) fn advance(
 ) -> Result<List<Recognition>, NoMemory>
     requires { h ≤ 2 ^ 42 }
     ensures same { AreSameStores stores.old stores.new }
-    ensures advanced { IfOk result (AreAdvanced h mark stores.old stores.new) }
+    ensures advanced { IfOk result (AreAdvanced history.now h mark stores.old stores.new) }
 {
     let mut answer = List::new(alloc);
     advance_all(&mut answer, stores, history, h, mark)?;

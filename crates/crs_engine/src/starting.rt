@@ -15,7 +15,7 @@ pub(crate) fn stores_of(
     plans: &[Rc<Plan>],
     focus: bool,
 ) -> Result<Vec<Store>, AllocError>
-    requires flat { focus ≡ false }
+    requires unfocused { focus ≡ false }
     requires proper { AllByRecursion (λ r. IsProper r.value) plans.now }
     requires windowless { AllByRecursion (λ r. (chronicle r.value).windows ≡ []) plans.now }
     requires few { length plans.now ≤ 64 }

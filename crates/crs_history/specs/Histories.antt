@@ -1,5 +1,5 @@
 -- Histories, and for which entries they stand.
-use Rattle.std.specs.Prelude.{◌≡◌, ◌⊎◌, ℤ, pos, ◌≤ℤ◌, ◌-ℤ◌, List, [], ◌∷◌, ◌++◌, map}
+use Rattle.std.specs.Prelude.{◌≡◌, ◌⊎◌, ℕ, ◌^◌, ℤ, pos, neg_ℤ, ◌≤ℤ◌, ◌-ℤ◌, List, [], ◌∷◌, ◌++◌, map, Option, IsSomeAnd}
 use Rattle.std.specs.List.{AllByRecursion}
 use Rattle.std.specs.declared.cmp.Ordering.TheVariants.{Less}
 use Rattle.std.specs.declared.rc.Rc.{Rc}
@@ -15,6 +15,14 @@ use Rattle.crs_base.specs.Values.{Attribute, IsLastChange}
 pub record HistoryState : Type 0 where
   pub entries : List (Entry Sym)
   pub floor : ℤ
+
+-- the floor of a new history, before all entries and all starts of windows
+abbrev pub lowest : ℤ
+lowest = neg_ℤ (pos (2 ^ 45))
+
+-- nothing was forgotten yet, or the floor isn't after g less the reach
+abbrev pub IsFarBack : Option ℤ → ℕ → ℤ → Type 0
+IsFarBack reach g floor = (floor ≡ lowest) ⊎ IsSomeAnd reach (λ r. floor ≤ℤ (pos g -ℤ r))
 
 abbrev pub Shared : Type 0
 Shared = Rc CodeEntry Global

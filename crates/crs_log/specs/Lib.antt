@@ -7,3 +7,4 @@ pub mod Known
 pub mod SeenNames
 pub mod Told
 pub mod Run
+pub mod Recognitions

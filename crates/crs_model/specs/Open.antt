@@ -1,11 +1,10 @@
 -- The open partial assignments, the recognised assignments, and the two together.
-use Rattle.std.specs.Prelude.{◌≡◌, ◌≤◌, ℕ, List, map, Some, filter, nat_lt}
+use Rattle.std.specs.Prelude.{◌≡◌, ◌≤◌, ℕ, List, map, Some, filter, nat_lt, slice_get}
 use Rattle.crs_base.specs.Words.{IsIn, Ordered}
 use Rattle.crs_stn.specs.Bound.{MeetsInPart}
 use Rattle.crs_base.specs.Entry.{Entry}
 use Rattle.crs_model.specs.Models.{Chronicle, Window}
 use Rattle.crs_model.specs.Matching.{Binding, Assignment, IsAssignment}
-use Rattle.std.specs.Prelude.{slice_get}
 use Rattle.crs_model.specs.Partial.{Partial, IsPartial, IsLevelClosed, CanGoOn, dates_of}
 use Rattle.crs_model.specs.Verdicts.{IsMet, IsLost}
 
@@ -28,13 +27,17 @@ module _ {S : Type 0} where
     pub bounds : MeetsInPart c.bounds (dates_of (whole b))
     pub windows : (w : Window S) → IsIn w c.windows → IsMet (slice_get b.values) (whole b) entries h w
 
-  -- recognised over the entries settled now at h, and not over those settled before at g
-  abbrev pub IsNewly : Chronicle S → List (Entry S) → ℕ → List (Entry S) → ℕ → Assignment S → Type 0
-  IsNewly c was g now h b = IsRecognised c now now h b × (IsRecognised c was was g b → ⊥)
+  -- recognised now, over the pool and the entries at h, and not before, over what the pool and the entries were at g
+  abbrev pub IsNew : Chronicle S → List (Entry S) → List (Entry S) → ℕ → List (Entry S) → List (Entry S) → ℕ → Assignment S → Type 0
+  IsNew c was_pool was g pool now h b = IsRecognised c pool now h b × (IsRecognised c was_pool was g b → ⊥)
 
   -- the partial assignment that binds each event as a recognised one does
   abbrev pub IsRecognisedWhole : Chronicle S → List (Entry S) → List (Entry S) → ℕ → Partial S → Type 0
   IsRecognisedWhole c pool entries h a = (b : Assignment S) × (a ≡ whole b) × IsRecognised c pool entries h b
+
+  -- open at h, and not recognised then
+  abbrev pub IsLive : Chronicle S → (ℕ → ℕ) → List (Entry S) → List (Entry S) → ℕ → Partial S → Type 0
+  IsLive c level pool entries h a = IsOpen c level pool entries h a × (IsRecognisedWhole c pool entries h a → ⊥)
 
   -- the entries dated before g
   abbrev pub before : ℕ → List (Entry S) → List (Entry S)

@@ -12,20 +12,21 @@ use Rattle.crs_base.specs.Entry.{Entry}
 use Rattle.crs_model.specs.Matching.{Assignment, AreDistinct}
 use Rattle.crs_model.specs.Partial.{Partial, at}
 use Rattle.crs_model.specs.Plans.{chronicle}
-use Rattle.crs_model.specs.Open.{IsOpen, StandsFor, IsRecognisedWhole, whole}
+use Rattle.crs_model.specs.Open.{IsNew, IsLive, StandsFor, IsRecognisedWhole, before, whole}
 use Rattle.crs_model.specs.Seen.{assignment_of}
 use Rattle.crs_model.specs.Steps.{flat, GoesOn}
 use Rattle.crs_model.specs.Images.{IsImage}
 use Rattle.crs_model.proofs.Offers.{recognised_full}
 use Rattle.crs_model.proofs.Marks.{InDates, marked, new_is_held, same_values}
 use Rattle.crs_instance.specs.Instances.{InstanceState, IsOf}
-use Rattle.crs_store.specs.Stores.{parts, StoreState, Stands, IsStore}
+use Rattle.crs_history.specs.Histories.{HistoryState}
+use Rattle.crs_store.specs.Stores.{parts, StoreState, IsStore, IsSameStore}
 use Rattle.crs_base.specs.Sifted.{Sifts}
 use Rattle.crs_store.specs.Sweeps.{Waits, is_whole, CanWait}
-use Rattle.crs_store.specs.Answers.{IsNew, IsAnswer, IsMarked, IsAdvanced, IsRecognitionOf, IsRecognitionOfOne, AreFoundInOrder}
+use Rattle.crs_store.specs.Answers.{IsAnswer, IsMarked, IsAdvanced, IsRecognitionOf, IsRecognitionOfOne, AreFoundInOrder}
 use Rattle.crs_store.proofs.Forking.{can_be}
 use Rattle.crs_store.proofs.Leaving.{leaves_image}
-use Rattle.crs_store.proofs.Standing.{image_as, open_fine, fine_open}
+use Rattle.crs_store.proofs.Standing.{image_as, open_fine, fine_open, stands_flat, flat_stands}
 use Rattle.crs_store.proofs.Marking.{IsWhole, whole_is_recognised, made_is_recognised, made_is_of}
 use Rattle.crs_store.proofs.Finding.{all_some}
 use Rattle.crs_store.proofs.Ascending.{IsOver, ascending, moved_in, moved_back}
@@ -51,9 +52,9 @@ unwhole [] (y ∷ ys) e = absurd cc
 unwhole (x ∷ xs) [] e = absurd cc
 unwhole (x ∷ xs) (y ∷ ys) e = let s : x ≡ y = cc in let t : map Some xs ≡ map Some ys = cc in (λ i. s i ∷ unwhole xs ys t i)
 
-module _ (old new : StoreState) (is : IsStore old) (mark : Mark) (answer : List Recognition) (h : ℕ) (same : new.plan ≡ old.plan)
+module _ (old new : StoreState) (is : IsStore old) (mark : Mark) (answer : List Recognition) (h : ℕ) (same : IsSameStore old new)
     (found : AreFoundInOrder old.number mark old.held answer) (left : Sifts (CanWait old.plan h) old.held new.held)
-    (was pool entries : List (Entry Sym)) (d g : ℕ) (stands : Stands old was pool entries d g) (apart : AreDistinct pool) (later : d ≤ h) (dated : (e : Entry Sym) → IsIn e entries → e.date < h) (in_dates : InDates entries) where
+    (was pool entries : List (Entry Sym)) (d g : ℕ) (stands : StandsFor (chronicle old.plan) flat (parts old.held) was pool entries d g) (apart : AreDistinct pool) (later : d ≤ h) (dated : (e : Entry Sym) → IsIn e entries → e.date < h) (in_dates : InDates entries) where
   given_held : (a : Partial Sym) → IsIn a (parts old.held) → (e : ℕ) (y : Entry Sym) → at a e ≡ Some y → IsIn y pool
   given_held a i e y j = of_value (at a e) y j ((stands.each a i).0.partial.given e)
     where
@@ -78,7 +79,7 @@ module _ (old new : StoreState) (is : IsStore old) (mark : Mark) (answer : List 
   full_of a rec = elim (bool_of (is_whole a)) [ inl t ↦ t | inr f ↦ (let m = some_missing a f in absurd (recognised_full (chronicle old.plan) pool entries h a m.0 rec m.1 m.2)) ]
 
   abbrev pub LivesOn : Partial Sym → Type 0
-  LivesOn a = IsOpen (chronicle old.plan) flat pool entries h a × (IsRecognisedWhole (chronicle old.plan) pool entries h a → ⊥)
+  LivesOn = IsLive (chronicle old.plan) flat pool entries h
 
   to_lives : (a y : Partial Sym) → IsIn a (parts old.held) → GoesOn (Waits old.plan h) a y → GoesOn LivesOn a y
   to_lives a y i k = (
@@ -113,7 +114,7 @@ module _ (old new : StoreState) (is : IsStore old) (mark : Mark) (answer : List 
   made_full : (r : Recognition) (k : IsIn r found.found) → IsWhole ((one_made r k).0).partial
   made_full r k = let one = one_made r k in all_some_of (one.0).partial (ap is_whole (one.2).entries ∙ all_some (assignment_of r).entries)
 
-  made_new : (r : Recognition) → IsIn r found.found → IsNew (chronicle old.plan) was pool entries g h (assignment_of r)
+  made_new : (r : Recognition) → IsIn r found.found → IsNew (chronicle old.plan) was (before g entries) g pool entries h (assignment_of r)
   made_new r k =
       let one = one_made r k in
       let held = part_held one.0 one.1 in (
@@ -124,7 +125,7 @@ module _ (old new : StoreState) (is : IsStore old) (mark : Mark) (answer : List 
   made_of : (r : Recognition) → IsIn r found.found → IsRecognitionOf (chronicle old.plan) old.number mark r
   made_of r k = let one = one_made r k in made_is_of old.plan is.proper is.windowless one.0 (of_held one.0 one.1) (made_full r k) old.number mark r one.2
 
-  listed_all : (b : Assignment Sym) → IsNew (chronicle old.plan) was pool entries g h b → IsIn b (map assignment_of answer)
+  listed_all : (b : Assignment Sym) → IsNew (chronicle old.plan) was (before g entries) g pool entries h b → IsIn b (map assignment_of answer)
   listed_all b new_one =
       let held : IsIn (whole b) (parts old.held) = new_is_held (chronicle old.plan) is.proper.named flat (parts old.held) was pool entries d g h stands later dated in_dates b new_one.0 new_one.1 in
       let there = (found.are.image stands.distinct).complete (whole b) (whole b) held (refl, full_of (whole b) (b, refl, new_one.0)) in
@@ -136,9 +137,9 @@ module _ (old new : StoreState) (is : IsStore old) (mark : Mark) (answer : List 
   is_answer = record {
     listed = record {
       ascending = ascending pool apart found.found answer (each_from_in (IsOver pool) found.found (λ r k. ((made_new r k).0).assignment.given)) (found.are.image stands.distinct).distinct found.moved found.sorted;
-      each = each_from_in (IsNew (chronicle old.plan) was pool entries g h) (map assignment_of answer) (λ b k.
+      each = each_from_in (IsNew (chronicle old.plan) was (before g entries) g pool entries h) (map assignment_of answer) (λ b k.
           let r = in_map_back assignment_of answer b k in
-          subst (λ (t : Assignment Sym). IsNew (chronicle old.plan) was pool entries g h t) (sym r.2) (made_new r.0 (moved_back found.found answer found.moved r.0 r.1)));
+          subst (λ (t : Assignment Sym). IsNew (chronicle old.plan) was (before g entries) g pool entries h t) (sym r.2) (made_new r.0 (moved_back found.found answer found.moved r.0 r.1)));
       all = listed_all;
     };
     each = each_from_in (IsRecognitionOf (chronicle old.plan) old.number mark) answer (λ r k. made_of r (moved_back found.found answer found.moved r k));
@@ -146,15 +147,16 @@ module _ (old new : StoreState) (is : IsStore old) (mark : Mark) (answer : List 
 
   pub is_marked : IsMarked old new mark was pool entries g h answer
   is_marked = record {
-    stands = subst (λ (p : Plan). StandsFor (chronicle p) flat (parts new.held) pool pool entries h h) (sym same)
-        (marked (chronicle old.plan) is.proper.named flat (parts old.held) was pool entries d g h stands later dated in_dates (parts new.held) (image_as (GoesOn (Waits old.plan h)) (GoesOn LivesOn) (parts old.held) (parts new.held) to_lives from_lives image_left));
+    stands = flat_stands new (same.focus ∙ is.unfocused) pool pool entries h h (subst (λ (p : Plan). StandsFor (chronicle p) flat (parts new.held) pool pool entries h h) (sym same.plan)
+        (marked (chronicle old.plan) is.proper.named flat (parts old.held) was pool entries d g h stands later dated in_dates (parts new.held) (image_as (GoesOn (Waits old.plan h)) (GoesOn LivesOn) (parts old.held) (parts new.held) to_lives from_lives image_left)));
     answers = is_answer;
   }
 
-pub advanced : (old new : StoreState) → IsStore old → (mark : Mark) (answer : List Recognition) (h : ℕ) → new.plan ≡ old.plan → AreFoundInOrder old.number mark old.held answer → Sifts (CanWait old.plan h) old.held new.held → IsAdvanced old h mark new answer
-advanced old new is mark answer h same found left was pool entries d g stands apart later dated in_dates = is_marked old new is mark answer h same found left was pool entries d g stands apart later dated in_dates
+pub advanced : (old new : StoreState) → IsStore old → (history : HistoryState) (mark : Mark) (answer : List Recognition) (h : ℕ) → IsSameStore old new → AreFoundInOrder old.number mark old.held answer → Sifts (CanWait old.plan h) old.held new.held → IsAdvanced old history h mark new answer
+advanced old new is history mark answer h same found left was pool entries d g stands kept far apart later dated in_dates =
+    is_marked old new is mark answer h same found left was pool entries d g (stands_flat old is.unfocused was pool entries d g stands) apart later dated in_dates
 
-pub advanced_from : (seen old new : StoreState) (mark : Mark) (held : List InstanceState) (answer : List Recognition) (h : ℕ) → seen ≡ old → IsStore seen → new.plan ≡ seen.plan → held ≡ seen.held → AreFoundInOrder seen.number mark held answer → Sifts (CanWait seen.plan h) seen.held new.held → IsAdvanced old h mark new answer
-advanced_from seen old new mark held answer h view is same sh found left =
-    subst (λ (o : StoreState). IsAdvanced o h mark new answer) view
-    (advanced seen new is mark answer h same (subst (λ (t : List InstanceState). AreFoundInOrder seen.number mark t answer) sh found) left)
+pub advanced_from : (seen old new : StoreState) (history : HistoryState) (mark : Mark) (held : List InstanceState) (answer : List Recognition) (h : ℕ) → seen ≡ old → IsStore seen → IsSameStore seen new → held ≡ seen.held → AreFoundInOrder seen.number mark held answer → Sifts (CanWait seen.plan h) seen.held new.held → IsAdvanced old history h mark new answer
+advanced_from seen old new history mark held answer h view is same sh found left =
+    subst (λ (o : StoreState). IsAdvanced o history h mark new answer) view
+    (advanced seen new is history mark answer h same (subst (λ (t : List InstanceState). AreFoundInOrder seen.number mark t answer) sh found) left)

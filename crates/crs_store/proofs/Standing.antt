@@ -1,6 +1,6 @@
 -- What a store stands for after a call.
 use Rattle.std.proofs.Common.{◌≡◌, ◌≢◌, ℕ, ◌<◌, ◌≤◌, List, [], ◌∷◌, ◌++◌, length, refl, sym, ap, subst, ◌∙◌, inl, inr, ◌⊎◌, arith, length-set}
-use Rattle.std.specs.Prelude.{Option, Some, None, IfSome, replicate}
+use Rattle.std.specs.Prelude.{Option, Some, None, IfSome, replicate, Bool, false}
 use Rattle.std.proofs.lemmas.Bool.Decides.{eqb_tells}
 use Rattle.std.proofs.lemmas.List.{ext_get_or, length-replicate}
 use Rattle.crs_base.specs.declared.symbols.Sym.{Sym}
@@ -13,6 +13,7 @@ use Rattle.crs_model.specs.Partial.{Partial, at}
 use Rattle.crs_model.specs.Plans.{chronicle, IsProper}
 use Rattle.crs_model.specs.Open.{IsOpen, StandsFor, IsRecognisedWhole, before}
 use Rattle.crs_model.specs.Steps.{flat, GoesOnWith}
+use Rattle.crs_model.specs.Levels.{level_in}
 use Rattle.crs_model.specs.Images.{IsImage}
 use Rattle.crs_model.proofs.Options.{of_some, some_if, cases_of}
 use Rattle.crs_model.proofs.Parts.{put_same, put_other}
@@ -24,7 +25,8 @@ use Rattle.crs_instance.proofs.GoesOn.{root_goes_on}
 use Rattle.crs_instance.proofs.BindAnswers.{get-replicate}
 use Rattle.crs_store.proofs.Forking.{can_be, both}
 use Rattle.crs_store.proofs.Leaving.{leaves_image, leaves_each}
-use Rattle.crs_store.specs.Stores.{parts, AllOf, StoreState, IsStore, IsOffered}
+use Rattle.crs_history.specs.Histories.{HistoryState}
+use Rattle.crs_store.specs.Stores.{parts, AllOf, StoreState, IsStore, Stands, IsSameStore, IsOffered}
 use Rattle.crs_base.specs.Sifted.{Sifts}
 use Rattle.crs_base.proofs.Alls.{all_append}
 use Rattle.crs_store.specs.Sweeps.{IsFine, IsForkOf, IsFree, IsReady, CanStay}
@@ -97,10 +99,19 @@ module _ (plan : Plan) (windowless : (chronicle plan).windows ≡ []) where
         (λ e i. in_append_right pool (x ∷ []) e i)
         (image_as (GoesOnWith (IsFine plan x.date) x) _ held out to_open from_open im)
 
-pub store_offered : (old new : StoreState) (x : Entry Sym) → IsStore old → new.plan ≡ old.plan → (IsReady x (parts old.held) → IsImage (GoesOnWith (IsFine old.plan x.date) x) (parts old.held) (parts new.held)) → IsOffered old x new
-store_offered old new x is same im = λ was pool entries d g stands fresh later.
-    subst (λ (p : Plan). StandsFor (chronicle p) flat (parts new.held) was (pool ++ x ∷ []) (entries ++ x ∷ []) x.date g) (sym same)
-    (stands_offered old.plan is.windowless x (parts old.held) (parts new.held) was pool entries d g stands fresh later (im (ready old.plan is.windowless x (parts old.held) (parts new.held) was pool entries d g stands fresh later)))
+-- without focus all levels are 0
+pub stands_flat : (s : StoreState) → s.focus ≡ false → (was pool entries : List (Entry Sym)) (d g : ℕ) → Stands s was pool entries d g → StandsFor (chronicle s.plan) flat (parts s.held) was pool entries d g
+stands_flat s un was pool entries d g h = subst (λ (b : Bool). StandsFor (chronicle s.plan) (level_in (chronicle s.plan).events b) (parts s.held) was pool entries d g) un h
+
+pub flat_stands : (s : StoreState) → s.focus ≡ false → (was pool entries : List (Entry Sym)) (d g : ℕ) → StandsFor (chronicle s.plan) flat (parts s.held) was pool entries d g → Stands s was pool entries d g
+flat_stands s un was pool entries d g h = subst (λ (b : Bool). StandsFor (chronicle s.plan) (level_in (chronicle s.plan).events b) (parts s.held) was pool entries d g) (sym un) h
+
+pub store_offered : (old new : StoreState) (history : HistoryState) (x : Entry Sym) → IsStore old → IsSameStore old new → (IsReady x (parts old.held) → IsImage (GoesOnWith (IsFine old.plan x.date) x) (parts old.held) (parts new.held)) → IsOffered old history x new
+store_offered old new history x is same im = λ was settled d g h kept far fresh later.
+    let stands = stands_flat old is.unfocused was settled settled d g h in
+    flat_stands new (same.focus ∙ is.unfocused) was (settled ++ x ∷ []) (settled ++ x ∷ []) x.date g
+    (subst (λ (p : Plan). StandsFor (chronicle p) flat (parts new.held) was (settled ++ x ∷ []) (settled ++ x ∷ []) x.date g) (sym same.plan)
+    (stands_offered old.plan is.windowless x (parts old.held) (parts new.held) was settled settled d g stands fresh later (im (ready old.plan is.windowless x (parts old.held) (parts new.held) was settled settled d g stands fresh later))))
 
 -- those that stay, with the forks
 pub taken : (plan : Plan) (d : ℕ) (x : Entry Sym) (held kept more new : List InstanceState) → AllOf plan held → AllOf plan more → Sifts (CanStay plan d) held kept → (IsReady x (parts held) → IsImage (IsForkOf plan d x) (parts held) (parts more)) → new ≡ kept ++ more →
@@ -143,18 +154,19 @@ stands_root plan proper windowless a len is fine =
     by o (inl e) h = e
     by o (inr s) h = absurd (of_some o s.0 (λ y. IsIn y []) s.1 h)
 
-pub offered_from : (seen old new : StoreState) (x : Entry Sym) (p : Plan) → seen ≡ old → IsStore seen → p ≡ seen.plan → new.plan ≡ seen.plan → (IsReady x (parts seen.held) → IsImage (GoesOnWith (IsFine p x.date) x) (parts seen.held) (parts new.held)) → IsOffered old x new
-offered_from seen old new x p view is sp same im =
-    subst (λ (o : StoreState). IsOffered o x new) view
-    (store_offered seen new x is same (subst (λ (t : Plan). IsReady x (parts seen.held) → IsImage (GoesOnWith (IsFine t x.date) x) (parts seen.held) (parts new.held)) sp im))
+pub offered_from : (seen old new : StoreState) (history : HistoryState) (x : Entry Sym) (p : Plan) → seen ≡ old → IsStore seen → p ≡ seen.plan → IsSameStore seen new → (IsReady x (parts seen.held) → IsImage (GoesOnWith (IsFine p x.date) x) (parts seen.held) (parts new.held)) → IsOffered old history x new
+offered_from seen old new history x p view is sp same im =
+    subst (λ (o : StoreState). IsOffered o history x new) view
+    (store_offered seen new history x is same (subst (λ (t : Plan). IsReady x (parts seen.held) → IsImage (GoesOnWith (IsFine t x.date) x) (parts seen.held) (parts new.held)) sp im))
 
 pub root_fine : (plan : Plan) → IsProper plan → (i : InstanceState) → IsOf plan i → i.partial ≡ replicate (length plan.chronicle.events) None → IsFine plan 0 i.partial
 root_fine plan proper i of is =
     let none : Option (Entry Sym) = None in
     (can_be plan i of, root_goes_on plan proper i of (λ e. ap (λ (t : Partial Sym). at t e) is ∙ get-replicate (length plan.chronicle.events) e none))
 
-pub new_stands : (plan : Plan) → IsProper plan → (chronicle plan).windows ≡ [] → (i : InstanceState) → IsOf plan i → i.partial ≡ replicate (length plan.chronicle.events) None → (p : Plan) → p ≡ plan → (held : List InstanceState) → held ≡ i ∷ [] → StandsFor (chronicle p) flat (parts held) [] [] [] 0 0
-new_stands plan proper windowless i of is p sp held sh =
-    subst (λ (q : Plan). StandsFor (chronicle q) flat (parts held) [] [] [] 0 0) (sym sp)
+pub new_stands : (plan : Plan) → IsProper plan → (chronicle plan).windows ≡ [] → (i : InstanceState) → IsOf plan i → i.partial ≡ replicate (length plan.chronicle.events) None → (s : StoreState) → s.plan ≡ plan → s.focus ≡ false → s.held ≡ i ∷ [] → Stands s [] [] [] 0 0
+new_stands plan proper windowless i of is s sp un sh =
+    flat_stands s un [] [] [] 0 0
+    (subst (λ (q : Plan). StandsFor (chronicle q) flat (parts s.held) [] [] [] 0 0) (sym sp)
     (subst (λ (t : List InstanceState). StandsFor (chronicle plan) flat (parts t) [] [] [] 0 0) (sym sh)
-    (stands_root plan proper windowless i.partial (of.len ∙ sym (length-map plan.chronicle.events event_of)) is (root_fine plan proper i of is)))
+    (stands_root plan proper windowless i.partial (of.len ∙ sym (length-map plan.chronicle.events event_of)) is (root_fine plan proper i of is))))

@@ -7,14 +7,15 @@ use Rattle.crs_base.specs.Entry.{Entry}
 use Rattle.crs_model.specs.declared.recognition.Mark.{Mark}
 use Rattle.crs_model.specs.declared.recognition.Recognition.{Recognition}
 use Rattle.crs_model.specs.Models.{Chronicle}
-use Rattle.crs_model.specs.Matching.{Assignment, AreDistinct}
+use Rattle.crs_model.specs.Matching.{AreDistinct}
 use Rattle.crs_model.specs.Images.{IsImage}
 use Rattle.crs_model.specs.Steps.{GoesOn}
 use Rattle.crs_model.specs.Order.{Lists, assignment_cmp}
-use Rattle.crs_model.specs.Open.{IsRecognised, before, whole}
+use Rattle.crs_model.specs.Open.{IsNew, before, whole}
 use Rattle.crs_model.specs.Partial.{Partial}
 use Rattle.crs_model.specs.Plans.{chronicle}
 use Rattle.crs_model.specs.Seen.{assignment_of, given}
+use Rattle.crs_history.specs.Histories.{HistoryState, IsFarBack, StandsFor as HistoryStandsFor}
 use Rattle.crs_instance.specs.Instances.{InstanceState}
 use Rattle.crs_store.specs.Stores.{StoreState, Stands, parts}
 use Rattle.crs_store.specs.Sweeps.{is_whole, IsFull}
@@ -30,13 +31,9 @@ pub record IsRecognitionOf (c : Chronicle Sym) (n : ℕ) (m : Mark) (r : Recogni
   pub binding : r.binding ≡ map Some (given r.binding)
   pub values : length (given r.binding) ≡ length c.variables
 
--- recognised at h over the pool, and not at g over what was the pool then
-abbrev pub IsNew : Chronicle Sym → List (Entry Sym) → List (Entry Sym) → List (Entry Sym) → ℕ → ℕ → Assignment Sym → Type 0
-IsNew c was pool entries g h b = IsRecognised c pool entries h b × (IsRecognised c was (before g entries) g b → ⊥)
-
 -- the answer has exactly the new ones, ascending by the lists of their entries' keys
 pub record IsAnswer (c : Chronicle Sym) (number : ℕ) (mark : Mark) (was pool entries : List (Entry Sym)) (g h : ℕ) (answer : List Recognition) : Type 0 where
-  pub listed : Lists assignment_cmp (IsNew c was pool entries g h) (map assignment_of answer)
+  pub listed : Lists assignment_cmp (IsNew c was (before g entries) g pool entries h) (map assignment_of answer)
   pub each : AllByRecursion (IsRecognitionOf c number mark) answer
 
 -- after a mark whose horizon is h
@@ -44,11 +41,13 @@ pub record IsMarked (old new : StoreState) (mark : Mark) (was pool entries : Lis
   pub stands : Stands new pool pool entries h h
   pub answers : IsAnswer (chronicle old.plan) old.number mark was pool entries g h answer
 
--- where no two entries of the pool have one arrival number, d isn't after h, and the entries are dated before h and stand in the order of their dates
-abbrev pub IsAdvanced : StoreState → ℕ → Mark → StoreState → List Recognition → Type 0
-IsAdvanced old h mark new answer =
-    (was pool entries : List (Entry Sym)) (d g : ℕ) → Stands old was pool entries d g → AreDistinct pool → d ≤ h → ((e : Entry Sym) → IsIn e entries → e.date < h) → Ordered (λ d e. d.date ≤ e.date) entries →
-    IsMarked old new mark was pool entries g h answer
+-- where the history stands for what is settled, which is dated before h and in the order of its dates, no two entries of the pool have one arrival number, and d isn't after h
+abbrev pub IsAdvanced : StoreState → HistoryState → ℕ → Mark → StoreState → List Recognition → Type 0
+IsAdvanced old history h mark new answer =
+    (was pool settled : List (Entry Sym)) (d g : ℕ) → Stands old was pool settled d g →
+    HistoryStandsFor settled history → IsFarBack old.plan.reach g history.floor → AreDistinct pool → d ≤ h →
+    ((e : Entry Sym) → IsIn e settled → e.date < h) → Ordered (λ d e. d.date ≤ e.date) settled →
+    IsMarked old new mark was pool settled g h answer
 
 -- the recognition of a whole instance
 pub record IsRecognitionFrom (n : ℕ) (m : Mark) (i : InstanceState) (r : Recognition) : Type 0 where

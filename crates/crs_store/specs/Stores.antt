@@ -1,20 +1,22 @@
 -- Stores, and what they stand for.
-use Rattle.std.specs.Prelude.{◌≡◌, ◌≢◌, ◌≤◌, ℕ, List, [], ◌∷◌, ◌++◌, map, Bool}
+use Rattle.std.specs.Prelude.{◌≡◌, ◌≤◌, ℕ, List, [], ◌∷◌, ◌++◌, map, Bool, false}
 use Rattle.std.specs.List.{AllByRecursion}
 use Rattle.crs_base.specs.declared.symbols.Sym.{Sym}
-use Rattle.crs_base.specs.Words.{IsIn}
 use Rattle.crs_base.specs.Entry.{Entry}
 use Rattle.crs_model.specs.declared.plan.Plan.{Plan}
 use Rattle.crs_model.specs.Partial.{Partial}
 use Rattle.crs_model.specs.Plans.{chronicle, IsProper}
-use Rattle.crs_model.specs.Steps.{flat}
+use Rattle.crs_model.specs.Steps.{IsFresh}
+use Rattle.crs_model.specs.Levels.{level_in}
 use Rattle.crs_model.specs.Open.{StandsFor}
+use Rattle.crs_history.specs.Histories.{HistoryState, IsFarBack, StandsFor as HistoryStandsFor}
 use Rattle.crs_instance.specs.Instances.{InstanceState, IsOf}
 
 -- a store, as contracts see it
 pub record StoreState : Type 0 where
   pub plan : Plan
   pub number : ℕ
+  pub focus : Bool
   pub held : List InstanceState
   pub stopped : Bool
 
@@ -25,23 +27,30 @@ parts is = map (λ i. i.partial) is
 abbrev pub AllOf : Plan → List InstanceState → Type 0
 AllOf plan is = AllByRecursion (IsOf plan) is
 
--- a store of a proper plan without windows, and instances of the plan
+-- a store of a proper plan without windows and without focus, and instances of the plan
 pub record IsStore (s : StoreState) : Type 0 where
   pub proper : IsProper s.plan
   pub windowless : (chronicle s.plan).windows ≡ []
+  pub unfocused : s.focus ≡ false
   pub instances : AllOf s.plan s.held
 
--- what is held is exactly what can still be recognised and wasn't, all levels being 0
-abbrev pub Stands : StoreState → List (Entry Sym) → List (Entry Sym) → List (Entry Sym) → ℕ → ℕ → Type 0
-Stands s was pool entries d g = StandsFor (chronicle s.plan) flat (parts s.held) was pool entries d g
+-- the level of each event of the plan, as the store reads it
+abbrev pub levels_of : StoreState → ℕ → ℕ
+levels_of s = level_in (chronicle s.plan).events s.focus
 
--- the plan and the number stay
+-- what is held is exactly what can still be recognised and wasn't
+abbrev pub Stands : StoreState → List (Entry Sym) → List (Entry Sym) → List (Entry Sym) → ℕ → ℕ → Type 0
+Stands s was pool entries d g = StandsFor (chronicle s.plan) (levels_of s) (parts s.held) was pool entries d g
+
+-- the plan, the number and the focus stay
 pub record IsSameStore (old new : StoreState) : Type 0 where
   pub plan : new.plan ≡ old.plan
   pub number : new.number ≡ old.number
+  pub focus : new.focus ≡ old.focus
 
--- after the entry x was offered, whose arrival number is new and whose date isn't before d
-abbrev pub IsOffered : StoreState → Entry Sym → StoreState → Type 0
-IsOffered old x new =
-    (was pool entries : List (Entry Sym)) (d g : ℕ) → Stands old was pool entries d g → ((e : Entry Sym) → IsIn e pool → e.arrival ≢ x.arrival) → d ≤ x.date →
-    Stands new was (pool ++ x ∷ []) (entries ++ x ∷ []) x.date g
+-- After x was offered, whose arrival number is new, whose date isn't before d, and which the history has as its last. The pool is what is settled, and g is the horizon of the last mark.
+abbrev pub IsOffered : StoreState → HistoryState → Entry Sym → StoreState → Type 0
+IsOffered old history x new =
+    (was settled : List (Entry Sym)) (d g : ℕ) → Stands old was settled settled d g →
+    HistoryStandsFor (settled ++ x ∷ []) history → IsFarBack old.plan.reach g history.floor → IsFresh settled x → d ≤ x.date →
+    Stands new was (settled ++ x ∷ []) (settled ++ x ∷ []) x.date g

@@ -30,6 +30,7 @@ use std::sync::ledger::Ledger;
 pub struct Store {
     plan: Rc<Plan>,
     number: u32,
+    focus: bool,
     held: Vec<Instance>,
     stopped: bool,
     alloc: Global,
@@ -40,9 +41,9 @@ impl Model for Store {
 
     ghost Value = { StoreState };
 
-    ghost view = { λ s. record { plan = s.plan.value; number = s.number; held = s.held.items; stopped = s.stopped } };
+    ghost view = { λ s. record { plan = s.plan.value; number = s.number; focus = s.focus; held = s.held.items; stopped = s.stopped } };
 
-    ghost invariant = { λ s. IsStore (record { plan = s.plan.value; number = s.number; held = s.held.items; stopped = s.stopped }) };
+    ghost invariant = { λ s. IsStore (record { plan = s.plan.value; number = s.number; focus = s.focus; held = s.held.items; stopped = s.stopped }) };
 }
 
 /// Adds what comes of the instances by the entry, and drops those that it makes hopeless.
@@ -95,13 +96,8 @@ fn list_of(alloc: Global, items: Vec<Recognition>) -> Result<List<Recognition>, 
 impl Store {
     /// A store of the chronicle of this number, counted from 0 in file order. Nothing is bound yet.
     /// Without focus every event counts as of level 0.
-    pub fn new(
-        alloc: Global,
-        plan: Rc<Plan>,
-        number: u32,
-        _focus: bool,
-    ) -> Result<Store, AllocError>
-        requires flat { _focus ≡ false }
+    pub fn new(alloc: Global, plan: Rc<Plan>, number: u32, focus: bool) -> Result<Store, AllocError>
+        requires unfocused { focus ≡ false }
         requires proper { IsProper plan.value }
         requires windowless { (chronicle plan.value).windows ≡ [] }
         ensures plan { IfOk result (λ s. s.plan ≡ plan.value) }
@@ -114,6 +110,7 @@ impl Store {
         Ok(Store {
             plan,
             number,
+            focus,
             held,
             stopped: false,
             alloc,
@@ -124,16 +121,16 @@ impl Store {
     /// which is the last of the history. After `Memory` the store answers only `Stopped`.
     pub fn offer<L: Ledger>(
         &mut self,
-        _history: &History,
+        history: &History,
         entry: &Rc<Entry>,
         steps: &mut Steps<L>,
     ) -> Result<(), StoreRefused>
-        requires last { self.old.stopped ≡ false → EndsWith (entry_of entry.now.value) _history.now.entries }
+        requires last { self.old.stopped ≡ false → EndsWith (entry_of entry.now.value) history.now.entries }
         requires date { entry.now.value.date < 2 ^ 40 }
         ensures stopped { (result ≡ Err Stopped) ↔ IsTrue self.old.stopped }
         ensures raised { IsTrue self.new.stopped ↔ (IsTrue self.old.stopped ⊎ (result ≡ Err Memory)) }
         ensures same { IsSameStore self.old self.new }
-        ensures stands { OnOk result (IsOffered self.old (entry_of entry.now.value) self.new) }
+        ensures stands { OnOk result (IsOffered self.old history.now (entry_of entry.now.value) self.new) }
         ensures cost { steps.new ≤ steps.old + 2 * length self.old.plan.chronicle.events * length self.old.held }
     {
         if self.stopped {
@@ -152,7 +149,7 @@ impl Store {
     /// `Memory` the store answers only `Stopped`.
     pub fn advance(
         &mut self,
-        _history: &History,
+        history: &History,
         h: u64,
         mark: Mark,
     ) -> Result<List<Recognition>, StoreRefused>
@@ -160,7 +157,7 @@ impl Store {
         ensures stopped { (result ≡ Err Stopped) ↔ IsTrue self.old.stopped }
         ensures raised { IsTrue self.new.stopped ↔ (IsTrue self.old.stopped ⊎ (result ≡ Err Memory)) }
         ensures same { IsSameStore self.old self.new }
-        ensures advanced { IfOk result (λ a. IsAdvanced self.old h mark self.new a) }
+        ensures advanced { IfOk result (λ a. IsAdvanced self.old history.now h mark self.new a) }
     {
         if self.stopped {
             return Err(StoreRefused::Stopped);

@@ -15,7 +15,7 @@ use Rattle.crs_model.specs.declared.plan.Plans.{Plans}
 use Rattle.crs_model.specs.declared.recognition.Mark.{Mark}
 use Rattle.crs_model.specs.declared.recognition.Recognition.{Recognition}
 use Rattle.crs_model.specs.Models.{EventDef}
-use Rattle.crs_model.specs.Open.{IsRecognised}
+use Rattle.crs_model.specs.Open.{IsNew, IsRecognised}
 use Rattle.crs_model.specs.Plans.{chronicle, IsProper}
 use Rattle.crs_model.specs.Seen.{assignment_of, given}
 use Rattle.crs_model.specs.Renaming.{text_in, AreKnown, renamed_assignment, IsChronicleOf, IsEntryOf}
@@ -91,8 +91,8 @@ module _ (texts : List (List ℕ)) (distinct : AreDistinct texts) where
     next_from : (number : ℕ) (p : Plan) (ps : List Plan) → StandFrom (p ∷ ps) number → StandFrom ps (suc number)
     next_from number p ps at k = let e : number + suc k ≡ suc number + k = omega arith in subst (λ n. chronicle_at plans n ≡ option_map chronicle (slice_get ps k)) e (at (suc k))
 
-    recognised_of : (p : Plan) (number : ℕ) (answer : List Recognition) → ListsNew (chronicle p) number mark was g now h answer → (r : Recognition) → IsIn r answer → IsRecognised (chronicle p) now now h (assignment_of r)
-    recognised_of p number answer l r i = (in_from_each (λ b. IsRecognised (chronicle p) now now h b × (IsRecognised (chronicle p) was was g b → ⊥)) (map assignment_of answer) l.listed.each (assignment_of r) (in_map assignment_of answer r i)).0
+    recognised_of : (p : Plan) (number : ℕ) (answer : List Recognition) → ListsNew (chronicle p) number mark was was g now now h answer → (r : Recognition) → IsIn r answer → IsRecognised (chronicle p) now now h (assignment_of r)
+    recognised_of p number answer l r i = (in_from_each (IsNew (chronicle p) was was g now now h) (map assignment_of answer) l.listed.each (assignment_of r) (in_map assignment_of answer r i)).0
 
     pub all_printable : (ps : List Plan) (number : ℕ) (answer : List Recognition) → StandFrom ps number → AllByRecursion IsProper ps → AllByRecursion (λ p. IsChronicleOf (HasText texts) (chronicle p)) ps
         → AllByRecursion (λ p. (chronicle p).windows ≡ []) ps → ListsAllNew ps number mark was g now h answer → ArePrintable plans texts answer
@@ -104,7 +104,7 @@ module _ (texts : List (List ℕ)) (distinct : AreDistinct texts) where
 
     pub answer_text : (ps : List Plan) (number : ℕ) (answer : List Recognition) → StandFrom ps number → AllByRecursion IsProper ps → AllByRecursion (λ p. IsChronicleOf (HasText texts) (chronicle p)) ps
         → AllByRecursion (λ p. (chronicle p).windows ≡ []) ps → ListsAllNew ps number mark was g now h answer
-        → IsMarkText (map (chronicle_in texts) ps) mark (entries_in texts was) g (entries_in texts now) h (flat_map (line_in plans texts) answer)
+        → IsMarkText (map (chronicle_in texts) ps) mark (record { settled = entries_in texts was; horizon = g }) (record { settled = entries_in texts now; horizon = h }) (flat_map (line_in plans texts) answer)
     answer_text [] number answer at proper of windows l = ap (flat_map (line_in plans texts)) l
     answer_text (p ∷ ps) number answer at proper of windows l = (
       map (renamed_assignment (text_in texts)) (map assignment_of l.0),

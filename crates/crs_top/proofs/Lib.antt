@@ -12,7 +12,6 @@ pub mod Recognising
 pub mod Completing
 pub mod Preparing
 pub mod OneText
-pub mod Stays
 pub mod Prints
 pub mod Listed
 mod Rows

@@ -7,6 +7,7 @@ use Rattle.crs_model.specs.declared.recognition.Recognition.{Recognition}
 use Rattle.crs_model.specs.declared.recognition.Mark.TheVariants.{Clock, Finish}
 use Rattle.crs_engine.specs.Engines.{EngineState, HasMoved}
 use Rattle.crs_engine.specs.Marks.{AfterMark}
+use Rattle.crs_engine.proofs.Marking.{moved_forward}
 use Rattle.crs_engine.specs.Refusals.{clock_refusal, IsRefusedAs}
 use Rattle.crs_engine.specs.declared.refused.Refused.{Refused}
 use Rattle.crs_engine.specs.declared.refused.Refused.TheVariants.{Stopped, Back, Memory}
@@ -14,7 +15,8 @@ use Rattle.std.proofs.lemmas.Bool.{ltb-false}
 use Rattle.std.specs.Prelude.{if◌then◌else◌}
 use Rattle.crs_log.specs.Items as items
 use Rattle.crs_log.specs.Run as run
-use Rattle.crs_log.specs.Run.{State, Outcome, Marked, after_ordered, settled, horizon_at, end_date}
+use Rattle.crs_log.specs.Run.{State, Outcome, Marked, after_ordered, horizon_at, end_date}
+use Rattle.crs_log.specs.Recognitions.{view_of}
 use Rattle.crs_top.specs.declared.session.Session.{Session}
 use Rattle.crs_top.specs.Session.{IsReached, Represents, Brings, line_in}
 use Rattle.crs_top.specs.Texts.{Frame, setting_of}
@@ -52,17 +54,17 @@ module _ (f : Frame) (x : Session) (s : State) (r : Represents f x s) (new : Eng
   -- a clock brings its mark
   pub clock_brings : (t n : ℕ) (out more : List ℕ) → x.ended ≡ false → t < 2 ^ 40 → nat_lt t x.engine.last ≡ false → HasMoved x.engine new t (t - x.engine.delay)
       → AfterMark x.engine new (Clock t) r.entries.settled r.entries.waiting answer → more ≡ out ++ flat_map (line_in new.plans x.symbols.texts) answer
-      → Brings f x.refused (record x { engine = new }) n (settled s) s.horizon (after_ordered (setting_of f) s (items.Clock t)) out more
+      → Brings f x.refused (record x { engine = new }) n (view_of s) (after_ordered (setting_of f) s (items.Clock t)) out more
   clock_brings t n out more open_ small fine m after written =
       let h : ℕ = horizon_at s t in
       let m' : HasMoved x.engine new t (t - s.delay) = subst (λ (d : ℕ). HasMoved x.engine new t (t - d)) (sym r.delay) m in
       let now : State = record s { last = t; horizon = t - s.delay } in
       let is : (now, Marked (Clock t)) ≡ after_ordered (setting_of f) s (items.Clock t) =
       (λ i. cond (sym (ap (nat_lt t) r.last ∙ fine) i) (s, run.Refused (run.Back t s.last)) (now, Marked (Clock t))) in
-      subst (λ (a : State × Outcome). Brings f x.refused (record x { engine = new }) n (settled s) s.horizon a out more) is (record {
-        state = marked f x s r new (Clock t) answer (t - s.delay) m'.same_plans m'.moved (clock_rises t open_ fine) after t x.ended s.ended r.ended m' going (reached_met t (t - s.delay) s.ended (λ q. refl) (λ q. small));
+      subst (λ (a : State × Outcome). Brings f x.refused (record x { engine = new }) n (view_of s) a out more) is (record {
+        state = marked f x s r new (Clock t) answer (t - s.delay) m'.same_plans (moved_forward x.engine new t (t - s.delay) m' (clock_rises t open_ fine)) (clock_rises t open_ fine) after t x.ended s.ended r.ended m' going (reached_met t (t - s.delay) s.ended (λ q. refl) (λ q. small));
         text = flat_map (line_in new.plans x.symbols.texts) answer;
-        says = mark_text f x s r new (Clock t) answer (t - s.delay) m'.same_plans m'.moved (clock_rises t open_ fine) after;
+        says = mark_text f x s r new (Clock t) answer (t - s.delay) m'.same_plans (moved_forward x.engine new t (t - s.delay) m' (clock_rises t open_ fine)) (clock_rises t open_ fine) after;
         written = written;
         noted = sym (or-false x.refused);
       })
@@ -70,11 +72,11 @@ module _ (f : Frame) (x : Session) (s : State) (r : Represents f x s) (new : Eng
   -- an end brings its mark
   pub end_brings : (n : ℕ) (out more : List ℕ) → x.ended ≡ false → HasMoved x.engine new (2 ^ 42) (2 ^ 42)
       → AfterMark x.engine new Finish r.entries.settled r.entries.waiting answer → more ≡ out ++ flat_map (line_in new.plans x.symbols.texts) answer
-      → Brings f x.refused (record x { engine = new; ended = true }) n (settled s) s.horizon (after_ordered (setting_of f) s items.Finish) out more
+      → Brings f x.refused (record x { engine = new; ended = true }) n (view_of s) (after_ordered (setting_of f) s items.Finish) out more
   end_brings n out more open_ m after written = record {
-    state = marked f x s r new Finish answer (2 ^ 42) m.same_plans m.moved (end_rises open_) after (2 ^ 42) true true refl m going (reached_met (2 ^ 42) (2 ^ 42) true (λ q. absurd (true≢false q)) (λ q. absurd (true≢false q)));
+    state = marked f x s r new Finish answer (2 ^ 42) m.same_plans (moved_forward x.engine new (2 ^ 42) (2 ^ 42) m (end_rises open_)) (end_rises open_) after (2 ^ 42) true true refl m going (reached_met (2 ^ 42) (2 ^ 42) true (λ q. absurd (true≢false q)) (λ q. absurd (true≢false q)));
     text = flat_map (line_in new.plans x.symbols.texts) answer;
-    says = mark_text f x s r new Finish answer (2 ^ 42) m.same_plans m.moved (end_rises open_) after;
+    says = mark_text f x s r new Finish answer (2 ^ 42) m.same_plans (moved_forward x.engine new (2 ^ 42) (2 ^ 42) m (end_rises open_)) (end_rises open_) after;
     written = written;
     noted = sym (or-false x.refused);
   }

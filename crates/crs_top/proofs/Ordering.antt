@@ -12,7 +12,8 @@ use Rattle.crs_log.specs.ItemOf.{What, Empty, Is, Faulty, what_is, item_of}
 use Rattle.crs_log.proofs.ItemLaw.{item_sound}
 use Rattle.crs_log.specs.Items.{Delay}
 use Rattle.crs_log.specs.Run as run
-use Rattle.crs_log.specs.Run.{Setting, State, Outcome, after_what, after_given, is_met, settled}
+use Rattle.crs_log.specs.Run.{Setting, State, Outcome, after_what, after_given, is_met}
+use Rattle.crs_log.specs.Recognitions.{view_of}
 use Rattle.crs_top.specs.declared.session.Session.{Session}
 use Rattle.crs_top.specs.Session.{Represents, Brings, IsUnused, ordered_what, is_blank_what, is_delay_what}
 use Rattle.crs_top.specs.Texts.{Frame, setting_of}
@@ -38,7 +39,7 @@ unused f x s r h =
     record { none = sym r.count ∙ ap length k.0; start = sym r.last ∙ k.1; horizon = sym r.horizon ∙ k.2 }
 
 pub delay_brings : (f : Frame) (x : Session) (s : State) (d n : ℕ) (out : List ℕ) → IsUnused x.engine → Represents f x s
-    → Brings f x.refused (record x { engine = record x.engine { delay = d } }) n (settled s) s.horizon (ordered_what (setting_of f) s (Is (Delay d))) out out
+    → Brings f x.refused (record x { engine = record x.engine { delay = d } }) n (view_of s) (ordered_what (setting_of f) s (Is (Delay d))) out out
 delay_brings f x s d n out u r = record { state = delayed f x s d u r; text = []; says = refl; written = sym (append-nil out); noted = sym (or-false x.refused) }
 
 pub not_faulty : (line : List ℕ) (item : Item) → what_seen line item ≡ Faulty → ⊥

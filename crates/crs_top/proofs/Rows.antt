@@ -13,9 +13,9 @@ use Rattle.crs_model.specs.Models.{EventDef, Chronicle, Message}
 use Rattle.crs_model.specs.Matching.{Binding, Assignment, PatternIs}
 use Rattle.crs_model.specs.Open.{IsRecognised, whole}
 use Rattle.crs_model.specs.Partial.{dates_of}
-use Rattle.crs_model.specs.Order.{Lists, assignment_cmp}
 use Rattle.crs_log.specs.Run.{State, at_start, after_lines, settled}
-use Rattle.crs_top.specs.Texts.{LogEntry, Frame, setting_of, IsNew, IsMarkText, IsLogText}
+use Rattle.crs_log.specs.Recognitions.{ListsNew}
+use Rattle.crs_top.specs.Texts.{LogEntry, Frame, setting_of, IsMarkText, IsLogText}
 
 abbrev plain : List ℕ → List ℕ → EventDef (List ℕ)
 plain name point = record { pattern = record { name = name; terms = []; change = None }; point = point; level = 0 }
@@ -139,14 +139,14 @@ only look (x ∷ (y ∷ (z ∷ zs))) h g = absurd h.1.1
 same : (es : List LogEntry) (vs : List (List ℕ)) (fs : List LogEntry) (ws : List (List ℕ)) → es ≡ fs → vs ≡ ws → ◌≡◌ {A = Assignment (List ℕ)} (record { entries = es; values = vs }) (record { entries = fs; values = ws })
 same es vs fs ws e f = cc
 
-new : Lists assignment_cmp (IsNew model [] 0 both 13) (assignment ∷ [])
+new : ListsNew model (record { settled = []; horizon = 0 }) (record { settled = both; horizon = 13 }) (assignment ∷ [])
 new = record {
   ascending = (tt, tt);
   each = ((recognised, λ r. r.assignment.given.0), tt);
   all = λ a h. inl (same a.entries a.values both [] (only (slice_get a.values) a.entries h.0.assignment.equal h.0.assignment.given) (no_values a.values h.0.assignment.bound));
 }
 
-text_of_a_mark : IsMarkText (model ∷ []) (Clock 13) [] 0 both 13 (codes "c at 13 t1=10 t2=12" ++ lf)
+text_of_a_mark : IsMarkText (model ∷ []) (Clock 13) (record { settled = []; horizon = 0 }) (record { settled = both; horizon = 13 }) (codes "c at 13 t1=10 t2=12" ++ lf)
 unfolding digits
 text_of_a_mark = (assignment ∷ [], [], new, refl, refl)
 

@@ -21,7 +21,8 @@ use Rattle.crs_model.specs.Renaming.{text_in, renamed_entry, IsEntryOf}
 use Rattle.crs_model.proofs.Parted.{before_more, before_all, parted_members, settled_is, before_renamed}
 use Rattle.crs_engine.specs.Engines.{EngineState, StandsFor, HasMoved, plans_of, since}
 use Rattle.crs_engine.specs.Marks.{AfterMark}
-use Rattle.crs_log.specs.Run.{State, is_met, settled}
+use Rattle.crs_log.specs.Run.{State, is_met}
+use Rattle.crs_log.specs.Recognitions.{View, view_of}
 use Rattle.crs_report.specs.Printed.{chronicle_at}
 use Rattle.crs_top.specs.declared.session.Session.{Session}
 use Rattle.crs_top.specs.Session.{HasText, entries_in, HasModels, HasEntries, IsReached, IsUnused, Represents, line_in, ArePrintable}
@@ -67,7 +68,7 @@ met f x s r = record {
 }
 
 stands_delayed : (e : EngineState) (d : ℕ) (settled waiting : List (Entry Sym)) → StandsFor e settled waiting → StandsFor (record e { delay = d }) settled waiting
-stands_delayed e d settled waiting h = record { settled_before = h.settled_before; waiting_after = h.waiting_after; in_order = h.in_order; numbered = h.numbered; held = h.held; history = h.history; stores = h.stores }
+stands_delayed e d settled waiting h = record { settled_before = h.settled_before; waiting_after = h.waiting_after; in_order = h.in_order; numbered = h.numbered; held = h.held; history = h.history; far_back = h.far_back; stores = h.stores }
 
 -- the delay is set, where nothing was accepted and no clock was taken
 pub delayed : (f : Frame) (x : Session) (s : State) (d : ℕ) → IsUnused x.engine → Represents f x s → Represents f (record x { engine = record x.engine { delay = d } }) (record s { delay = d })
@@ -166,21 +167,25 @@ module _ (f : Frame) (x : Session) (s : State) (r : Represents f x s) (new : Eng
       (known_then x.engine x.symbols.texts s.accepted r.entries new.horizon) (known_settled x.engine x.symbols.texts s.accepted r.entries)
       (plans_of x.engine.plans) 0 answer (stand_from x.engine.plans) r.models.proper r.models.chronicles_in r.models.windowless after.answers)
 
+  abbrev view : List LogEntry → ℕ → View
+  view settled horizon = record { settled = settled; horizon = horizon }
+
   -- its lines are the text of the mark
-  pub mark_text : IsMarkText f.models.chronicles mark (dated_before s.horizon s.accepted) s.horizon (dated_before h s.accepted) h (flat_map (line_in new.plans x.symbols.texts) answer)
+  pub mark_text : IsMarkText f.models.chronicles mark (view_of s) (view (dated_before h s.accepted) h) (flat_map (line_in new.plans x.symbols.texts) answer)
   mark_text =
       let raw = answer_text x.symbols.texts r.models.distinct x.engine.plans mark r.entries.settled now x.engine.horizon new.horizon
       (known_then x.engine x.symbols.texts s.accepted r.entries new.horizon) (known_settled x.engine x.symbols.texts s.accepted r.entries)
       (plans_of x.engine.plans) 0 answer (stand_from x.engine.plans) r.models.proper r.models.chronicles_in r.models.windowless after.answers in
-      let was : entries_in x.symbols.texts r.entries.settled ≡ dated_before s.horizon s.accepted = settled_now x.engine x.symbols.texts s.accepted r.entries s.horizon r.horizon in
-      let then : entries_in x.symbols.texts now ≡ dated_before h s.accepted =
+      let was : view (entries_in x.symbols.texts r.entries.settled) x.engine.horizon ≡ view_of s =
+      (λ i. view (settled_now x.engine x.symbols.texts s.accepted r.entries s.horizon r.horizon i) (sym r.horizon i)) in
+      let entries : entries_in x.symbols.texts now ≡ dated_before h s.accepted =
       ap (λ (k : ℕ). entries_in x.symbols.texts (r.entries.settled ++ before k r.entries.waiting)) horizon ∙ settled_then x.engine x.symbols.texts s.accepted r.entries h rises in
-      let a = subst (λ (cs : List (Chronicle (List ℕ))). IsMarkText cs mark (entries_in x.symbols.texts r.entries.settled) x.engine.horizon (entries_in x.symbols.texts now) new.horizon (flat_map (line_in x.engine.plans x.symbols.texts) answer)) (sym r.models.chronicles) raw in
-      let b = subst (λ (was : List LogEntry). IsMarkText f.models.chronicles mark was x.engine.horizon (entries_in x.symbols.texts now) new.horizon (flat_map (line_in x.engine.plans x.symbols.texts) answer)) was a in
-      let c = subst (λ (g : ℕ). IsMarkText f.models.chronicles mark (dated_before s.horizon s.accepted) g (entries_in x.symbols.texts now) new.horizon (flat_map (line_in x.engine.plans x.symbols.texts) answer)) (sym r.horizon) b in
-      let d = subst (λ (es : List LogEntry). IsMarkText f.models.chronicles mark (dated_before s.horizon s.accepted) s.horizon es new.horizon (flat_map (line_in x.engine.plans x.symbols.texts) answer)) then c in
-      let e = subst (λ (k : ℕ). IsMarkText f.models.chronicles mark (dated_before s.horizon s.accepted) s.horizon (dated_before h s.accepted) k (flat_map (line_in x.engine.plans x.symbols.texts) answer)) horizon d in
-      subst (λ (p : Plans). IsMarkText f.models.chronicles mark (dated_before s.horizon s.accepted) s.horizon (dated_before h s.accepted) h (flat_map (line_in p x.symbols.texts) answer)) (sym kept) e
+      let then : view (entries_in x.symbols.texts now) new.horizon ≡ view (dated_before h s.accepted) h = (λ i. view (entries i) (horizon i)) in
+      let text = flat_map (line_in x.engine.plans x.symbols.texts) answer in
+      let a = subst (λ (cs : List (Chronicle (List ℕ))). IsMarkText cs mark (view (entries_in x.symbols.texts r.entries.settled) x.engine.horizon) (view (entries_in x.symbols.texts now) new.horizon) text) (sym r.models.chronicles) raw in
+      let b = subst (λ (v : View). IsMarkText f.models.chronicles mark v (view (entries_in x.symbols.texts now) new.horizon) text) was a in
+      let c = subst (λ (v : View). IsMarkText f.models.chronicles mark (view_of s) v text) then b in
+      subst (λ (p : Plans). IsMarkText f.models.chronicles mark (view_of s) (view (dated_before h s.accepted) h) (flat_map (line_in p x.symbols.texts) answer)) (sym kept) c
 
   -- the session stands for the state after the mark
   pub marked : (t : ℕ) (here there : Bool) → there ≡ here → HasMoved x.engine new t h → new.stopped ≡ false → IsReached (record s { last = t; horizon = h; ended = there })
@@ -193,7 +198,7 @@ module _ (f : Frame) (x : Session) (s : State) (r : Represents f x s) (new : Eng
     texts = r.texts;
     delay = r.delay ∙ sym m.same_delay;
     last = sym m.clock;
-    horizon = sym m.moved;
+    horizon = sym horizon;
     count = r.count ∙ sym m.same_count;
     most = m.same_limit ∙ r.most;
     few = r.few;

@@ -17,7 +17,8 @@ use Rattle.crs_model.specs.Renaming.{text_in, renamed_chronicle, renamed_entry, 
 use Rattle.crs_log.specs.ItemOf.{What, Empty, Is, Faulty}
 use Rattle.crs_log.specs.Reading.{Given, Plain, Long}
 use Rattle.crs_log.specs.Run as run
-use Rattle.crs_log.specs.Run.{Setting, State, Outcome, Passed, Refused, settled}
+use Rattle.crs_log.specs.Run.{Setting, State, Outcome, Passed, Refused}
+use Rattle.crs_log.specs.Recognitions.{View, view_of}
 use Rattle.crs_log.specs.SeenNames.{name_seen, AreNamesIn}
 use Rattle.crs_engine.specs.Engines.{EngineState, StandsFor, plans_of}
 use Rattle.crs_top.specs.declared.session.Session.{Session}
@@ -84,17 +85,17 @@ pub record Represents (f : Frame) (x : Session) (s : State) : Type 0 where
 abbrev pub IsReady : Session → Type 0
 IsReady x = (f : Frame) × (s : State) × Represents f x s
 
--- What one line brings, where `was` were settled before it at the horizon g: the session stands for the state after it, and its text is added.
-pub record Brings (f : Frame) (refused : Bool) (new : Session) (n : ℕ) (was : List LogEntry) (g : ℕ) (after : State × Outcome) (out more : List ℕ) : Type 0 where
+-- What one line brings, where recognition read `was` before it: the session stands for the state after it, and its text is added.
+pub record Brings (f : Frame) (refused : Bool) (new : Session) (n : ℕ) (was : View) (after : State × Outcome) (out more : List ℕ) : Type 0 where
   pub state : Represents f new after.0
   pub text : List ℕ
-  pub says : IsOutcomeText f.models.chronicles n was g (settled after.0) after.0.horizon after.1 text
+  pub says : IsOutcomeText f.models.chronicles n was (view_of after.0) after.1 text
   pub written : more ≡ out ++ text
   pub noted : new.refused ≡ (refused || is_refused after.1)
 
 -- whatever state of a run the session stands for
 abbrev pub BringsAll : Session → Session → ℕ → (Frame → State → State × Outcome) → List ℕ → List ℕ → Type 0
-BringsAll old new n after out more = (f : Frame) (s : State) → Represents f old s → Brings f old.refused new n (settled s) s.horizon (after f s) out more
+BringsAll old new n after out more = (f : Frame) (s : State) → Represents f old s → Brings f old.refused new n (view_of s) (after f s) out more
 
 abbrev pub number_of : Given → ℕ
 number_of (Long n) = n

@@ -6,11 +6,10 @@ use Rattle.crs_base.specs.Lines.{Line, lines_of}
 use Rattle.crs_model.specs.declared.recognition.Mark.{Mark}
 use Rattle.crs_model.specs.Models.{Chronicle, Models}
 use Rattle.crs_model.specs.Matching.{Assignment}
-use Rattle.crs_model.specs.Open.{IsRecognised}
-use Rattle.crs_model.specs.Order.{Lists, assignment_cmp}
 use Rattle.crs_log.specs.Reading.{whole_lines}
 use Rattle.crs_log.specs.Run as run
-use Rattle.crs_log.specs.Run.{Setting, State, Outcome, Passed, Refused, Accepted, Marked, at_start, after_line, outcomes, settled}
+use Rattle.crs_log.specs.Run.{Setting, State, Outcome, Passed, Refused, Accepted, Marked, at_start, after_line, outcomes}
+use Rattle.crs_log.specs.Recognitions.{View, view_of, ListsNew}
 use Rattle.crs_report.specs.declared.refusals.Fault.{Fault}
 use Rattle.crs_report.specs.declared.refusals.Fault.TheVariants as faults
 use Rattle.crs_report.specs.Lines.{recognition_line, refusal_line}
@@ -30,27 +29,23 @@ fault_of run.Value = faults.Value
 fault_of (run.Full limit) = faults.Full limit
 fault_of (run.Values limit) = faults.Values limit
 
--- recognised over the entries that are settled now, and not recognised over those that were settled at the mark before
-abbrev pub IsNew : Chronicle (List ℕ) → List LogEntry → ℕ → List LogEntry → ℕ → Assignment (List ℕ) → Type 0
-IsNew c was g now h a = IsRecognised c now now h a × (IsRecognised c was was g a → ⊥)
-
 -- the lines of exactly the new assignments, chronicle by chronicle in file order, each once, and inside a chronicle in key order
-abbrev pub IsMarkText : List (Chronicle (List ℕ)) → Mark → List LogEntry → ℕ → List LogEntry → ℕ → List ℕ → Type 0
-IsMarkText [] mark was g now h text = text ≡ []
-IsMarkText (c ∷ cs) mark was g now h text =
-    (new : List (Assignment (List ℕ))) × (rest : List ℕ) × Lists assignment_cmp (IsNew c was g now h) new
-    × IsMarkText cs mark was g now h rest × (text ≡ flat_map (recognition_line c mark) new ++ rest)
+abbrev pub IsMarkText : List (Chronicle (List ℕ)) → Mark → View → View → List ℕ → Type 0
+IsMarkText [] mark was now text = text ≡ []
+IsMarkText (c ∷ cs) mark was now text =
+    (new : List (Assignment (List ℕ))) × (rest : List ℕ) × ListsNew c was now new
+    × IsMarkText cs mark was now rest × (text ≡ flat_map (recognition_line c mark) new ++ rest)
 
--- what is written for the line of this number, where `was` were settled before it at the horizon g, and `now` are settled after it at h
-abbrev pub IsOutcomeText : List (Chronicle (List ℕ)) → ℕ → List LogEntry → ℕ → List LogEntry → ℕ → Outcome → List ℕ → Type 0
-IsOutcomeText cs n was g now h Passed text = text ≡ []
-IsOutcomeText cs n was g now h (Refused fault) text = text ≡ refusal_line n (fault_of fault)
-IsOutcomeText cs n was g now h (Accepted entry) text = text ≡ []
-IsOutcomeText cs n was g now h (Marked mark) text = IsMarkText cs mark was g now h text
+-- what is written for the line of this number, where recognition reads `was` before it and `now` after it
+abbrev pub IsOutcomeText : List (Chronicle (List ℕ)) → ℕ → View → View → Outcome → List ℕ → Type 0
+IsOutcomeText cs n was now Passed text = text ≡ []
+IsOutcomeText cs n was now (Refused fault) text = text ≡ refusal_line n (fault_of fault)
+IsOutcomeText cs n was now (Accepted entry) text = text ≡ []
+IsOutcomeText cs n was now (Marked mark) text = IsMarkText cs mark was now text
 
 -- what is written for a line that is met in the state s and leaves `after`
 abbrev pub IsLineText : List (Chronicle (List ℕ)) → ℕ → State → State × Outcome → List ℕ → Type 0
-IsLineText cs n s after text = IsOutcomeText cs n (settled s) s.horizon (settled after.0) after.0.horizon after.1 text
+IsLineText cs n s after text = IsOutcomeText cs n (view_of s) (view_of after.0) after.1 text
 
 -- what is written for these lines, of which the first has the number n and is met in the state s
 abbrev pub IsTextFrom : Setting → List (Chronicle (List ℕ)) → ℕ → State → List Line → List ℕ → Type 0

@@ -1,4 +1,4 @@
-use Rattle.crs_top.proofs.Stays.{stays}
+use Rattle.crs_model.proofs.Stays.{stays}
 use Rattle.crs_top.proofs.laws.recognised_stays.Goals as goal
 
 pub returns : goal.returns

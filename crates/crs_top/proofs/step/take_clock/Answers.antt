@@ -4,6 +4,7 @@ use Rattle.std.proofs.lemmas.Result.{IfOk-weaker}
 use Rattle.crs_model.specs.declared.plan.Plans.{Plans}
 use Rattle.crs_model.specs.declared.recognition.Recognition.{Recognition}
 use Rattle.crs_engine.specs.Engines.{HasMoved}
+use Rattle.crs_engine.proofs.Marking.{moved_forward}
 use Rattle.crs_log.specs.Run.{after_ordered}
 use Rattle.crs_log.specs.Items.{Clock}
 use Rattle.crs_top.specs.Session.{BringsAll, ArePrintable, line_in}
@@ -21,8 +22,8 @@ push_answer-requires g c =
     let new = c.clock.new.self in
     let m : HasMoved x.engine new c.args.t (c.args.t - s.delay) = subst (λ (d : ℕ). HasMoved x.engine new c.args.t (c.args.t - d)) (sym r.delay) c.in-Ok.ensures.moved in
     let fine = clock_fine x.engine c.args.t c.in-Ok.answer r.running c.in-Ok.ensures.refused in
-    let p = answer_printable f x s r new _ c.in-Ok.answer (c.args.t - s.delay) m.same_plans m.moved
-    (clock_rises f x s r new c.in-Ok.answer c.requires.met (still_running x.engine.stopped new.stopped c.in-Ok.answer r.running c.in-Ok.ensures.raised) c.args.t c.requires.open fine)
+    let rises = clock_rises f x s r new c.in-Ok.answer c.requires.met (still_running x.engine.stopped new.stopped c.in-Ok.answer r.running c.in-Ok.ensures.raised) c.args.t c.requires.open fine in
+    let p = answer_printable f x s r new _ c.in-Ok.answer (c.args.t - s.delay) m.same_plans (moved_forward x.engine new c.args.t (c.args.t - s.delay) m rises) rises
     (c.in-Ok.ensures.marked r.entries.settled r.entries.waiting r.entries.stands) in
     subst (λ (q : Plans). ArePrintable q x.symbols.texts c.as_slice.result.now) (sym c.plans.ensures)
     (subst (λ (a : List Recognition). ArePrintable new.plans x.symbols.texts a) (sym c.as_slice.ensures) p)

@@ -3,6 +3,7 @@ use Rattle.std.specs.Prelude.{flat_map}
 use Rattle.std.proofs.lemmas.Result.{IfOk-weaker}
 use Rattle.crs_model.specs.declared.plan.Plans.{Plans}
 use Rattle.crs_model.specs.declared.recognition.Recognition.{Recognition}
+use Rattle.crs_engine.proofs.Marking.{moved_forward}
 use Rattle.crs_log.specs.Run.{after_ordered}
 use Rattle.crs_log.specs.Items.{Finish}
 use Rattle.crs_top.specs.Session.{BringsAll, ArePrintable, line_in}
@@ -19,8 +20,8 @@ push_answer-requires g c =
     let x = c.args.session.now in
     let new = c.finish.new.self in
     let m = c.in-Ok.ensures.moved in
-    let p = answer_printable f x s r new _ c.in-Ok.answer (2 ^ 42) m.same_plans m.moved
-    (end_rises f x s r new c.in-Ok.answer c.requires.met (still_running x.engine.stopped new.stopped c.in-Ok.answer r.running c.in-Ok.ensures.raised) c.requires.open)
+    let rises = end_rises f x s r new c.in-Ok.answer c.requires.met (still_running x.engine.stopped new.stopped c.in-Ok.answer r.running c.in-Ok.ensures.raised) c.requires.open in
+    let p = answer_printable f x s r new _ c.in-Ok.answer (2 ^ 42) m.same_plans (moved_forward x.engine new (2 ^ 42) (2 ^ 42) m rises) rises
     (c.in-Ok.ensures.marked r.entries.settled r.entries.waiting r.entries.stands) in
     subst (λ (q : Plans). ArePrintable q x.symbols.texts c.as_slice.result.now) (sym c.plans.ensures)
     (subst (λ (a : List Recognition). ArePrintable new.plans x.symbols.texts a) (sym c.as_slice.ensures) p)

@@ -3,8 +3,9 @@ use Rattle.std.proofs.lemmas.Result.{IfOk-weaker}
 use Rattle.crs_log.specs.SeenItems.{IsFaulty}
 use Rattle.crs_log.specs.Reading.{Plain}
 use Rattle.crs_log.specs.Run as run
-use Rattle.crs_log.specs.Run.{State, Outcome, settled}
+use Rattle.crs_log.specs.Run.{State, Outcome}
 use Rattle.crs_log.specs.Run.{after_what, after_given}
+use Rattle.crs_log.specs.Recognitions.{view_of}
 use Rattle.crs_top.specs.Session.{Brings, BringsAll}
 use Rattle.crs_top.specs.Texts.{setting_of}
 use Rattle.crs_top.proofs.Accepting.{refused_brings}
@@ -17,7 +18,7 @@ returns-in-Ok c =
     let x = c.args.session.now in
     rw c.in-Plain.is (IfOk-weaker c.take_item.result _
     (λ _. BringsAll x c.take_item.new.session c.in-Plain.number (λ f s. after_given (setting_of f) s (Plain c.in-Plain.number c.in-Plain.bytes.now)) c.args.out.now.items c.take_item.new.out.items)
-    (λ _ h f s r. subst (λ (a : State × Outcome). Brings f x.refused c.take_item.new.session c.in-Plain.number (settled s) s.horizon a c.args.out.now.items c.take_item.new.out.items)
+    (λ _ h f s r. subst (λ (a : State × Outcome). Brings f x.refused c.take_item.new.session c.in-Plain.number (view_of s) a c.args.out.now.items c.take_item.new.out.items)
     (ap (after_what (setting_of f) s) c.in-Ok.ensures.exact) (h f s r))
     c.take_item.ensures)
 

@@ -35,4 +35,4 @@ returns-in-Ok-clause-marked g c = λ settled waiting stands.
     c.args.self.now c.mark_all.new.stores c.mark_all.new.history c.mark_all.new.buffer c.args.t c.args.h c.self.inside.stopped c.args.mark c.in-Ok.answer c.self.view_is c.self.invariant
     (subst (λ (g : ℕ). g ≤ c.args.h) (sym (ap (λ (e : EngineState). e.horizon) c.self.view_is)) c.requires.forward)
     (subst (λ (t : List StoreState). AreMarked c.args.h c.args.mark t c.self.inside.history c.self.inside.buffer c.mark_all.new.stores c.mark_all.new.history c.mark_all.new.buffer c.in-Ok.answer) c.deref_mut.ensures.value ((c.in-Ok.ensures {u = tt}).marked))
-    same settled waiting stands)
+    same c.mark_all.ensures.floor settled waiting stands)
