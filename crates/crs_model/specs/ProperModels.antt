@@ -1,9 +1,9 @@
 -- What every accepted model meets.
-use Rattle.std.specs.Prelude.{◌≡◌, ◌<◌, ◌≤◌, ◌≤ℤ◌, ◌+ℤ◌, ◌+◌, ◌^◌, ℕ, pos, List, length, Option, Some, None}
+use Rattle.std.specs.Prelude.{◌≡◌, ◌<◌, ◌≤◌, ◌≤ℤ◌, ◌+ℤ◌, ◌+◌, ◌^◌, ℕ, pos, List, ◌∷◌, length, Option, Some, None, IfSome}
 use Rattle.std.specs.List.{AllByRecursion}
 use Rattle.crs_base.specs.Words.{IsIn}
 use Rattle.crs_stn.specs.Bound.{IsWithin}
-use Rattle.crs_model.specs.Models.{Term, Pattern, EventDef, Anchor, Body, NoEvent, Occurs, Hold, Window, Chronicle, Kind, Message, Attribute, Name, Models}
+use Rattle.crs_model.specs.Models.{Term, Value, Var, Any, Pattern, EventDef, Anchor, Body, NoEvent, Occurs, Hold, Window, Chronicle, Kind, Message, Attribute, Name, Models}
 use Rattle.crs_model.specs.Bindings.{TermIsBelow, PatternIsBelow}
 use Rattle.crs_model.specs.Proper.{IsNamed}
 
@@ -34,11 +34,23 @@ module _ {S : Type 0} where
   abbrev pub IsDeclared : List (Name S) → Pattern S → Type 0
   IsDeclared names p = (n : Name S) × Declares names p.name (length p.terms) n × Suits n.kind p.change
 
-  -- what a window wants is of a declared name, and its variables are below n
+  -- a symbol or a variable, and not `*`
+  abbrev pub IsDefinite : Term S → Type 0
+  IsDefinite (Value x) = Unit {0}
+  IsDefinite (Var v) = Unit {0}
+  IsDefinite Any = ⊥
+
+  -- a declaration of an attribute of this name, with this count of terms
+  abbrev pub IsOfAttribute : List (Name S) → S → ℕ → Type 0
+  IsOfAttribute names name terms = (d : Name S) × Declares names name terms d × IsAttribute d.kind
+
+  -- What a window wants is of a declared name, and its variables are below n.
+  -- It wants no more entries than it allows, and a `hold` has no `*`.
   abbrev pub IsProperBody : List (Name S) → ℕ → Body S → Type 0
   IsProperBody names n (NoEvent p) = IsDeclared names p × PatternIsBelow n p
-  IsProperBody names n (Occurs least most p) = IsDeclared names p × PatternIsBelow n p
-  IsProperBody names n (Hold name terms value) = ((d : Name S) × Declares names name (length terms) d × IsAttribute d.kind) × AllByRecursion (TermIsBelow n) terms × TermIsBelow n value
+  IsProperBody names n (Occurs least most p) = IsDeclared names p × PatternIsBelow n p × IfSome most (λ m. least ≤ m)
+  IsProperBody names n (Hold name terms value) =
+      IsOfAttribute names name (length terms) × AllByRecursion (TermIsBelow n) (value ∷ terms) × AllByRecursion IsDefinite (value ∷ terms)
 
   pub record IsProperWindow (names : List (Name S)) (c : Chronicle S) (w : Window S) : Type 0 where
     pub body : IsProperBody names (length c.variables) w.body

@@ -1,11 +1,12 @@
 -- The parts of a statement whose symbols are held.
 use Rattle.std.proofs.Common.{◌≡◌, ℕ, ◌+◌, ◌≤◌, ◌<◌, Bool, false, ◌||◌, nat_le, nat_lt, List, [], ◌∷◌, ◌++◌, length, Option, Some, None, arith, length-append}
 use Rattle.std.specs.Prelude.{IfSome}
+use Rattle.std.specs.List.{AllByRecursion, list_any}
 use Rattle.std.proofs.lemmas.Bool.{or_parts}
 use Rattle.crs_grammar.specs.Statements.{Term, Value, Variable, Any, Pattern, Event, Body, NoEvent, Occurs, Hold, Window, Distance, Statement, Message, Attribute, Begin, Happens, Point, Between, Among, Differ, Over, Close}
-use Rattle.crs_parse.specs.Faults.{Name, Written, symbols_of, term_symbols, terms_symbols, change_symbols, pattern_symbols, body_symbols, values_symbols, variable_in, variables_in, variables_of, change_terms, with_statement, is_full, is_above, is_below, has_wrong_counts, is_out_of_bounds, is_far, are_crossed, shift_size, begun, message_named, attribute_named}
+use Rattle.crs_parse.specs.Faults.{Name, Written, symbols_of, term_symbols, terms_symbols, change_symbols, pattern_symbols, body_symbols, values_symbols, variable_in, variables_in, variables_of, change_terms, with_statement, is_full, is_above, is_below, is_any, body_has_any, has_any, has_wrong_counts, is_out_of_bounds, is_far, are_crossed, shift_size, begun, message_named, attribute_named}
 use Rattle.crs_parse.specs.Meant.{level_of}
-use Rattle.crs_parse.specs.Held.{IsHeld, AreHeld, IsHeldTerm, AreHeldTerms, IsHeldPattern, IsHeldEvent, IsHeldBody, IsHeldWindow, IsHeldSet, AreNear, IsHeldChronicle, IsHeldName}
+use Rattle.crs_parse.specs.Held.{IsHeld, AreHeld, IsHeldTerm, AreHeldTerms, IsHeldPattern, IsHeldEvent, IsHeldBody, IsFirmBody, IsHeldWindow, IsHeldSet, AreNear, IsHeldChronicle, IsHeldName}
 use Rattle.crs_base.proofs.WithTexts.{all_with}
 use Rattle.crs_parse.proofs.Faultless.{IsFaultless, not_le, not_lt, not_above, not_far}
 use Rattle.crs_base.proofs.Alls.{all_append, all_put, all_left, all_right}
@@ -41,12 +42,27 @@ module _ (texts : List (List ℕ)) where
   body_held (Hold name terms value) h k =
       (h.0, terms_held terms (all_left (IsHeld texts) (terms_symbols terms) (term_symbols value) h.1), term_held value (all_right (IsHeld texts) (terms_symbols terms) (term_symbols value) h.1))
 
-  window_held : (w : Window) → AreHeld texts (symbols_of (Over w)) → is_out_of_bounds (Over w) ≡ false → IsHeldWindow texts w
-  window_held w h k =
+  -- what the tests of bounds and of `*` say of a window's body
+  not_below : (least : ℕ) (most : Option ℕ) → is_below most least ≡ false → IfSome most (λ m. least ≤ m)
+  not_below least None h = tt
+  not_below least (Some m) h = not_lt m least h
+
+  none_any : (ts : List Term) → list_any is_any ts ≡ false → AllByRecursion (λ t. is_any t ≡ false) ts
+  none_any [] h = tt
+  none_any (t ∷ ts) h = let k = or_parts (is_any t) (list_any is_any ts) h in (k.0, none_any ts k.1)
+
+  body_firm : (b : Body) → has_wrong_counts b ≡ false → body_has_any b ≡ false → IsFirmBody b
+  body_firm (NoEvent p) h k = tt
+  body_firm (Occurs least most p) h k = not_below least most (or_parts (nat_lt 4294967295 least || is_above 4294967295 most) (is_below most least) h).1
+  body_firm (Hold name terms value) h k = let o = or_parts (list_any is_any terms) (is_any value) k in (o.1, none_any terms o.0)
+
+  window_held : (w : Window) → AreHeld texts (symbols_of (Over w)) → is_out_of_bounds (Over w) ≡ false → has_any (Over w) ≡ false → IsHeldWindow texts w
+  window_held w h k any =
       let first = or_parts (nat_lt 1099511627776 (shift_size w.from.shift) || nat_lt 1099511627776 (shift_size w.to.shift)) (has_wrong_counts w.body) k in
       let second = or_parts (nat_lt 1099511627776 (shift_size w.from.shift)) (nat_lt 1099511627776 (shift_size w.to.shift)) first.0 in
       record {
         body = body_held w.body (all_left (IsHeld texts) (body_symbols w.body) (w.from.point ∷ w.to.point ∷ []) h) first.1;
+        firm = body_firm w.body first.1 any;
         from = not_lt 1099511627776 (shift_size w.from.shift) second.0;
         to = not_lt 1099511627776 (shift_size w.to.shift) second.1;
       }
@@ -119,7 +135,7 @@ module _ (texts : List (List ℕ)) where
   chronicle_held full names done c (Between d) f h k = record { name = k.name; events = k.events; free = k.free; bounds = all_put AreNear c.bounds d k.bounds (distance_held d f.bound); variables = k.variables; sets = k.sets; windows = k.windows; few_variables = k.few_variables; few_points = k.few_points }
   chronicle_held full names done c (Among x values) f h k = record { name = k.name; events = k.events; free = k.free; bounds = k.bounds; variables = k.variables; sets = all_put (IsHeldSet texts) c.sets (x, values) k.sets (record { variable = h.0; values = h.1 }); windows = k.windows; few_variables = k.few_variables; few_points = k.few_points }
   chronicle_held full names done c (Differ x y) f h k = record { name = k.name; events = k.events; free = k.free; bounds = k.bounds; variables = k.variables; sets = k.sets; windows = k.windows; few_variables = k.few_variables; few_points = k.few_points }
-  chronicle_held full names done c (Over w) f h k = record { name = k.name; events = k.events; free = k.free; bounds = k.bounds; variables = k.variables; sets = k.sets; windows = all_put (IsHeldWindow texts) c.windows w k.windows (window_held w h f.bound); few_variables = k.few_variables; few_points = k.few_points }
+  chronicle_held full names done c (Over w) f h k = record { name = k.name; events = k.events; free = k.free; bounds = k.bounds; variables = k.variables; sets = k.sets; windows = all_put (IsHeldWindow texts) c.windows w k.windows (window_held w h f.bound f.window); few_variables = k.few_variables; few_points = k.few_points }
 
   kind_held : (values : Option (List (List ℕ))) → AreHeld texts (values_symbols values) → IfSome values (AreHeld texts)
   kind_held None h = tt

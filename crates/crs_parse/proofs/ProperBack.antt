@@ -12,7 +12,7 @@ use Rattle.crs_model.specs.Models.{Term, Value, Var, Any, Pattern, EventDef, Anc
 use Rattle.crs_model.specs.Bindings.{TermIsBelow, PatternIsBelow}
 use Rattle.crs_model.specs.Proper.{term_has, terms_have, change_has, pattern_has, IsNamed}
 use Rattle.crs_model.specs.Renaming.{text_in, renamed_term, renamed_pattern, renamed_event, renamed_set, renamed_body, renamed_window, renamed_chronicle, renamed_kind, renamed_name, renamed_models, IsPatternOf, IsBodyOf, IsChronicleOf, IsNameOf, AreModelsOf}
-use Rattle.crs_model.specs.ProperModels.{IsProperAnchor, IsAttribute, Suits, Declares, IsDeclared, IsProperBody, IsProperWindow, IsProperEvent, IsProperChronicle, AreProper}
+use Rattle.crs_model.specs.ProperModels.{IsProperAnchor, IsAttribute, IsDefinite, Suits, Declares, IsDeclared, IsProperBody, IsProperWindow, IsProperEvent, IsProperChronicle, AreProper}
 use Rattle.crs_parse.proofs.Numbered.{each_back}
 
 at_back : {A B : Type 0} (g : A → B) (xs : List A) (e : ℕ) (y : B) → slice_get (map g xs) e ≡ Some y → (x : A) × (slice_get xs e ≡ Some x) × (g x ≡ y)
@@ -49,6 +49,11 @@ module _ {S T : Type 0} (f : S → T) (Q : S → Type 0) (one : (s t : S) → Q 
   attribute_back Message h = absurd h
   attribute_back (Attribute vs) h = tt
 
+  definite_back : (t : Term S) → IsDefinite (renamed_term f t) → IsDefinite t
+  definite_back (Value s) h = tt
+  definite_back (Var v) h = tt
+  definite_back Any h = absurd h
+
   -- the declaration with the first symbols
   record IsBack (names : List (Name S)) (name : S) (terms : ℕ) (to : Name T) (n : Name S) : Type 0 where
     pub declares : Declares names name terms n
@@ -74,10 +79,10 @@ module _ {S T : Type 0} (f : S → T) (Q : S → Type 0) (one : (s t : S) → Q 
 
   body_back : (names : List (Name S)) (n : ℕ) (b : Body S) → AllByRecursion (λ n. Q n.name) names → IsBodyOf Q b → IsProperBody (map (renamed_name f) names) n (renamed_body f b) → IsProperBody names n b
   body_back names n (NoEvent q) all known h = (declared_back names q all known.name h.0, pattern_below n q h.1)
-  body_back names n (Occurs least most q) all known h = (declared_back names q all known.name h.0, pattern_below n q h.1)
+  body_back names n (Occurs least most q) all known h = (declared_back names q all known.name h.0, pattern_below n q h.1, h.2)
   body_back names n (Hold name terms value) all known h =
       let r = declares_back names name (length (map (renamed_term f) terms)) h.0.0 all known.0 h.0.1 in
-      ((r.0, subst (λ n. Declares names name n r.0) (terms_count terms) r.1.declares, attribute_back r.0.kind (subst (λ (n : Name T). IsAttribute n.kind) r.1.is h.0.2)), terms_below n terms h.1, term_below n value h.2)
+      ((r.0, subst (λ n. Declares names name n r.0) (terms_count terms) r.1.declares, attribute_back r.0.kind (subst (λ (n : Name T). IsAttribute n.kind) r.1.is h.0.2)), terms_below n (value ∷ terms) h.1, each_back _ _ (renamed_term f) (value ∷ terms) definite_back h.2)
 
   same_has : (v : ℕ) (t : Term S) → term_has v (renamed_term f t) ≡ term_has v t
   same_has v (Value s) = refl

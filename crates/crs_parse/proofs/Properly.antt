@@ -17,9 +17,9 @@ use Rattle.crs_model.specs.Models as m
 use Rattle.crs_model.specs.Bindings.{TermIsBelow, PatternIsBelow}
 use Rattle.crs_model.specs.Proper.{term_has, terms_have, change_has, pattern_has, IsNamed}
 use Rattle.crs_grammar.specs.Statements.{Term, Value, Variable, Any, Pattern, Event, Shift, Here, Later, Earlier, Anchor, Body, NoEvent, Occurs, Hold, Distance}
-use Rattle.crs_parse.specs.Faults.{Kind, OfMessage, OfAttribute, Name, Written, Reading, is_of, suits, is_attribute, is_point, event_points, variable_in, variables_in, variables_of, change_terms, lacks, change_lacks, pattern_lacks, body_lacks, shift_size}
+use Rattle.crs_parse.specs.Faults.{Kind, OfMessage, OfAttribute, Name, Written, Reading, is_of, suits, is_attribute, is_point, is_any, event_points, variable_in, variables_in, variables_of, change_terms, lacks, change_lacks, pattern_lacks, body_lacks, shift_size}
 use Rattle.crs_parse.specs.Meant.{place_in, points_of, term_of, change_of, pattern_of, body_of, event_of, offset_of, anchor_of, window_of, bounds_of, set_of, differ_of, chronicle_of, kind_of, name_of, models_in}
-use Rattle.crs_parse.specs.Held.{IsNear, AreNear, IsHeldEvent, IsHeldWindow, IsHeldChronicle, IsHeldReading}
+use Rattle.crs_parse.specs.Held.{IsNear, AreNear, IsHeldEvent, IsHeldWindow, IsFirmBody, IsHeldChronicle, IsHeldReading}
 use Rattle.crs_model.specs.ProperModels as p
 use Rattle.crs_parse.proofs.Faultless.{not_false}
 use Rattle.crs_parse.proofs.Numbered.{each_made}
@@ -193,12 +193,22 @@ declares_meant variables names name ts n h = record { among = in_map name_of nam
 declared_meant : (variables : List (List ℕ)) (names : List Name) (q : Pattern) → IsDeclared names q → p.IsDeclared (map name_of names) (pattern_of variables q)
 declared_meant variables names q h = (name_of h.0, declares_meant variables names q.name q.terms h.0 h.1, suits_meant variables h.0.kind q.change h.2)
 
-body_meant : (variables : List (List ℕ)) (names : List Name) (b : Body) → IsDeclaredBody names b → body_lacks variables b ≡ false → p.IsProperBody (map name_of names) (length variables) (body_of variables b)
-body_meant variables names (NoEvent q) h k = (declared_meant variables names q h, pattern_below variables q (pattern_there variables q k))
-body_meant variables names (Occurs least most q) h k = (declared_meant variables names q h, pattern_below variables q (pattern_there variables q k))
-body_meant variables names (Hold name terms value) h k =
-    let o = or_parts (list_any (lacks variables) terms) (lacks variables value) k in
-    ((name_of h.0, declares_meant variables names name terms h.0 h.1, attribute_meant h.0.kind h.2), terms_below variables terms (terms_there variables terms o.0), term_below variables value (term_there variables value o.1))
+-- a `*` comes of none but a `*`
+term_definite : (variables : List (List ℕ)) (t : Term) → is_any t ≡ false → p.IsDefinite (term_of variables t)
+term_definite variables (Value s) h = tt
+term_definite variables (Variable x) h = tt
+term_definite variables Any h = cc
+
+body_meant : (variables : List (List ℕ)) (names : List Name) (b : Body) → IsDeclaredBody names b → body_lacks variables b ≡ false → IsFirmBody b
+    → p.IsProperBody (map name_of names) (length variables) (body_of variables b)
+body_meant variables names (NoEvent q) h k f = (declared_meant variables names q h, pattern_below variables q (pattern_there variables q k))
+body_meant variables names (Occurs least most q) h k f = (declared_meant variables names q h, pattern_below variables q (pattern_there variables q k), f)
+body_meant variables names (Hold name terms value) h k f =
+    let o = or_parts (list_any (lacks variables) terms) (lacks variables value) k in (
+      (name_of h.0, declares_meant variables names name terms h.0 h.1, attribute_meant h.0.kind h.2),
+      (term_below variables value (term_there variables value o.1), terms_below variables terms (terms_there variables terms o.0)),
+      each_made _ _ (term_of variables) (value ∷ terms) (term_definite variables) f,
+    )
 
 -- Points.
 
@@ -289,7 +299,7 @@ module _ (texts : List (List ℕ)) (names : List Name) (d : ℕ × Written) (h :
     differs = each_made _ _ (differ_of d.1.variables) d.1.differs (λ x q. (place_within d.1.variables x.0 q.0, place_within d.1.variables x.1 q.1)) w.sound.differs;
     windows = each_made _ _ (window_of d.1.variables (points_of d.1)) d.1.windows
         (λ v q. record {
-          body = body_meant d.1.variables names v.body q.0.0 q.1.0;
+          body = body_meant d.1.variables names v.body q.0.0 q.1.0 q.1.1.firm;
           from = anchor_meant d.1 v.from (length (map (event_of d.1.variables) d.1.events)) events_count q.0.1 q.1.1.from;
           to = anchor_meant d.1 v.to (length (map (event_of d.1.variables) d.1.events)) events_count q.0.2 q.1.1.to;
         })

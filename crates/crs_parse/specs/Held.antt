@@ -1,9 +1,9 @@
 -- What is said of statements whose symbols a table holds, and whose numbers fit.
-use Rattle.std.specs.Prelude.{◌≡◌, ◌≤◌, ◌≤ℤ◌, ◌+ℤ◌, ◌^◌, ◌+◌, ℕ, ℤ, pos, true, List, length, IfSome}
+use Rattle.std.specs.Prelude.{◌≡◌, ◌≤◌, ◌≤ℤ◌, ◌+ℤ◌, ◌^◌, ◌+◌, ℕ, ℤ, pos, true, false, List, ◌∷◌, length, IfSome}
 use Rattle.std.specs.List.{AllByRecursion}
 use Rattle.crs_base.specs.Symbols.{is_known, is_symbol}
 use Rattle.crs_grammar.specs.Statements.{Term, Value, Pattern, Event, Body, NoEvent, Occurs, Hold, Window, Distance}
-use Rattle.crs_parse.specs.Faults.{Kind, OfMessage, OfAttribute, Name, Written, Reading, shift_size}
+use Rattle.crs_parse.specs.Faults.{Kind, OfMessage, OfAttribute, Name, Written, Reading, shift_size, is_any}
 use Rattle.crs_parse.specs.Meant.{level_of}
 
 -- a symbol that the table holds
@@ -19,6 +19,12 @@ pub record IsNear (z : ℤ) : Type 0 where
 pub record AreNear (d : Distance) : Type 0 where
   pub low : IfSome d.low IsNear
   pub high : IfSome d.high IsNear
+
+-- an `occurs` wants no more entries than it allows, and a `hold` has no `*`
+abbrev pub IsFirmBody : Body → Type 0
+IsFirmBody (NoEvent p) = Unit {0}
+IsFirmBody (Occurs least most p) = IfSome most (λ m. least ≤ m)
+IsFirmBody (Hold name terms value) = AllByRecursion (λ t. is_any t ≡ false) (value ∷ terms)
 
 module _ (texts : List (List ℕ)) where
   abbrev pub AreHeld : List (List ℕ) → Type 0
@@ -49,6 +55,7 @@ module _ (texts : List (List ℕ)) where
 
   pub record IsHeldWindow (w : Window) : Type 0 where
     pub body : IsHeldBody w.body
+    pub firm : IsFirmBody w.body
     pub from : shift_size w.from.shift ≤ 2 ^ 40
     pub to : shift_size w.to.shift ≤ 2 ^ 40
 
