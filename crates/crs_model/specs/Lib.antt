@@ -11,5 +11,6 @@ pub mod Proper
 pub mod ProperModels
 pub mod Seen
 pub mod Bindings
+pub mod Reach
 pub mod Plans
 pub mod Renaming
