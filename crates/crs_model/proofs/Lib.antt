@@ -14,6 +14,7 @@ pub mod Wholes
 pub mod Renamed
 pub mod RenamedWindows
 pub mod RenamedAssignments
+pub mod RenamedLive
 pub mod Agreed
 pub mod Unique
 pub mod InOrder

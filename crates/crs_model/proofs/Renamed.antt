@@ -79,7 +79,7 @@ module _ {S T : Type 0} (f : S → T) where
     IsLookOf look = (v : ℕ) (x : S) → look v ≡ Some x → P x
 
     -- a variable that stands in a pattern has a symbol of the entry
-    abbrev IsGiven : Binding T → ℕ → Type 0
+    abbrev pub IsGiven : Binding T → ℕ → Type 0
     IsGiven look v = (y : S) × P y × (look v ≡ Some (f y))
 
     of_term : (look : Binding T) (v : ℕ) (t : Term S) (y : S) → P y → term_has v t ≡ true → TermIs look (renamed_term f t) (f y) → IsGiven look v
@@ -104,7 +104,7 @@ module _ {S T : Type 0} (f : S → T) where
       | inr k ↦ of_term look v t.1 x.1 p.1 k e.1
     ]
 
-    of_pattern : (look : Binding T) (v : ℕ) (p : Pattern S) (e : Entry S) → IsEntryOf P e → pattern_has v p ≡ true → PatternIs look (renamed_pattern f p) (renamed_entry f e) → IsGiven look v
+    pub of_pattern : (look : Binding T) (v : ℕ) (p : Pattern S) (e : Entry S) → IsEntryOf P e → pattern_has v p ≡ true → PatternIs look (renamed_pattern f p) (renamed_entry f e) → IsGiven look v
     of_pattern look v p e q h k = elim (or_cases (terms_have v p.terms) (change_has v p.change) h) [
       | inl m ↦ of_terms look v p.terms e.args q.args m k.terms
       | inr m ↦ of_change look v p.change e.change q.change m k.change

@@ -25,7 +25,7 @@ use Rattle.crs_model.proofs.Renamed.{renamed_look, patterns_on, all_dates, value
 
 module _ {S T : Type 0} (f : S → T) (P : S → Type 0) (apart : (x y : S) → P x → P y → f x ≡ f y → x ≡ y) (c : Chronicle S) (of : IsChronicleOf P c) (named : IsNamed c)
     (stars : AllByRecursion (λ w. HasNoStar w.body) c.windows) where
-  known_row : (pool es : List (Entry S)) → AllByRecursion (IsEntryOf P) pool → AllByRecursion (λ e. IsIn e pool) es → AllByRecursion (IsEntryOf P) es
+  pub known_row : (pool es : List (Entry S)) → AllByRecursion (IsEntryOf P) pool → AllByRecursion (λ e. IsIn e pool) es → AllByRecursion (IsEntryOf P) es
   known_row pool es known h = each_from_in (IsEntryOf P) es (λ e i. in_from_each (IsEntryOf P) pool known e (in_from_each (λ d. IsIn d pool) es h e i))
 
   -- under the same symbols the renamed look is the look
@@ -44,7 +44,7 @@ module _ {S T : Type 0} (f : S → T) (P : S → Type 0) (apart : (x y : S) → 
       subst P same g.1
 
   -- the events that are bound are bound to the entries with the other symbols
-  whole_renamed : (es : List (Entry S)) → renamed_partial f (map Some es) ≡ map Some (map (renamed_entry f) es)
+  pub whole_renamed : (es : List (Entry S)) → renamed_partial f (map Some es) ≡ map Some (map (renamed_entry f) es)
   whole_renamed [] = refl
   whole_renamed (e ∷ es) = ap (λ (xs : List (Option (Entry T))). Some (renamed_entry f e) ∷ xs) (whole_renamed es)
 
@@ -163,7 +163,7 @@ module _ {S T : Type 0} (f : S → T) (P : S → Type 0) (apart : (x y : S) → 
       let new : x.1 ≡ y.1 = apart x.1 y.1 p.1 q.1 (ap (λ z. z.1) pair) in
       λ i. Some (old i, new i)
 
-  same_entry : (x y : Entry S) → IsEntryOf P x → IsEntryOf P y → renamed_entry f x ≡ renamed_entry f y → x ≡ y
+  pub same_entry : (x y : Entry S) → IsEntryOf P x → IsEntryOf P y → renamed_entry f x ≡ renamed_entry f y → x ≡ y
   same_entry x y p q e =
       let name : x.name ≡ y.name = apart x.name y.name p.name q.name (ap (λ z. z.name) e) in
       let args : x.args ≡ y.args = same_symbols x.args y.args p.args q.args (ap (λ z. z.args) e) in

@@ -228,7 +228,7 @@ module _ {S T : Type 0} (f : S → T) where
           let rest = terms_of ts zs d.1 k.1 h.1 in
           (first.0 ∷ rest.0, (first.1, rest.1), (first.2, rest.2), λ i. first.3 i ∷ rest.3 i)
 
-      pattern_back : (p : Pattern S) (e : Entry S) → IsPatternOf P p → IsEntryOf P e → PatternIs (renamed_look f look) (renamed_pattern f p) (renamed_entry f e) → PatternIs look p e
+      pub pattern_back : (p : Pattern S) (e : Entry S) → IsPatternOf P p → IsEntryOf P e → PatternIs (renamed_look f look) (renamed_pattern f p) (renamed_entry f e) → PatternIs look p e
       pattern_back p e k q h = record {
         name = apart p.name e.name k.name q.name h.name;
         terms = terms_back f P apart look bound p.terms e.args k.terms q.args h.terms;

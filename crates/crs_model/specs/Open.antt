@@ -36,6 +36,10 @@ module _ {S : Type 0} where
   abbrev pub IsRecognisedWhole : Chronicle S → List (Entry S) → List (Entry S) → ℕ → Partial S → Type 0
   IsRecognisedWhole c pool entries h a = (b : Assignment S) × (a ≡ whole b) × IsRecognised c pool entries h b
 
+  -- open at h, and not recognised then
+  abbrev pub IsLive : Chronicle S → (ℕ → ℕ) → List (Entry S) → List (Entry S) → ℕ → Partial S → Type 0
+  IsLive c level pool entries h a = IsOpen c level pool entries h a × (IsRecognisedWhole c pool entries h a → ⊥)
+
   -- the entries dated before g
   abbrev pub before : ℕ → List (Entry S) → List (Entry S)
   before g entries = filter (λ e. nat_lt e.date g) entries
