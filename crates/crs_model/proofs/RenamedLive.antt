@@ -1,25 +1,25 @@
 -- Live partial assignments with other symbols in place of theirs.
-use Rattle.std.proofs.Common.{◌≡◌, ◌≢◌, ◌⊎◌, inl, inr, ℕ, zero, suc, ◌≤◌, ◌<◌, ℤ, pos, Bool, true, false, cond, ◌||◌, List, [], ◌∷◌, map, length, refl, sym, ap, subst, ◌∙◌, true≢false, arith}
+use Rattle.std.proofs.Common.{◌≡◌, ◌≢◌, inl, inr, ℕ, zero, suc, ℤ, pos, Bool, true, false, cond, List, [], ◌∷◌, map, length, refl, sym, ap, subst, ◌∙◌, true≢false, arith}
 use Rattle.std.specs.Prelude.{Option, Some, None, IfSome, slice_get, slice_index_or, option_map, if◌then◌else◌}
 use Rattle.std.specs.List.{AllByRecursion}
 use Rattle.std.proofs.lemmas.List.{length-map}
 use Rattle.std.proofs.lemmas.Option.{slice_get-map}
 use Rattle.crs_base.specs.Words.{IsIn, Ordered}
 use Rattle.crs_base.specs.Entry.{Entry}
-use Rattle.crs_base.proofs.Words.{in_map, in_map_back, in_from_each, each_from_in, ordered_map}
+use Rattle.crs_base.proofs.Words.{in_map, in_map_back, in_from_each, each_from_in}
 use Rattle.crs_stn.specs.Bound.{Agrees}
 use Rattle.crs_model.specs.Models.{Term, Value, Var, Any, Pattern, EventDef, Chronicle, Window}
 use Rattle.crs_model.specs.Matching.{Binding, Assignment, PatternIs, IsAllowed}
-use Rattle.crs_model.specs.Partial.{Partial, at, EqualsAll, IsLeast, GivesNoneTwice, IsPartial, IsLevelClosed, IsAwaited, CanGoOn, dates_of}
+use Rattle.crs_model.specs.Partial.{Partial, at, EqualsAll, IsLeast, IsLevelClosed, IsAwaited, CanGoOn, dates_of}
 use Rattle.crs_model.specs.Proper.{IsNamed, term_has, terms_have, change_has, pattern_has}
-use Rattle.crs_model.specs.Open.{IsOpen, IsLive, IsRecognisedWhole, whole}
+use Rattle.crs_model.specs.Open.{IsOpen, IsLive, whole}
 use Rattle.crs_model.specs.Levels.{level_in}
 use Rattle.crs_model.specs.Order.{AreAll}
 use Rattle.crs_model.proofs.Offers.{in_whole}
 use Rattle.crs_model.specs.Renaming.{renamed_term, renamed_pattern, renamed_event, renamed_window, renamed_chronicle, renamed_entry, renamed_assignment, IsPatternOf, IsBodyOf, IsChronicleOf, IsEntryOf}
 use Rattle.crs_model.specs.Verdicts.{IsLost}
-use Rattle.crs_model.proofs.Options.{of_some, some_if, cases_of}
-use Rattle.crs_model.proofs.Least.{some_has, here_has, Having, having, Extends, restricted, restricted_least, pattern_agrees}
+use Rattle.crs_model.proofs.Options.{of_some, cases_of}
+use Rattle.crs_model.proofs.Least.{some_has, here_has, having, Extends, restricted, restricted_least, pattern_agrees}
 use Rattle.crs_model.proofs.Renamed.{renamed_look, pattern_on, IsLookOf, IsGiven, of_pattern, sets_on, sets_back, differs_on, differs_back}
 use Rattle.crs_model.proofs.RenamedWindows.{HasNoStar, renamed_partial, at_renamed, lost_on, lost_back, pattern_back}
 use Rattle.crs_model.proofs.RenamedAssignments.{same_entry, recognised_on, recognised_back, whole_renamed}
@@ -110,7 +110,7 @@ module _ {S T : Type 0} (f : S → T) (P : S → Type 0) (apart : (x y : S) → 
   all_back : (look : Binding S) (a : Partial S) → IsLookOf f P look → IsKnownPart a → EqualsAll (renamed_chronicle f c) (renamed_partial f a) (renamed_look f look) → EqualsAll c a look
   all_back look a k known h e =
       equal_back look k (slice_get c.events e) (at a e) (λ v i. pattern_known e v i) (λ x i. known e x i)
-        (rw (slice_get-map (renamed_event f) c.events e, at_renamed f a e) at (h e))
+      (rw (slice_get-map (renamed_event f) c.events e, at_renamed f a e) at (h e))
 
   -- the same of what is bound, and of dates
   none_on : (o : Option (Entry S)) → o ≡ None → option_map (renamed_entry f) o ≡ None
@@ -208,14 +208,14 @@ module _ {S T : Type 0} (f : S → T) (P : S → Type 0) (apart : (x y : S) → 
           let i : slice_get (map (renamed_event f) c.events) r.event ≡ Some (renamed_event f r.def) = slice_get-map (renamed_event f) c.events r.event ∙ ap (option_map (renamed_event f)) r.is in
           let j : at (renamed_partial f a) r.event ≡ Some (renamed_entry f r.entry) = at_renamed f a r.event ∙ ap (option_map (renamed_entry f)) r.bound in
           of_pattern f P other v r.def.pattern r.entry (known r.event r.entry r.bound) r.has
-            (of_some (at (renamed_partial f a) r.event) (renamed_entry f r.entry) _ j (of_some (slice_get (map (renamed_event f) c.events) r.event) (renamed_event f r.def) _ i (h r.event)))
+          (of_some (at (renamed_partial f a) r.event) (renamed_entry f r.entry) _ j (of_some (slice_get (map (renamed_event f) c.events) r.event) (renamed_event f r.def) _ i (h r.event)))
 
       look_bound : (look : Binding S) → IsLeast c a look → IsLookOf f P look
       look_bound look l v x e =
           let r = having v c.events a (stands_bound c a look l v x e) in
           let one = of_some (at a r.event) r.entry _ r.bound (of_some (slice_get c.events r.event) r.def _ r.is (l.equal r.event)) in
           let g = of_pattern (λ (y : S). y) P (renamed_look (λ (y : S). y) look) v r.def.pattern r.entry (known r.event r.entry r.bound) r.has
-            (pattern_on (λ (y : S). y) look r.def.pattern r.entry one) in
+          (pattern_on (λ (y : S). y) look r.def.pattern r.entry one) in
           let i : Some x ≡ Some g.0 = sym e ∙ unrenamed (look v) g.0 g.2 in
           let same : g.0 ≡ x = cc in
           subst P same g.1
@@ -326,7 +326,7 @@ module _ {S T : Type 0} (f : S → T) (P : S → Type 0) (apart : (x y : S) → 
             windows = λ w i lost.
                 let lost' = lost_on f P apart look bound entries settled a h w (body_of w i) (star_of w i) lost in
                 o.windows (renamed_window f w) (in_map (renamed_window f) c.windows w i)
-                  (subst (λ (l : Binding T). IsLost l (renamed_partial f a) (map (renamed_entry f) entries) h (renamed_window f w)) is lost');
+                (subst (λ (l : Binding T). IsLost l (renamed_partial f a) (map (renamed_entry f) entries) h (renamed_window f w)) is lost');
           }
 
       pub open_back : (b : Partial T) → IsOpen (renamed_chronicle f c) level (map (renamed_entry f) pool) (map (renamed_entry f) entries) h b
@@ -374,9 +374,18 @@ module _ {S T : Type 0} (f : S → T) (P : S → Type 0) (apart : (x y : S) → 
 
       live_back : (b : Partial T) → IsLive (renamed_chronicle f c) level (map (renamed_entry f) pool) (map (renamed_entry f) entries) h b → (a : Partial S) × IsLive c level pool entries h a × (b ≡ renamed_partial f a)
       live_back b l =
-          let o = open_back b l.0 in
-          (o.0, (o.1, λ r. l.1 (renamed_assignment f r.0, o.2 ∙ ap (renamed_partial f) r.1 ∙ whole_renamed f P apart c of named stars r.0.entries,
-            recognised_on f P apart c of named stars pool entries h r.0 pool_known settled r.2)), o.2)
+          let o = open_back b l.0 in (
+            o.0,
+            (
+              o.1,
+              λ r. l.1 (
+                renamed_assignment f r.0,
+                o.2 ∙ ap (renamed_partial f) r.1 ∙ whole_renamed f P apart c of named stars r.0.entries,
+                recognised_on f P apart c of named stars pool entries h r.0 pool_known settled r.2,
+              ),
+            ),
+            o.2,
+          )
 
       -- a list of exactly the live ones, without repeats, is one with the other symbols
       pub live_renamed : (held : List (Partial S)) → AreAll (IsLive c level pool entries h) held
@@ -393,14 +402,14 @@ module _ {S T : Type 0} (f : S → T) (P : S → Type 0) (apart : (x y : S) → 
             each_from_in _ (map (renamed_partial f) xs) (λ z i same.
                 let m = in_map_back (renamed_partial f) xs z i in
                 in_from_each (λ y. x ≡ y → ⊥) xs d.0 m.0 m.1
-                  (same_part x m.0 (known_given x (e x (inl refl)).0.partial.given) (known_given m.0 (e m.0 (inr m.1)).0.partial.given) (same ∙ m.2))),
+                (same_part x m.0 (known_given x (e x (inl refl)).0.partial.given) (known_given m.0 (e m.0 (inr m.1)).0.partial.given) (same ∙ m.2))),
             ordered_members xs (λ a i. e a (inr i)) d.1,
           )
 
+same_levels : {S T : Type 0} (f : S → T) (events : List (EventDef S)) → map (λ v. v.level) (map (renamed_event f) events) ≡ map (λ v. v.level) events
+same_levels f [] = refl
+same_levels f (v ∷ vs) = ap (λ (levels : List ℕ). v.level ∷ levels) (same_levels f vs)
+
 -- events have the same levels
 pub levels_renamed : {S T : Type 0} (f : S → T) (events : List (EventDef S)) (focus : Bool) → level_in (map (renamed_event f) events) focus ≡ level_in events focus
-levels_renamed f events focus = ap (λ (levels : List ℕ). λ (e : ℕ). if focus then slice_index_or levels e 0 else 0) (same events)
-  where
-    same : {S T : Type 0} (g : S → T) (events : List (EventDef S)) → map (λ v. v.level) (map (renamed_event g) events) ≡ map (λ v. v.level) events
-    same g [] = refl
-    same g (v ∷ vs) = ap (λ (levels : List ℕ). v.level ∷ levels) (same g vs)
+levels_renamed f events focus = ap (λ (levels : List ℕ). λ (e : ℕ). if focus then slice_index_or levels e 0 else 0) (same_levels f events)
