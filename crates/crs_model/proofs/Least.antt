@@ -97,15 +97,15 @@ module _ {S : Type 0} where
   has_of_event v (u ∷ evs) (o ∷ a) (suc e) ev x i j h = or_right (here_has v u o) (some_has v evs a) (has_of_event v evs a e ev x i j h)
 
   -- some bound event has the variable
-  record Having (v : ℕ) (evs : List (EventDef S)) (a : Partial S) : Type 0 where
-    event : ℕ
-    def : EventDef S
-    entry : Entry S
-    is : slice_get evs event ≡ Some def
-    bound : slice_index_or a event None ≡ Some entry
-    has : pattern_has v def.pattern ≡ true
+  pub record Having (v : ℕ) (evs : List (EventDef S)) (a : Partial S) : Type 0 where
+    pub event : ℕ
+    pub def : EventDef S
+    pub entry : Entry S
+    pub is : slice_get evs event ≡ Some def
+    pub bound : slice_index_or a event None ≡ Some entry
+    pub has : pattern_has v def.pattern ≡ true
 
-  having : (v : ℕ) (evs : List (EventDef S)) (a : Partial S) → some_has v evs a ≡ true → Having v evs a
+  pub having : (v : ℕ) (evs : List (EventDef S)) (a : Partial S) → some_has v evs a ≡ true → Having v evs a
   having v [] a h = absurd (true≢false (sym h))
   having v (u ∷ evs) [] h = absurd (true≢false (sym h))
   having v (u ∷ evs) (None ∷ a) h = let r = having v evs a h in record { event = suc r.event; def = r.def; entry = r.entry; is = r.is; bound = r.bound; has = r.has }

@@ -12,6 +12,9 @@ pub mod FitSays
 pub mod AllowedSays
 pub mod Wholes
 pub mod Renamed
+pub mod RenamedWindows
+pub mod RenamedAssignments
+pub mod RenamedLive
 pub mod Agreed
 pub mod Unique
 pub mod InOrder

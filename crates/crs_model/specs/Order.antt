@@ -40,6 +40,12 @@ pub record Lists {A : Type 0} (cmp : A → A → Ordering) (P : A → Type 0) (x
   pub each : AllByRecursion P xs
   pub all : (a : A) → P a → IsIn a xs
 
+-- xs has, without repeats, exactly those of which P holds
+pub record AreAll {A : Type 0} (P : A → Type 0) (xs : List A) : Type 0 where
+  pub distinct : Ordered (λ a b. a ≡ b → ⊥) xs
+  pub each : (a : A) → IsIn a xs → P a
+  pub all : (a : A) → P a → IsIn a xs
+
 -- the two lists have the same members
 pub record HaveSameMembers {A : Type 0} (xs ys : List A) : Type 0 where
   pub there : (x : A) → IsIn x xs → IsIn x ys

@@ -1,0 +1,5 @@
+pub mod Parts
+pub mod Records
+pub mod TakenRows
+pub mod Fields
+pub mod Logs

@@ -1,0 +1,16 @@
+//! Tables of events, read as CSV and written as a log.
+#![tactic(auto)]
+
+mod laws;
+mod reading;
+mod refusals;
+mod rows;
+mod tables;
+mod writing;
+
+pub use laws::{records_are_all, tables_have_logs};
+pub use refusals::{ImportRefused, RowWord};
+pub use tables::import;
+
+#[cfg(test)]
+mod tests;

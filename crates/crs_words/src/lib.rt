@@ -1,0 +1,11 @@
+//! The words of the command line: which command they are, and with which settings.
+#![tactic(auto)]
+
+mod apps;
+mod command;
+mod reading;
+#[cfg(test)]
+mod tests;
+
+pub use command::{Command, Listing};
+pub use reading::read_words;

@@ -1,0 +1,164 @@
+// What words ask for.
+ghost use Rattle.std.specs.Prelude.{◌≡◌, IfOk, true, map, option_map, string_bytes};
+ghost use Rattle.clap.specs.Words.{app_of, found_of, rows_of, first_of, is_simple_and_free};
+ghost use Rattle.crs_words.specs.Apps.{run_app, model_app, drill_app, import_app};
+ghost use Rattle.crs_words.specs.Commands.{command_of, command_seen, rows_in, read_by, run_in, model_in, drill_in, import_in, is_given, number_within};
+
+use crate::apps::{drill_command, import_command, model_command, run_command};
+use crate::command::{Command, Listing};
+use clap::ArgMatches;
+use clap::error::ErrorKind;
+use crs_base::number;
+use std::alloc::{AllocError, Global};
+
+/// The command of the words behind the program's name. None exactly where they are no command.
+pub fn read_words<'a>(alloc: Global, words: &'a [String]) -> Result<Option<Command<'a>>, AllocError>
+    ensures { IfOk result (λ r. option_map command_seen r ≡ command_of (map string_bytes words.entry.now)) }
+{
+    let Some(name) = words.first() else {
+        return Ok(None);
+    };
+    if name.as_str() == "run" {
+        read_run(alloc, words)
+    } else if name.as_str() == "model" {
+        read_model(alloc, words)
+    } else if name.as_str() == "drill" {
+        read_drill(alloc, words)
+    } else if name.as_str() == "import" {
+        read_import(alloc, words)
+    } else {
+        Ok(None)
+    }
+}
+
+/// What clap finds in the words. None exactly where it finds a fault in them.
+fn matches_of<'a>(
+    command: clap::Command<'a>,
+    words: &'a [String],
+) -> Result<Option<ArgMatches<'a>>, AllocError>
+    requires { is_simple_and_free (app_of command) ≡ true }
+    ensures { IfOk result (λ m. option_map (λ f. rows_of (found_of f)) m ≡ rows_in (app_of command.entry) (map string_bytes words.entry.now)) }
+{
+    match command.try_get_matches_from(words) {
+        Ok(matches) => Ok(Some(matches)),
+        Err(error) if error.kind() == ErrorKind::OutOfMemory => Err(AllocError),
+        Err(_) => Ok(None),
+    }
+}
+
+/// The word at a position, or at an option that takes one.
+fn word_of<'a>(matches: &ArgMatches<'a>, id: &str) -> Option<&'a str>
+    ensures { option_map (λ t. t.now) result ≡ first_of id.now (rows_of (found_of matches.now)) }
+{
+    matches.get_str(id)
+}
+
+/// Whether a flag was given.
+fn is_given(matches: &ArgMatches<'_>, id: &str) -> bool
+    ensures { result ≡ is_given id.now (rows_of (found_of matches.now)) }
+{
+    match word_of(matches, id) {
+        Some(text) => text == "true",
+        None => false,
+    }
+}
+
+/// A number of 1 to 19 digits from `least` to `most`.
+fn number_within(word: &str, least: u32, most: u32) -> Option<u32>
+    ensures { result ≡ number_within least most word.now }
+{
+    match number(word.as_bytes()) {
+        Some(n) if least as u64 <= n && n <= most as u64 => Some(n as u32),
+        _ => None,
+    }
+}
+
+/// Reads the words of `run`, the first of which is its name.
+fn read_run<'a>(alloc: Global, words: &'a [String]) -> Result<Option<Command<'a>>, AllocError>
+    ensures { IfOk result (λ r. option_map command_seen r ≡ read_by run_app run_in (map string_bytes words.entry.now)) }
+{
+    let command = run_command(alloc)?;
+    let Some(matches) = matches_of(command, words)? else {
+        return Ok(None);
+    };
+    Ok(run_of(&matches))
+}
+
+/// What is asked of `run`.
+fn run_of<'a>(matches: &ArgMatches<'a>) -> Option<Command<'a>>
+    ensures { option_map command_seen result ≡ run_in (rows_of (found_of matches.now)) }
+{
+    let summary = is_given(matches, "summary");
+    let models = word_of(matches, "models")?;
+    let log = word_of(matches, "log")?;
+    Some(Command::Run {
+        summary,
+        models,
+        log,
+    })
+}
+
+/// Reads the words of `model`, the first of which is its name.
+fn read_model<'a>(alloc: Global, words: &'a [String]) -> Result<Option<Command<'a>>, AllocError>
+    ensures { IfOk result (λ r. option_map command_seen r ≡ read_by model_app model_in (map string_bytes words.entry.now)) }
+{
+    let command = model_command(alloc)?;
+    let Some(matches) = matches_of(command, words)? else {
+        return Ok(None);
+    };
+    Ok(model_of(&matches))
+}
+
+/// What is asked of `model`.
+fn model_of<'a>(matches: &ArgMatches<'a>) -> Option<Command<'a>>
+    ensures { option_map command_seen result ≡ model_in (rows_of (found_of matches.now)) }
+{
+    let listing = if is_given(matches, "minimal") {
+        Listing::Minimal
+    } else {
+        Listing::Canonical
+    };
+    let models = word_of(matches, "models")?;
+    Some(Command::Print { listing, models })
+}
+
+/// Reads the words of `drill`, the first of which is its name.
+fn read_drill<'a>(alloc: Global, words: &'a [String]) -> Result<Option<Command<'a>>, AllocError>
+    ensures { IfOk result (λ r. option_map command_seen r ≡ read_by drill_app drill_in (map string_bytes words.entry.now)) }
+{
+    let command = drill_command(alloc)?;
+    let Some(matches) = matches_of(command, words)? else {
+        return Ok(None);
+    };
+    Ok(drill_of(&matches))
+}
+
+/// What is asked of `drill`.
+fn drill_of<'a>(matches: &ArgMatches<'a>) -> Option<Command<'a>>
+    ensures { option_map command_seen result ≡ drill_in (rows_of (found_of matches.now)) }
+{
+    let seed = word_of(matches, "seed")?;
+    let lines = word_of(matches, "lines")?;
+    let seed = number_within(seed, 1, 2_147_483_646)?;
+    let lines = number_within(lines, 0, 1_000_000)?;
+    Some(Command::Drill { seed, lines })
+}
+
+/// Reads the words of `import`, the first of which is its name.
+fn read_import<'a>(alloc: Global, words: &'a [String]) -> Result<Option<Command<'a>>, AllocError>
+    ensures { IfOk result (λ r. option_map command_seen r ≡ read_by import_app import_in (map string_bytes words.entry.now)) }
+{
+    let command = import_command(alloc)?;
+    let Some(matches) = matches_of(command, words)? else {
+        return Ok(None);
+    };
+    Ok(import_of(&matches))
+}
+
+/// What is asked of `import`.
+fn import_of<'a>(matches: &ArgMatches<'a>) -> Option<Command<'a>>
+    ensures { option_map command_seen result ≡ import_in (rows_of (found_of matches.now)) }
+{
+    let table = word_of(matches, "table")?;
+    Some(Command::Import { table })
+}
