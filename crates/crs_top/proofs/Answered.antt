@@ -19,7 +19,8 @@ use Rattle.crs_model.specs.Open.{IsNew, IsRecognised}
 use Rattle.crs_model.specs.Plans.{chronicle, IsProper}
 use Rattle.crs_model.specs.Seen.{assignment_of, given}
 use Rattle.crs_model.specs.Renaming.{text_in, AreKnown, renamed_assignment, IsChronicleOf, IsEntryOf}
-use Rattle.crs_model.proofs.Renamed.{known_values, new_renamed}
+use Rattle.crs_model.proofs.RenamedAssignments.{known_values, new_renamed}
+use Rattle.crs_model.proofs.RenamedWindows.{HasNoStar, no_stars}
 use Rattle.crs_model.proofs.Options.{some_and}
 use Rattle.crs_store.specs.Answers.{IsRecognitionOf}
 use Rattle.crs_engine.specs.Marks.{ListsNew, ListsAllNew}
@@ -45,7 +46,10 @@ module _ (texts : List (List ℕ)) (distinct : AreDistinct texts) where
   bound_by [] h = tt
   bound_by (x ∷ values) h = (h.0, bound_by values h.1)
 
-  module _ (p : Plan) (proper : IsProper p) (of : IsChronicleOf (HasText texts) (chronicle p)) (windows : (chronicle p).windows ≡ []) where
+  stars_of : (p : Plan) → IsProper p → AllByRecursion (λ w. HasNoStar w.body) (chronicle p).windows
+  stars_of p proper = no_stars proper.declared.0 (chronicle p) (chronicle p).windows proper.declared.1.windows
+
+  module _ (p : Plan) (proper : IsProper p) (of : IsChronicleOf (HasText texts) (chronicle p)) where
     -- a recognition of known entries can be printed
     printable : (now : List (Entry Sym)) (h : ℕ) (number : ℕ) (mark : Mark) (r : Recognition) → AllByRecursion (IsEntryOf (HasText texts)) now
         → IsRecognitionOf (chronicle p) number mark r → IsRecognised (chronicle p) now now h (assignment_of r) → IsPrintable texts r (chronicle p)
@@ -57,7 +61,7 @@ module _ (texts : List (List ℕ)) (distinct : AreDistinct texts) where
       entries = k.entries;
       each = ap length k.binding ∙ length-map (given r.binding) Some ∙ k.values;
       values = subst (AreBound texts) (sym k.binding)
-          (bound_by (given r.binding) (known_values (text_in texts) (HasText texts) apart (chronicle p) of proper.named windows now (assignment_of r) known rec.assignment));
+          (bound_by (given r.binding) (known_values (text_in texts) (HasText texts) apart (chronicle p) of proper.named (stars_of p proper) now (assignment_of r) known rec.assignment));
     }
 
     -- the lines of the recognitions of the chronicle are those of the assignments
@@ -76,13 +80,13 @@ module _ (texts : List (List ℕ)) (distinct : AreDistinct texts) where
     abbrev StandFrom : List Plan → ℕ → Type 0
     StandFrom ps number = (k : ℕ) → chronicle_at plans (number + k) ≡ option_map chronicle (slice_get ps k)
 
-    each_printable : (p : Plan) (number : ℕ) (answer : List Recognition) → IsProper p → IsChronicleOf (HasText texts) (chronicle p) → (chronicle p).windows ≡ [] → chronicle_at plans number ≡ Some (chronicle p)
+    each_printable : (p : Plan) (number : ℕ) (answer : List Recognition) → IsProper p → IsChronicleOf (HasText texts) (chronicle p) → chronicle_at plans number ≡ Some (chronicle p)
         → AllByRecursion (IsRecognitionOf (chronicle p) number mark) answer → ((r : Recognition) → IsIn r answer → IsRecognised (chronicle p) now now h (assignment_of r)) → ArePrintable plans texts answer
-    each_printable p number [] proper of windows at each rec = tt
-    each_printable p number (r ∷ answer) proper of windows at each rec = (
+    each_printable p number [] proper of at each rec = tt
+    each_printable p number (r ∷ answer) proper of at each rec = (
       some_and (chronicle_at plans r.chronicle) (IsPrintable texts r) (chronicle p) (ap (chronicle_at plans) each.0.chronicle ∙ at)
-          (printable p proper of windows now h number mark r known each.0 (rec r (inl refl))),
-      each_printable p number answer proper of windows at each.1 (λ s i. rec s (inr i)),
+          (printable p proper of now h number mark r known each.0 (rec r (inl refl))),
+      each_printable p number answer proper of at each.1 (λ s i. rec s (inr i)),
     )
 
     first_at : (number : ℕ) (p : Plan) (ps : List Plan) → StandFrom (p ∷ ps) number → chronicle_at plans number ≡ Some (chronicle p)
@@ -95,22 +99,22 @@ module _ (texts : List (List ℕ)) (distinct : AreDistinct texts) where
     recognised_of p number answer l r i = (in_from_each (IsNew (chronicle p) was was g now now h) (map assignment_of answer) l.listed.each (assignment_of r) (in_map assignment_of answer r i)).0
 
     pub all_printable : (ps : List Plan) (number : ℕ) (answer : List Recognition) → StandFrom ps number → AllByRecursion IsProper ps → AllByRecursion (λ p. IsChronicleOf (HasText texts) (chronicle p)) ps
-        → AllByRecursion (λ p. (chronicle p).windows ≡ []) ps → ListsAllNew ps number mark was g now h answer → ArePrintable plans texts answer
-    all_printable [] number answer at proper of windows l = subst (ArePrintable plans texts) (sym l) tt
-    all_printable (p ∷ ps) number answer at proper of windows l = subst (ArePrintable plans texts) (sym l.2)
+        → ListsAllNew ps number mark was g now h answer → ArePrintable plans texts answer
+    all_printable [] number answer at proper of l = subst (ArePrintable plans texts) (sym l) tt
+    all_printable (p ∷ ps) number answer at proper of l = subst (ArePrintable plans texts) (sym l.2)
         (all_append (λ r. IsSomeAnd (chronicle_at plans r.chronicle) (IsPrintable texts r)) l.0 l.1
-        (each_printable p number l.0 proper.0 of.0 windows.0 (first_at number p ps at) l.3.each (recognised_of p number l.0 l.3))
-        (all_printable ps (suc number) l.1 (next_from number p ps at) proper.1 of.1 windows.1 l.4))
+        (each_printable p number l.0 proper.0 of.0 (first_at number p ps at) l.3.each (recognised_of p number l.0 l.3))
+        (all_printable ps (suc number) l.1 (next_from number p ps at) proper.1 of.1 l.4))
 
     pub answer_text : (ps : List Plan) (number : ℕ) (answer : List Recognition) → StandFrom ps number → AllByRecursion IsProper ps → AllByRecursion (λ p. IsChronicleOf (HasText texts) (chronicle p)) ps
-        → AllByRecursion (λ p. (chronicle p).windows ≡ []) ps → ListsAllNew ps number mark was g now h answer
+        → ListsAllNew ps number mark was g now h answer
         → IsMarkText (map (chronicle_in texts) ps) mark (record { settled = entries_in texts was; horizon = g }) (record { settled = entries_in texts now; horizon = h }) (flat_map (line_in plans texts) answer)
-    answer_text [] number answer at proper of windows l = ap (flat_map (line_in plans texts)) l
-    answer_text (p ∷ ps) number answer at proper of windows l = (
+    answer_text [] number answer at proper of l = ap (flat_map (line_in plans texts)) l
+    answer_text (p ∷ ps) number answer at proper of l = (
       map (renamed_assignment (text_in texts)) (map assignment_of l.0),
       flat_map (line_in plans texts) l.1,
-      new_renamed (text_in texts) (HasText texts) apart (chronicle p) of.0 proper.0.named windows.0 now now was was h g known known_was (map assignment_of l.0) l.3.listed,
-      answer_text ps (suc number) l.1 (next_from number p ps at) proper.1 of.1 windows.1 l.4,
+      new_renamed (text_in texts) (HasText texts) apart (chronicle p) of.0 proper.0.named (stars_of p proper.0) now now was was h g known known known_was known_was (map assignment_of l.0) l.3.listed,
+      answer_text ps (suc number) l.1 (next_from number p ps at) proper.1 of.1 l.4,
       ap (flat_map (line_in plans texts)) l.2 ∙ flat_map_append (line_in plans texts) l.0 l.1
-          ∙ ap (λ (xs : List ℕ). xs ++ flat_map (line_in plans texts) l.1) (lines_are p proper.0 of.0 windows.0 plans number mark l.0 (first_at number p ps at) l.3.each),
+          ∙ ap (λ (xs : List ℕ). xs ++ flat_map (line_in plans texts) l.1) (lines_are p proper.0 of.0 plans number mark l.0 (first_at number p ps at) l.3.each),
     )

@@ -96,7 +96,6 @@ module _ (texts more : List (List ℕ)) where
   pub models_grown : (f : Frame) (plans : Plans) (limit : ℕ) → HasModels f plans (record { texts = texts; limit = limit }) → AreDistinct grown → HasModels f plans (record { texts = grown; limit = limit })
   models_grown f plans limit m distinct = record {
     proper = m.proper;
-    windowless = m.windowless;
     names = m.names ∙ names_same plans.names m.names_in;
     arities = m.arities;
     names_in = names_more plans.names m.names_in;

@@ -143,7 +143,6 @@ module _ (symbols entries : ℕ) (text : List ℕ) (m : CodeModels) (table : Tab
     has_models : HasModels frame plans table
     has_models = record {
       proper = made;
-      windowless = windowless;
       names = names_by table.texts m.names ∙ ap (map (name_seen table.texts)) (sym names);
       names_in = subst (AreNamesIn table.texts) (sym names) is.numbered.names;
       names_few = let a : length plans.names ≡ length m.names = ap length names in omega (arith, a, length-map m.names name_of, is.proper.names_few);

@@ -165,7 +165,7 @@ module _ (f : Frame) (x : Session) (s : State) (r : Represents f x s) (new : Eng
   answer_printable = subst (λ (p : Plans). ArePrintable p x.symbols.texts answer) (sym kept)
       (all_printable x.symbols.texts r.models.distinct x.engine.plans mark r.entries.settled now x.engine.horizon new.horizon
       (known_then x.engine x.symbols.texts s.accepted r.entries new.horizon) (known_settled x.engine x.symbols.texts s.accepted r.entries)
-      (plans_of x.engine.plans) 0 answer (stand_from x.engine.plans) r.models.proper r.models.chronicles_in r.models.windowless after.answers)
+      (plans_of x.engine.plans) 0 answer (stand_from x.engine.plans) r.models.proper r.models.chronicles_in after.answers)
 
   abbrev view : List LogEntry → ℕ → View
   view settled horizon = record { settled = settled; horizon = horizon }
@@ -175,7 +175,7 @@ module _ (f : Frame) (x : Session) (s : State) (r : Represents f x s) (new : Eng
   mark_text =
       let raw = answer_text x.symbols.texts r.models.distinct x.engine.plans mark r.entries.settled now x.engine.horizon new.horizon
       (known_then x.engine x.symbols.texts s.accepted r.entries new.horizon) (known_settled x.engine x.symbols.texts s.accepted r.entries)
-      (plans_of x.engine.plans) 0 answer (stand_from x.engine.plans) r.models.proper r.models.chronicles_in r.models.windowless after.answers in
+      (plans_of x.engine.plans) 0 answer (stand_from x.engine.plans) r.models.proper r.models.chronicles_in after.answers in
       let was : view (entries_in x.symbols.texts r.entries.settled) x.engine.horizon ≡ view_of s =
       (λ i. view (settled_now x.engine x.symbols.texts s.accepted r.entries s.horizon r.horizon i) (sym r.horizon i)) in
       let entries : entries_in x.symbols.texts now ≡ dated_before h s.accepted =

@@ -38,7 +38,6 @@ entries_in texts es = map (renamed_entry (text_in texts)) es
 -- the plans are those of the frame's models, by the texts of the table
 pub record HasModels (f : Frame) (plans : Plans) (table : Table) : Type 0 where
   pub proper : AllByRecursion IsProper (plans_of plans)
-  pub windowless : AllByRecursion (λ p. (chronicle p).windows ≡ []) (plans_of plans)
   pub names : f.models.names ≡ map (name_seen table.texts) plans.names
   pub names_in : AreNamesIn table.texts plans.names
   pub names_few : length plans.names ≤ 256
