@@ -107,10 +107,6 @@ module _ (m : ℕ → Bool) (rest : List ℕ) (b : ℕ) (bs : List ℕ) (is : re
       (cond (symbol i) (option_map (λ ts. cond (begins_word bs) (lengthened b ts) (Word (b ∷ []) ∷ ts)) (tokens_behind m false bs))
       (cond (mark i) (option_map (λ ts. Mark b ∷ ts) (tokens_behind m (b == 33) bs)) None))
 
-  -- a byte that is of nothing
-  pub spoilt_front : is_blank b ≡ false → is_symbol_byte b ≡ false → m b ≡ false → tokens_behind m false rest ≡ None
-  spoilt_front = byte_front false
-
   -- a mark in front
   pub mark_front : (o : Option (List ℕ)) → is_blank b ≡ false → is_symbol_byte b ≡ false → m b ≡ true → o ≡ behind_mark b bs
       → tokens_behind m false rest ≡ option_and_then (λ back. option_map (λ ts. Mark b ∷ ts) (tokens_behind m false back)) o

@@ -6,6 +6,7 @@ mod laws;
 mod lines;
 mod list;
 mod numbers;
+mod output;
 mod steps;
 mod sym_list;
 mod symbols;
@@ -19,6 +20,7 @@ pub use lines::{
 };
 pub use list::List;
 pub use numbers::{integer, number};
+pub use output::{push_bytes, push_integer, push_number};
 pub use steps::Steps;
 pub use sym_list::SymList;
 pub use symbols::{Sym, SymRefused, Symbols, is_symbol, is_symbol_byte};

@@ -33,7 +33,3 @@ same_item x k e = cc
 pub none_held : (h : ℕ) (ks : List Held) (k : Held) → slice_get ks 0 ≡ Some k → h ≤ k.entry.value.date → IsInKeyOrder (entries_of ks) → AllByRecursion (λ x. h ≤ x.date) (entries_of ks)
 none_held h [] k e d sorted = tt
 none_held h (x ∷ xs) k e d sorted = none_before h (entry_in x) (entries_of xs) (entries_of (x ∷ xs)) refl (subst (λ y. h ≤ y.entry.value.date) (sym (same_item x k e)) d) sorted
-
--- where the first is dated before h, not all are dated at or after it
-pub first_before : (h : ℕ) (e : Entry Sym) (es : List (Entry Sym)) → AllByRecursion (λ x. h ≤ x.date) (e ∷ es) → e.date < h → ⊥
-first_before h e es all lt = omega (arith, all.0, lt)

@@ -6,7 +6,8 @@ use Rattle.std.proofs.lemmas.Int.{ints}
 use Rattle.std.proofs.lemmas.List.{length-map, length-append}
 use Rattle.crs_base.specs.Words.{IsIn}
 use Rattle.crs_stn.specs.declared.bound.Bound.{Bound}
-use Rattle.crs_stn.specs.Network.{IsMost, IsMinimal, IsEarliest, negated}
+use Rattle.crs_stn.specs.Network.{IsMinimal, IsEarliest, negated}
+use Rattle.crs_stn.proofs.Most.{IsMost-unique}
 use Rattle.crs_model.specs.Models.{Anchor, Window, Chronicle, Name}
 use Rattle.crs_model.specs.ProperModels.{IsProperWindow, IsProperChronicle}
 use Rattle.crs_model.specs.Reach.{Bounds, IsLongest, IsZero, IsPairSpan, IsStartSpan, IsReach}
@@ -18,30 +19,15 @@ equal_spans None (Some y) h k = absurd k
 equal_spans (Some x) None h k = absurd h
 equal_spans (Some x) (Some y) h k = ap Some (omega (arith, ints))
 
-one_longest : (P : Option ℤ → Type 0) (x y : Option ℤ) → IsLongest P x → IsLongest P y → x ≡ y
-one_longest P x y h k = equal_spans x y (h.bounds y k.one) (k.bounds x h.one)
-
 pub one_reach : (n : ℕ) (most : ℕ → ℕ → Option ℤ) (starts : List Anchor) (x y : Option ℤ) → IsReach n most starts x → IsReach n most starts y → x ≡ y
 one_reach n most starts x y h k = equal_spans x y (h.bounds y k.one) (k.bounds x h.one)
-
-equal_most : (a b c d x y : ℤ) → b ≤ℤ (a +ℤ y) → b ≡ a +ℤ x → d ≤ℤ (c +ℤ x) → d ≡ c +ℤ y → x ≡ y
-equal_most a b c d x y h e k f = omega (arith, ints)
-
-never_more : (a b x : ℤ) → b ≤ℤ (a +ℤ x) → (a +ℤ x) <ℤ b → ⊥
-never_more a b x h k = omega (arith, ints)
-
-one_most : (bounds : List Bound) (p q : ℕ) (x y : Option ℤ) → IsMost bounds p q x → IsMost bounds p q y → x ≡ y
-one_most bounds p q None None h k = refl
-one_most bounds p q None (Some y) h k = absurd (never_more ((h y).0 p) ((h y).0 q) y (k.0 (h y).0 (h y).1) (h y).2)
-one_most bounds p q (Some x) None h k = absurd (never_more ((k x).0 p) ((k x).0 q) x (h.0 (k x).0 (k x).1) (k x).2)
-one_most bounds p q (Some x) (Some y) h k = ap Some (equal_most (h.1 p) (h.1 q) (k.1 p) (k.1 q) x y (k.0 h.1 h.2) h.3 (h.0 k.1 k.2) k.3)
 
 -- the two agree on the points below n
 abbrev Agree : ℕ → (ℕ → ℕ → Option ℤ) → (ℕ → ℕ → Option ℤ) → Type 0
 Agree n f g = (p q : ℕ) → p < n → q < n → f p q ≡ g p q
 
 minimal_agree : (bounds : List Bound) (n : ℕ) (f g : ℕ → ℕ → Option ℤ) → IsMinimal bounds n f → IsMinimal bounds n g → Agree n f g
-minimal_agree bounds n f g h k p q a b = one_most bounds p q (f p q) (g p q) (h p q a b) (k p q a b)
+minimal_agree bounds n f g h k p q a b = IsMost-unique bounds p q (f p q) (g p q) (h p q a b) (k p q a b)
 
 -- the anchors name events below n
 abbrev AreBelow : ℕ → List Anchor → Type 0

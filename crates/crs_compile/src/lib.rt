@@ -5,7 +5,6 @@ mod compiling;
 mod laws;
 mod minimal;
 mod reach;
-mod writing;
 
 pub use compiling::compile;
 pub use laws::{minimal_text_is_one, reach_is_one};

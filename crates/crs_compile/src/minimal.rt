@@ -6,10 +6,9 @@ ghost use Rattle.crs_model.specs.Plans.{IsProper};
 ghost use Rattle.crs_model.specs.Seen.{chronicle_of};
 ghost use Rattle.crs_compile.specs.Compiled.{plans_in, chronicles_in};
 ghost use Rattle.crs_model.specs.Renaming.{text_in, AreKnown};
-ghost use Rattle.crs_compile.specs.Minimal.{pair_line, lines_of_point, pair_lines, date_text, head_text, earliest_text, points_of, IsChronicleText, IsMinimalText, IsPrintable, Appends};
+ghost use Rattle.crs_compile.specs.Minimal.{end_text, pair_line, lines_of_point, pair_lines, date_text, head_text, earliest_text, points_of, IsChronicleText, IsMinimalText, IsPrintable, Appends};
 
-use crate::writing::{push_bytes, push_end, push_number};
-use crs_base::{Sym, Symbols, Text};
+use crs_base::{Sym, Symbols, Text, push_bytes, push_integer};
 use crs_model::{Chronicle, Plan, Plans};
 use crs_stn::{Dates, Network};
 use std::alloc::{AllocError, Global};
@@ -24,6 +23,16 @@ fn low_of(network: &Network, earlier: u8, later: u8) -> Option<i64>
     match network.most(later, earlier) {
         Some(most) => Some(-most),
         None => None,
+    }
+}
+
+/// Writes a number, or the word for an infinite one.
+fn push_end(out: &mut Vec<u8>, end: Option<i64>, infinite: &[u8]) -> Result<(), AllocError>
+    ensures { OnOk result (out.new.items ≡ out.old.items ++ end_text infinite.now end) }
+{
+    match end {
+        Some(n) => push_integer(out, n as i128),
+        None => push_bytes(out, infinite),
     }
 }
 
@@ -122,7 +131,7 @@ fn push_date(out: &mut Vec<u8>, symbols: &Symbols, point: Sym, date: i64) -> Res
     push_bytes(out, b" ")?;
     push_bytes(out, symbols.text(point))?;
     push_bytes(out, b"=")?;
-    push_number(out, date)
+    push_integer(out, date as i128)
 }
 
 /// Writes the points and their dates, given the number of the first.

@@ -5,10 +5,9 @@ use Rattle.std.specs.List.{AllByRecursion}
 use Rattle.std.proofs.lemmas.List.{get_or_default, length-replicate}
 use Rattle.crs_base.specs.declared.symbols.Sym.{Sym}
 use Rattle.crs_stn.specs.Table.{most_of}
-use Rattle.crs_stn.proofs.Partial.{least_of, after}
-use Rattle.crs_stn.proofs.Soonest.{greatest_of, before, IsSoonest-soonest}
+use Rattle.crs_stn.specs.DateWindow.{least_of, after, greatest_of, before, IsLatest, IsSoonest}
+use Rattle.crs_stn.proofs.Soonest.{IsSoonest-soonest}
 use Rattle.crs_stn.proofs.DateWindow.{IsLatest-latest}
-use Rattle.crs_stn.specs.DateWindow.{IsLatest, IsSoonest}
 use Rattle.crs_model.specs.declared.plan.Plan.{Plan}
 use Rattle.crs_model.specs.declared.chronicle.EventDef.{EventDef as CodeEvent}
 use Rattle.crs_model.specs.declared.date_window.DateWindow.{DateWindow}

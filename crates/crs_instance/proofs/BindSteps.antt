@@ -6,9 +6,10 @@ use Rattle.crs_base.specs.declared.symbols.Sym.{Sym}
 use Rattle.crs_stn.specs.Bound.{MeetsInPart, Agrees, Meets}
 use Rattle.crs_stn.specs.Network.{IsPairwiseWithin}
 use Rattle.crs_stn.specs.Table.{most_of}
-use Rattle.crs_stn.specs.DateWindow.{given_also, IsLatest, IsSoonest}
-use Rattle.crs_stn.proofs.Partial.{latest, lesser, after, met_from_pairwise, pairwise_from_met}
-use Rattle.crs_stn.proofs.Soonest.{soonest, greater_of, before, IsSoonest-soonest, given_also_pairwise}
+use Rattle.crs_stn.specs.DateWindow.{given_also, IsLatest, IsSoonest, latest, after, soonest, greater_of, before}
+use Rattle.crs_stn.specs.Cycle.{lesser}
+use Rattle.crs_stn.proofs.Partial.{met_from_pairwise, pairwise_from_met}
+use Rattle.crs_stn.proofs.Soonest.{IsSoonest-soonest, given_also_pairwise}
 use Rattle.crs_stn.proofs.DateWindow.{IsLatest-latest}
 use Rattle.crs_model.specs.declared.plan.Plan.{Plan}
 use Rattle.crs_model.specs.declared.date_window.DateWindow.{DateWindow}

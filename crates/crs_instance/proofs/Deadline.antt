@@ -7,7 +7,8 @@ use Rattle.std.proofs.lemmas.List.{length-map}
 use Rattle.crs_base.specs.declared.symbols.Sym.{Sym}
 use Rattle.crs_base.specs.declared.entry.Entry.{Entry as CodeEntry}
 use Rattle.crs_base.specs.Entry.{Entry}
-use Rattle.crs_stn.proofs.Partial.{least_of, least_of_is_below, least_of_is_reached}
+use Rattle.crs_stn.specs.DateWindow.{least_of}
+use Rattle.crs_stn.proofs.Partial.{least_of_is_below, least_of_is_reached}
 use Rattle.crs_model.specs.declared.chronicle.EventDef.{EventDef as CodeEvent}
 use Rattle.crs_model.specs.declared.date_window.DateWindow.{DateWindow}
 use Rattle.crs_model.specs.Levels.{level_in}

@@ -4,7 +4,7 @@ use Rattle.std.specs.Prelude.{ℤ, pos, ◌≤ℤ◌, Option, Some, None, IfSome
 use Rattle.std.proofs.lemmas.Int.{ints}
 use Rattle.crs_base.specs.declared.symbols.Sym.{Sym}
 use Rattle.crs_stn.specs.Bound.{Meets, Agrees}
-use Rattle.crs_stn.specs.DateWindow.{IsLatest, CanBeFrom}
+use Rattle.crs_stn.specs.DateWindow.{IsLatest, CanBeFrom, after}
 use Rattle.crs_stn.proofs.DateWindow.{joint_demand}
 use Rattle.crs_model.specs.declared.plan.Plan.{Plan}
 use Rattle.crs_base.specs.Entry.{Entry}
@@ -15,7 +15,6 @@ use Rattle.crs_model.proofs.Options.{none_if}
 use Rattle.crs_instance.specs.Instances.{InstanceState, IsOf, IsDeadline, window_at}
 use Rattle.std.specs.Prelude.{option_map}
 use Rattle.crs_stn.specs.Table.{most_of}
-use Rattle.crs_stn.proofs.Partial.{after}
 use Rattle.crs_stn.proofs.DateWindow.{IsLatest-latest}
 use Rattle.crs_instance.proofs.BindAnswers.{least_none}
 

@@ -4,9 +4,8 @@ use Rattle.std.specs.Prelude.{ℤ, Option, Some, None}
 use Rattle.std.proofs.lemmas.Int.{ints, clamps}
 use Rattle.std.proofs.lemmas.Bool.{cases_lt}
 use Rattle.std.proofs.lemmas.Bool.Decides.{eqb_tells}
-use Rattle.crs_stn.specs.DateWindow.{given_also}
-use Rattle.crs_stn.proofs.Partial.{latest, lesser, least_of, after}
-use Rattle.crs_stn.proofs.Soonest.{soonest, greater_of, greatest_of, before}
+use Rattle.crs_stn.specs.DateWindow.{given_also, latest, least_of, after, soonest, greater_of, greatest_of, before}
+use Rattle.crs_stn.specs.Cycle.{lesser}
 
 lesser_turns : (a b : Option ℤ) → lesser a b ≡ lesser b a
 lesser_turns None None = refl

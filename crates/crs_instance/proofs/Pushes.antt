@@ -4,8 +4,8 @@ use Rattle.std.specs.Prelude.{ℤ, Option, Some, None}
 use Rattle.std.proofs.lemmas.Bool.{cases_lt}
 use Rattle.std.proofs.lemmas.List.{get_or_push}
 use Rattle.std.proofs.Math.ListN.{get_or-append}
-use Rattle.crs_stn.proofs.Partial.{lesser, after}
-use Rattle.crs_stn.proofs.Soonest.{greater_of, before}
+use Rattle.crs_stn.specs.Cycle.{lesser}
+use Rattle.crs_stn.specs.DateWindow.{after, greater_of, before}
 use Rattle.crs_model.specs.declared.date_window.DateWindow.{DateWindow}
 use Rattle.std.specs.declared.rc.Rc.{Rc}
 use Rattle.std.proofs.Common.{Global, suc}

@@ -1,8 +1,8 @@
 -- Date windows when one more date is given.
 use Rattle.std.specs.Prelude.{◌≡◌, ◌<◌, ℕ, ℤ, List, length, Option, Some}
 use Rattle.crs_model.specs.declared.date_window.DateWindow.{DateWindow}
-use Rattle.crs_stn.proofs.Partial.{lesser, after}
-use Rattle.crs_stn.proofs.Soonest.{greater_of, before}
+use Rattle.crs_stn.specs.Cycle.{lesser}
+use Rattle.crs_stn.specs.DateWindow.{after, greater_of, before}
 use Rattle.crs_instance.specs.Instances.{window_at}
 
 -- what the date d of e makes of the windows

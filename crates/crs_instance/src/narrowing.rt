@@ -1,7 +1,7 @@
 ghost use Rattle.std.specs.Prelude.{◌≡◌, ◌<◌, ◌≤◌, ◌^◌, ◌*◌, ◌↔◌, ℤ, pos, ◌≤ℤ◌, ◌+ℤ◌, length, IfOk, IfSome, IsTrue, Some, Option};
 ghost use Rattle.crs_stn.specs.Table.{most_of};
-ghost use Rattle.crs_stn.proofs.Partial.{lesser, after};
-ghost use Rattle.crs_stn.proofs.Soonest.{greater_of, before};
+ghost use Rattle.crs_stn.specs.Cycle.{lesser};
+ghost use Rattle.crs_stn.specs.DateWindow.{after, greater_of, before};
 ghost use Rattle.crs_instance.specs.Instances.{IsInside};
 ghost use Rattle.crs_instance.specs.Narrowed.{IsNarrowed};
 

@@ -139,15 +139,6 @@ module _ {A : Type 0} (f : A → List ℕ) (xs : List A) (i : ℕ) (d : A) (lt :
       let e : length U ≡ length T + one_if_new T t = ap length is ∙ length_with T t in
       omega (arith, a, b, e, h)
 
-  -- and there is room for it
-  pub room_here : (T : List (List ℕ)) (limit : ℕ) → length T + length (new_texts T (map f (drop i xs))) ≤ limit → is_known T (f (get_or xs i d)) ≡ false → length T < limit
-  room_here T limit h k =
-      let t : List ℕ = f (get_or xs i d) in
-      let rest : List (List ℕ) = map f (drop (i + 1) xs) in
-      let a : length (new_texts T (map f (drop i xs))) ≡ one_if_new T t + length (new_texts (with_text T t) rest) = ap (λ ts. length (new_texts T ts)) drops ∙ new_step T rest t in
-      let b : one_if_new T t ≡ 1 = ap (λ v. cond v 0 1) k in
-      omega (arith, a, b, h)
-
 -- no more are new than there are
 pub new_at_most : (K ts : List (List ℕ)) → length (new_texts K ts) ≤ length ts
 new_at_most K [] = omega arith

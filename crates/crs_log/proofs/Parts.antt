@@ -20,19 +20,6 @@ use Rattle.crs_log.specs.declared.items.Span.{Span}
 use Rattle.crs_log.specs.declared.items.Raw.{Raw}
 use Rattle.crs_log.proofs.Added.{place_known, kept_text, length_with}
 
-pub pair_back : (T : List (List ℕ)) (values : List Sym) (d : Sym) (c : Change) → length values ≡ 2 → map (text_in T) values ≡ c.0 ∷ c.1 ∷ []
-    → Some (text_in T (get_or values 0 d), text_in T (get_or values 1 d)) ≡ Some c
-pair_back T [] d c h e = absurd (omega (arith, h))
-pair_back T (x ∷ []) d c h e = absurd (omega (arith, h))
-pair_back T (x ∷ y ∷ []) d c h e = λ i. Some (get_or (e i) 0 [], get_or (e i) 1 [])
-pair_back T (x ∷ y ∷ z ∷ zs) d c h e = absurd (omega (arith, h))
-
-pub pair_within : (T : List (List ℕ)) (values : List Sym) (d : Sym) → length values ≡ 2 → AreKnown T values → ((get_or values 0 d).0 < length T) × ((get_or values 1 d).0 < length T)
-pair_within T [] d h k = absurd (omega (arith, h))
-pair_within T (x ∷ []) d h k = absurd (omega (arith, h))
-pair_within T (x ∷ y ∷ []) d h k = (k.0, k.1.0)
-pair_within T (x ∷ y ∷ z ∷ zs) d h k = absurd (omega (arith, h))
-
 drop-map : {A B : Type 0} (f : A → B) (n : ℕ) (xs : List A) → drop n (map f xs) ≡ map f (drop n xs)
 drop-map f zero xs = refl
 drop-map f (suc n) [] = refl

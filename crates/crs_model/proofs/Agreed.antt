@@ -83,9 +83,6 @@ module _ {S T : Type 0} (f g : S → T) (P : S → Type 0) (same : (s : S) → P
   pub same_chronicles : (cs : List (Chronicle S)) → AllByRecursion (IsChronicleOf P) cs → map (renamed_chronicle f) cs ≡ map (renamed_chronicle g) cs
   same_chronicles cs h = all_same (renamed_chronicle f) (renamed_chronicle g) (IsChronicleOf P) cs same_chronicle h
 
-  pub same_models : (m : Models S) → AreModelsOf P m → renamed_models f m ≡ renamed_models g m
-  same_models m h = λ i. record { names = same_names m.names h.names i; chronicles = same_chronicles m.chronicles h.chronicles i }
-
   same_entry : (e : Entry S) → IsEntryOf P e → renamed_entry f e ≡ renamed_entry g e
   same_entry e h = λ i. record { arrival = e.arrival; date = e.date; name = same e.name h.name i; args = same_symbols e.args h.args i; change = same_change e.change h.change i; text = e.text }
 

@@ -15,20 +15,11 @@ pub fits_says : (p : Pattern Sym) (old : List (Option Sym)) (e : Entry Sym) (new
 fits_says p old e None h = (λ t. absurd cc, λ f. absurd (h f.0 f.1 f.2))
 fits_says p old e (Some new) h = (λ t. (look_of new, (h.0).more, (h.0).holds), λ f. refl)
 
-pub names_differ : (p : Pattern Sym) (old : List (Option Sym)) (e : Entry Sym) → p.name ≢ e.name → IsMatch (λ look. PatternIs look p e) old None
-names_differ p old e n = λ other l r. n r.name
-
-pub terms_differ : (p : Pattern Sym) (old : List (Option Sym)) (e : Entry Sym) → IsMatch (λ look. AllZip (TermIs look) p.terms e.args) old None → IsMatch (λ look. PatternIs look p e) old None
-terms_differ p old e h = match_not _ (λ look. PatternIs look p e) old (λ look r. r.terms) h
-
 pub pattern_then : (p : Pattern Sym) (old mid : List (Option Sym)) (e : Entry Sym) (new : Option (List (Option Sym))) (ts : List (Term Sym)) (xs : List Sym) → ts ≡ p.terms → xs ≡ e.args → p.name ≡ e.name → IsMatch (λ look. AllZip (TermIs look) ts xs) old (Some mid) → IsMatch (λ look. ChangeIs look p.change e.change) mid new → IsMatch (λ look. PatternIs look p e) old new
 pattern_then p old mid e new ts xs a b s h k =
     match_then (λ look. AllZip (TermIs look) ts xs) _ (λ look. PatternIs look p e) old mid new (λ small look l t. terms_up small look l ts xs t)
     (λ look t c. record { name = s; terms = subst (λ (y : List Sym). AllZip (TermIs look) p.terms y) b (subst (λ (y : List (Term Sym)). AllZip (TermIs look) y xs) a t); change = c })
     (λ look r. subst (λ (y : List Sym). AllZip (TermIs look) ts y) (sym b) (subst (λ (y : List (Term Sym)). AllZip (TermIs look) y e.args) (sym a) r.terms)) (λ look r. r.change) h k
-
-pub not_fit : (p : Pattern Sym) (old : List (Option Sym)) (e : Entry Sym) → IsMatch (λ look. PatternIs look p e) old None → IsFit p old e → ⊥
-not_fit p old e h f = h f.0 f.1 f.2
 
 -- a bound variable is one of the binding's
 bound_below : (old : List (Option Sym)) (v : ℕ) → IsSomeAnd (look_of old v) (λ _. Unit {0}) → v < length old

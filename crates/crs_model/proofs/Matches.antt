@@ -51,7 +51,3 @@ match_then P Q R old mid (Some new) up both one two h k = (
 
 pub match_not : (P R : Binding Sym → Type 0) (old : List (Option Sym)) → ((look : Binding Sym) → R look → P look) → IsMatch P old None → IsMatch R old None
 match_not P R old one h = λ other l r. h other l (one other r)
-
-pub match_as : (P R : Binding Sym → Type 0) (old : List (Option Sym)) (new : Option (List (Option Sym))) → ((look : Binding Sym) → R look → P look) → ((look : Binding Sym) → P look → R look) → IsMatch P old new → IsMatch R old new
-match_as P R old None one back h = λ other l r. h other l (one other r)
-match_as P R old (Some new) one back h = (record { holds = back (look_of new) (h.0).holds; more = (h.0).more; least = λ other l r. (h.0).least other l (one other r) }, h.1)

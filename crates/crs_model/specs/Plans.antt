@@ -5,6 +5,7 @@ use Rattle.crs_base.specs.declared.symbols.Sym.{Sym}
 use Rattle.crs_stn.specs.Bound.{IsWithin, IsConsistent}
 use Rattle.crs_stn.specs.Network.{IsMinimal}
 use Rattle.crs_stn.specs.Table.{most_of}
+use Rattle.crs_model.specs.declared.limits.TheConstants.{POINT_LIMIT, EVENT_LIMIT, VARIABLE_LIMIT}
 use Rattle.crs_model.specs.declared.plan.Plan.{Plan}
 use Rattle.crs_model.specs.Models.{Chronicle, Name}
 use Rattle.crs_model.specs.Proper.{IsNamed}
@@ -19,10 +20,10 @@ chronicle p = chronicle_of p.chronicle
 -- the chronicle is that of an accepted models text, and the network and the reach are the chronicle's
 pub record IsProper (p : Plan) : Type 0 where
   pub points : p.network.points ≡ length p.chronicle.events + length p.chronicle.free
-  pub few : p.network.points ≤ 24
+  pub few : p.network.points ≤ POINT_LIMIT
   pub events_some : 0 < length p.chronicle.events
-  pub events_few : length p.chronicle.events ≤ 16
-  pub variables_few : length p.chronicle.variables ≤ 16
+  pub events_few : length p.chronicle.events ≤ EVENT_LIMIT
+  pub variables_few : length p.chronicle.variables ≤ VARIABLE_LIMIT
   pub within : IsWithin p.network.points p.chronicle.bounds
   pub consistent : IsConsistent p.chronicle.bounds
   pub minimal : IsMinimal p.chronicle.bounds p.network.points (most_of p.network)

@@ -1,17 +1,18 @@
 -- What every accepted model meets.
-use Rattle.std.specs.Prelude.{◌≡◌, ◌<◌, ◌≤◌, ◌≤ℤ◌, ◌+ℤ◌, ◌+◌, ◌^◌, ℕ, pos, List, ◌∷◌, length, Option, Some, None, IfSome}
+use Rattle.std.specs.Prelude.{◌≡◌, ◌<◌, ◌≤◌, ◌≤ℤ◌, ◌+ℤ◌, ◌+◌, ◌*◌, ℕ, pos, List, ◌∷◌, length, Option, Some, None, IfSome}
 use Rattle.std.specs.List.{AllByRecursion}
 use Rattle.crs_base.specs.Words.{IsIn}
 use Rattle.crs_stn.specs.Bound.{IsWithin}
+use Rattle.crs_model.specs.declared.limits.TheConstants.{TICK_LIMIT, LEVEL_LIMIT, EVENT_LIMIT, POINT_LIMIT, DISTANCE_LIMIT, VARIABLE_LIMIT, WINDOW_LIMIT, NAME_LIMIT, ARITY_LIMIT, CHRONICLE_LIMIT}
 use Rattle.crs_model.specs.Models.{Term, Value, Var, Any, Pattern, EventDef, Anchor, Body, NoEvent, Occurs, Hold, Window, Chronicle, Kind, Message, Attribute, Name, Models}
 use Rattle.crs_model.specs.Bindings.{TermIsBelow, PatternIsBelow}
 use Rattle.crs_model.specs.Proper.{IsNamed}
 
--- the anchor names one of the events, and its offset has a size of at most 2 ^ 40
+-- the anchor names one of the events, and its offset has a size of at most the limit
 pub record IsProperAnchor (events : ℕ) (a : Anchor) : Type 0 where
   pub event : a.event < events
-  pub not_large : a.offset ≤ℤ pos (2 ^ 40)
-  pub not_small : pos 0 ≤ℤ (a.offset +ℤ pos (2 ^ 40))
+  pub not_large : a.offset ≤ℤ pos TICK_LIMIT
+  pub not_small : pos 0 ≤ℤ (a.offset +ℤ pos TICK_LIMIT)
 
 module _ {S : Type 0} where
   abbrev pub IsAttribute : Kind S → Type 0
@@ -60,16 +61,16 @@ module _ {S : Type 0} where
   pub record IsProperEvent (names : List (Name S)) (c : Chronicle S) (e : EventDef S) : Type 0 where
     pub declared : IsDeclared names e.pattern
     pub below : PatternIsBelow (length c.variables) e.pattern
-    pub level : e.level ≤ 7
+    pub level : e.level ≤ LEVEL_LIMIT
 
   -- the counts, the numbers of points and variables, and the names of an accepted chronicle
   pub record IsProperChronicle (names : List (Name S)) (c : Chronicle S) : Type 0 where
     pub events_some : 0 < length c.events
-    pub events_few : length c.events ≤ 16
-    pub points_few : length c.events + length c.free ≤ 24
-    pub bounds_few : length c.bounds ≤ 512
-    pub variables_few : length c.variables ≤ 16
-    pub windows_few : length c.windows ≤ 16
+    pub events_few : length c.events ≤ EVENT_LIMIT
+    pub points_few : length c.events + length c.free ≤ POINT_LIMIT
+    pub bounds_few : length c.bounds ≤ 2 * DISTANCE_LIMIT
+    pub variables_few : length c.variables ≤ VARIABLE_LIMIT
+    pub windows_few : length c.windows ≤ WINDOW_LIMIT
     pub within : IsWithin (length c.events + length c.free) c.bounds
     pub events : AllByRecursion (IsProperEvent names c) c.events
     pub named : IsNamed c
@@ -78,7 +79,7 @@ module _ {S : Type 0} where
     pub windows : AllByRecursion (IsProperWindow names c) c.windows
 
   pub record AreProper (m : Models S) : Type 0 where
-    pub names_few : length m.names ≤ 256
-    pub arities : AllByRecursion (λ n. n.arity ≤ 8) m.names
-    pub chronicles_few : length m.chronicles ≤ 64
+    pub names_few : length m.names ≤ NAME_LIMIT
+    pub arities : AllByRecursion (λ n. n.arity ≤ ARITY_LIMIT) m.names
+    pub chronicles_few : length m.chronicles ≤ CHRONICLE_LIMIT
     pub chronicles : AllByRecursion (IsProperChronicle m.names) m.chronicles

@@ -6,6 +6,7 @@ mod binding;
 mod chronicle;
 mod date_window;
 mod laws;
+pub mod limits;
 mod matching;
 mod models;
 mod pattern;

@@ -4,6 +4,7 @@ use Rattle.std.specs.List.{list_any, flat_map}
 use Rattle.crs_base.specs.Symbols.{with_texts}
 use Rattle.crs_model.specs.declared.models.ModelWord.{ModelWord}
 use Rattle.crs_model.specs.declared.models.ModelWord.TheVariants.{Form as FormWord, Twice, Name as NameWord, Arity as ArityWord, Value as ValueWord, Variable as VariableWord, Point as PointWord, Bound as BoundWord, Window as WindowWord, Limit as LimitWord, Events as EventsWord, Unbound as UnboundWord, Size as SizeWord}
+use Rattle.crs_model.specs.declared.limits.TheConstants.{SIZE_LIMIT, NAME_LIMIT, ARITY_LIMIT, VALUE_LIMIT, CHRONICLE_LIMIT, EVENT_LIMIT, POINT_LIMIT, DISTANCE_LIMIT, VARIABLE_LIMIT, DIFFERENCE_LIMIT, WINDOW_LIMIT, LEVEL_LIMIT, COUNT_LIMIT, TICK_LIMIT}
 use Rattle.crs_base.specs.Lines.{Line, lines_of, bytes_of, is_long, is_passed_over}
 use Rattle.crs_base.specs.Tokens.{tokens_of, is_model_mark}
 use Rattle.crs_grammar.specs.Statements.{Term, Value, Variable, Any, Pattern, Event, Shift, Here, Later, Earlier, Body, NoEvent, Occurs, Hold, Window, Distance, Statement, Message, Attribute, Begin, Happens, Point, Between, Among, Differ, Over, Close}
@@ -104,7 +105,7 @@ name_of names text = find (λ n. bytes_eq text n.name) names
 -- a size above 2^40
 abbrev pub is_far : Option ℤ → Bool
 is_far None = false
-is_far (Some z) = int_lt (pos 1099511627776) z || int_lt z (neg_ℤ (pos 1099511627776))
+is_far (Some z) = int_lt (pos TICK_LIMIT) z || int_lt z (neg_ℤ (pos TICK_LIMIT))
 
 abbrev pub are_crossed : Option ℤ → Option ℤ → Bool
 are_crossed (Some l) (Some h) = int_lt h l
@@ -185,7 +186,7 @@ body_has_wrong_value names (Occurs least most p) = is_beyond (name_of names p.na
 body_has_wrong_value names (Hold name terms value) = holds_beyond (name_of names name) value
 
 abbrev pub has_wrong_counts : Body → Bool
-has_wrong_counts (Occurs least most p) = nat_lt 4294967295 least || is_above 4294967295 most || is_below most least
+has_wrong_counts (Occurs least most p) = nat_lt COUNT_LIMIT least || is_above COUNT_LIMIT most || is_below most least
 has_wrong_counts _ = false
 
 abbrev pub body_has_any : Body → Bool
@@ -237,7 +238,7 @@ has_no_point c _ = false
 -- a LOW, HIGH or offset of size above 2^40; LOW above HIGH; an `occurs` number above 2^32 - 1; the first number above the second
 abbrev pub is_out_of_bounds : Statement → Bool
 is_out_of_bounds (Between d) = is_far d.low || is_far d.high || are_crossed d.low d.high
-is_out_of_bounds (Over w) = nat_lt 1099511627776 (shift_size w.from.shift) || nat_lt 1099511627776 (shift_size w.to.shift) || has_wrong_counts w.body
+is_out_of_bounds (Over w) = nat_lt TICK_LIMIT (shift_size w.from.shift) || nat_lt TICK_LIMIT (shift_size w.to.shift) || has_wrong_counts w.body
 is_out_of_bounds _ = false
 
 -- a `*` in a `hold`
@@ -247,19 +248,19 @@ has_any _ = false
 
 -- with its variables there, an event of this level would pass a limit
 abbrev pub is_full : Written → Option ℕ → Bool
-is_full c level = nat_le 16 (length c.events) || nat_le 24 (length c.events + length c.free) || is_above 7 level || nat_lt 16 (length c.variables)
+is_full c level = nat_le EVENT_LIMIT (length c.events) || nat_le POINT_LIMIT (length c.events + length c.free) || is_above LEVEL_LIMIT level || nat_lt VARIABLE_LIMIT (length c.variables)
 
 -- a counted quantity would pass its limit
 abbrev pub passes_count : List Name → List (ℕ × Written) → Written → Statement → Bool
-passes_count names done c (Message name arity) = nat_le 256 (length names) || nat_lt 8 arity
-passes_count names done c (Attribute name arity values) = nat_le 256 (length names) || nat_lt 8 arity || is_above 64 (option_map length values)
-passes_count names done c (Begin name) = nat_le 64 (length done)
+passes_count names done c (Message name arity) = nat_le NAME_LIMIT (length names) || nat_lt ARITY_LIMIT arity
+passes_count names done c (Attribute name arity values) = nat_le NAME_LIMIT (length names) || nat_lt ARITY_LIMIT arity || is_above VALUE_LIMIT (option_map length values)
+passes_count names done c (Begin name) = nat_le CHRONICLE_LIMIT (length done)
 passes_count names done c (Happens e) = is_full (record c { variables = with_texts c.variables (variables_of e.pattern) }) e.level
-passes_count names done c (Point name) = nat_le 24 ((length c.events + length c.free))
-passes_count names done c (Between d) = nat_le 256 (length c.bounds)
-passes_count names done c (Among x values) = nat_lt 64 (length values)
-passes_count names done c (Differ x y) = nat_le 64 (length c.differs)
-passes_count names done c (Over w) = nat_le 16 (length c.windows)
+passes_count names done c (Point name) = nat_le POINT_LIMIT (length c.events + length c.free)
+passes_count names done c (Between d) = nat_le DISTANCE_LIMIT (length c.bounds)
+passes_count names done c (Among x values) = nat_lt VALUE_LIMIT (length values)
+passes_count names done c (Differ x y) = nat_le DIFFERENCE_LIMIT (length c.differs)
+passes_count names done c (Over w) = nat_le WINDOW_LIMIT (length c.windows)
 passes_count names done c Close = false
 
 -- more distinct symbols than the table may hold
@@ -317,7 +318,7 @@ body_fault names body = first_of ((NameWord, body_has_no_name names body) ∷ (A
 
 -- the same from the points of a window on
 abbrev pub range_fault : Written → Window → Option ModelWord
-range_fault c w = first_of ((PointWord, has_no_point c (Over w)) ∷ (BoundWord, is_out_of_bounds (Over w)) ∷ (WindowWord, body_has_any w.body) ∷ (LimitWord, nat_le 16 (length c.windows)) ∷ [])
+range_fault c w = first_of ((PointWord, has_no_point c (Over w)) ∷ (BoundWord, is_out_of_bounds (Over w)) ∷ (WindowWord, body_has_any w.body) ∷ (LimitWord, nat_le WINDOW_LIMIT (length c.windows)) ∷ [])
 
 -- the first word that applies, where the table of symbols isn't looked at
 abbrev pub own_fault : List Name → List (ℕ × Written) → Written → Statement → Option ModelWord
@@ -390,4 +391,4 @@ nothing_read texts = record { names = []; done = []; current = None; texts = tex
 
 -- what a text declares, behind a table with these texts and this limit, or its first fault
 abbrev pub reading_of : List (List ℕ) → ℕ → List ℕ → Result Reading Fault
-reading_of texts limit text = cond (nat_lt 1048576 (length text)) (Err (0, SizeWord)) (after_lines limit 1 (nothing_read texts) (lines_of text))
+reading_of texts limit text = cond (nat_lt SIZE_LIMIT (length text)) (Err (0, SizeWord)) (after_lines limit 1 (nothing_read texts) (lines_of text))

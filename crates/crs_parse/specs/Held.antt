@@ -1,7 +1,8 @@
 -- What is said of statements whose symbols a table holds, and whose numbers fit.
-use Rattle.std.specs.Prelude.{◌≡◌, ◌≤◌, ◌≤ℤ◌, ◌+ℤ◌, ◌^◌, ◌+◌, ℕ, ℤ, pos, true, false, List, ◌∷◌, length, IfSome}
+use Rattle.std.specs.Prelude.{◌≡◌, ◌≤◌, ◌≤ℤ◌, ◌+ℤ◌, ◌+◌, ℕ, ℤ, pos, true, false, List, ◌∷◌, length, IfSome}
 use Rattle.std.specs.List.{AllByRecursion}
 use Rattle.crs_base.specs.Symbols.{is_known, is_symbol}
+use Rattle.crs_model.specs.declared.limits.TheConstants.{TICK_LIMIT, LEVEL_LIMIT, COUNT_LIMIT, VARIABLE_LIMIT, POINT_LIMIT, ARITY_LIMIT}
 use Rattle.crs_grammar.specs.Statements.{Term, Value, Pattern, Event, Body, NoEvent, Occurs, Hold, Window, Distance}
 use Rattle.crs_parse.specs.Faults.{Kind, OfMessage, OfAttribute, Name, Written, Reading, shift_size, is_any}
 use Rattle.crs_parse.specs.Meant.{level_of}
@@ -11,10 +12,10 @@ pub record IsHeld (texts : List (List ℕ)) (t : List ℕ) : Type 0 where
   pub known : is_known texts t ≡ true
   pub symbol : is_symbol t ≡ true
 
--- a size of at most 2 ^ 40
+-- a size of at most the limit of ticks
 pub record IsNear (z : ℤ) : Type 0 where
-  pub not_large : z ≤ℤ pos (2 ^ 40)
-  pub not_small : pos 0 ≤ℤ (z +ℤ pos (2 ^ 40))
+  pub not_large : z ≤ℤ pos TICK_LIMIT
+  pub not_small : pos 0 ≤ℤ (z +ℤ pos TICK_LIMIT)
 
 pub record AreNear (d : Distance) : Type 0 where
   pub low : IfSome d.low IsNear
@@ -45,19 +46,19 @@ module _ (texts : List (List ℕ)) where
   pub record IsHeldEvent (e : Event) : Type 0 where
     pub pattern : IsHeldPattern e.pattern
     pub point : IsHeld texts e.point
-    pub level : level_of e.level ≤ 7
+    pub level : level_of e.level ≤ LEVEL_LIMIT
 
-  -- the symbols are held, and the counts are below 2 ^ 32
+  -- the symbols are held, and the counts keep to the limit
   abbrev pub IsHeldBody : Body → Type 0
   IsHeldBody (NoEvent p) = IsHeldPattern p
-  IsHeldBody (Occurs least most p) = IsHeldPattern p × (least ≤ 4294967295) × IfSome most (λ m. m ≤ 4294967295)
+  IsHeldBody (Occurs least most p) = IsHeldPattern p × (least ≤ COUNT_LIMIT) × IfSome most (λ m. m ≤ COUNT_LIMIT)
   IsHeldBody (Hold name terms value) = IsHeld texts name × AreHeldTerms terms × IsHeldTerm value
 
   pub record IsHeldWindow (w : Window) : Type 0 where
     pub body : IsHeldBody w.body
     pub firm : IsFirmBody w.body
-    pub from : shift_size w.from.shift ≤ 2 ^ 40
-    pub to : shift_size w.to.shift ≤ 2 ^ 40
+    pub from : shift_size w.from.shift ≤ TICK_LIMIT
+    pub to : shift_size w.to.shift ≤ TICK_LIMIT
 
   pub record IsHeldSet (s : List ℕ × List (List ℕ)) : Type 0 where
     pub variable : IsHeld texts s.0
@@ -72,8 +73,8 @@ module _ (texts : List (List ℕ)) where
     pub variables : AreHeld c.variables
     pub sets : AllByRecursion IsHeldSet c.sets
     pub windows : AllByRecursion IsHeldWindow c.windows
-    pub few_variables : length c.variables ≤ 16
-    pub few_points : length c.events + length c.free ≤ 24
+    pub few_variables : length c.variables ≤ VARIABLE_LIMIT
+    pub few_points : length c.events + length c.free ≤ POINT_LIMIT
 
   abbrev pub IsHeldKind : Kind → Type 0
   IsHeldKind OfMessage = Unit {0}
@@ -81,7 +82,7 @@ module _ (texts : List (List ℕ)) where
 
   pub record IsHeldName (n : Name) : Type 0 where
     pub name : IsHeld texts n.name
-    pub arity : n.arity ≤ 8
+    pub arity : n.arity ≤ ARITY_LIMIT
     pub kind : IsHeldKind n.kind
 
   pub record IsHeldReading (r : Reading) : Type 0 where

@@ -11,6 +11,10 @@ ghost use Rattle.crs_grammar.specs.SeenStatements as seen;
 
 use crs_grammar::{Body, Distance, Event, Pattern, Shift, Statement, Term, Window};
 use crs_model::ModelWord;
+use crs_model::limits::{
+    ARITY_LIMIT, CHRONICLE_LIMIT, COUNT_LIMIT, DIFFERENCE_LIMIT, DISTANCE_LIMIT, EVENT_LIMIT,
+    LEVEL_LIMIT, NAME_LIMIT, POINT_LIMIT, TICK_LIMIT, VALUE_LIMIT, VARIABLE_LIMIT, WINDOW_LIMIT,
+};
 use std::alloc::{AllocError, AllocFailed, Global};
 
 /// What is declared of a message or an attribute.
@@ -59,10 +63,6 @@ pub struct Reading<'a> {
     pub done: Vec<Closed<'a>>,
     pub current: Option<Written<'a>>,
 }
-
-const SIZE_LIMIT: u64 = 1 << 40;
-
-const COUNT_LIMIT: u64 = (1 << 32) - 1;
 
 fn is_of(texts: &[&[u8]], text: &[u8]) -> bool
     ensures { result ≡ faults.is_of (map (λ t. t.now) texts.now) text.now }
@@ -313,7 +313,7 @@ impl<'a> Written<'a> {
         if self.has_point(name) {
             return Err(Refused::Word(ModelWord::Twice));
         }
-        if 24 <= self.events.len() + self.free.len() {
+        if POINT_LIMIT <= self.events.len() + self.free.len() {
             return Err(Refused::Word(ModelWord::Limit));
         }
         self.free.push(name)?;
@@ -333,7 +333,7 @@ impl<'a> Written<'a> {
         {
             return Err(Refused::Word(ModelWord::Bound));
         }
-        if 256 <= self.bounds.len() {
+        if DISTANCE_LIMIT <= self.bounds.len() {
             return Err(Refused::Word(ModelWord::Limit));
         }
         self.bounds.push(distance)?;
@@ -350,7 +350,7 @@ impl<'a> Written<'a> {
         if !is_of(&self.variables, set.variable) {
             return Err(Refused::Word(ModelWord::Variable));
         }
-        if 64 < set.values.len() {
+        if VALUE_LIMIT < set.values.len() {
             return Err(Refused::Word(ModelWord::Limit));
         }
         self.sets.push(set)?;
@@ -364,7 +364,7 @@ impl<'a> Written<'a> {
         if !(is_of(&self.variables, left) && is_of(&self.variables, right)) {
             return Err(Refused::Word(ModelWord::Variable));
         }
-        if 64 <= self.differs.len() {
+        if DIFFERENCE_LIMIT <= self.differs.len() {
             return Err(Refused::Word(ModelWord::Limit));
         }
         self.differs.push((left, right))?;
@@ -397,8 +397,8 @@ fn lacks_anchor(c: &Written<'_>, window: &Window<'_>) -> bool
 fn is_out_of_bounds(window: &Window<'_>) -> bool
     ensures { result ≡ faults.is_out_of_bounds (Over (seen.window_of window.now)) }
 {
-    SIZE_LIMIT < shift_size(window.from.shift)
-        || SIZE_LIMIT < shift_size(window.to.shift)
+    TICK_LIMIT < shift_size(window.from.shift)
+        || TICK_LIMIT < shift_size(window.to.shift)
         || has_wrong_counts(&window.body)
 }
 
@@ -416,7 +416,7 @@ fn range_fault(c: &Written<'_>, window: &Window<'_>) -> Option<ModelWord>
     if has_any(&window.body) {
         return Some(ModelWord::Window);
     }
-    if 16 <= c.windows.len() {
+    if WINDOW_LIMIT <= c.windows.len() {
         return Some(ModelWord::Limit);
     }
     None
@@ -565,10 +565,10 @@ impl<'a> Written<'a> {
     fn is_full(&self, level: Option<u64>) -> bool
         ensures { result ≡ faults.is_full (see.written_of self.now) level }
     {
-        16 <= self.events.len()
-            || 24 <= self.events.len() + self.free.len()
-            || is_above(7, level)
-            || 16 < self.variables.len()
+        EVENT_LIMIT <= self.events.len()
+            || POINT_LIMIT <= self.events.len() + self.free.len()
+            || is_above(LEVEL_LIMIT, level)
+            || VARIABLE_LIMIT < self.variables.len()
     }
 
     #[tactic(auto, using(crate::proofs::Sizes::length_seen))]
@@ -598,7 +598,7 @@ pub fn add_message<'a>(names: &mut Vec<Name<'a>>, name: &'a [u8], arity: u64) ->
     if name_of(names, name).is_some() {
         return Err(Refused::Word(ModelWord::Twice));
     }
-    if 256 <= names.len() || 8 < arity {
+    if NAME_LIMIT <= names.len() || ARITY_LIMIT < arity {
         return Err(Refused::Word(ModelWord::Limit));
     }
     names.push(Name {
@@ -610,10 +610,10 @@ pub fn add_message<'a>(names: &mut Vec<Name<'a>>, name: &'a [u8], arity: u64) ->
 }
 
 fn is_long(values: &Option<Vec<&[u8]>>) -> bool
-    ensures { result ≡ faults.is_above 64 (option_map length (see.values_of values.now)) }
+    ensures { result ≡ faults.is_above VALUE_LIMIT (option_map length (see.values_of values.now)) }
 {
     match values {
-        Some(values) => 64 < values.len(),
+        Some(values) => VALUE_LIMIT < values.len(),
         None => false,
     }
 }
@@ -631,7 +631,7 @@ pub fn add_attribute<'a>(
     if name_of(names, name).is_some() {
         return Err(Refused::Word(ModelWord::Twice));
     }
-    if 256 <= names.len() || 8 < arity || is_long(&values) {
+    if NAME_LIMIT <= names.len() || ARITY_LIMIT < arity || is_long(&values) {
         return Err(Refused::Word(ModelWord::Limit));
     }
     names.push(Name {
@@ -650,7 +650,7 @@ pub fn begin_fault(done: &[Closed<'_>], name: &[u8]) -> Option<ModelWord>
     if is_chronicle(done, name) {
         return Some(ModelWord::Twice);
     }
-    if 64 <= done.len() {
+    if CHRONICLE_LIMIT <= done.len() {
         return Some(ModelWord::Limit);
     }
     None

@@ -15,11 +15,9 @@ use crate::builder::{Closed, Name, Reading, Refused};
 use crate::numbering::models;
 use crate::reading::{closed_chronicle, outer_line};
 use crs_base::{Symbols, first_line};
+use crs_model::limits::SIZE_LIMIT;
 use crs_model::{ModelRefused, ModelWord, Models};
 use std::alloc::Global;
-
-/// How many bytes a model text may have.
-const SIZE_LIMIT: usize = 1 << 20;
 
 /// Reads a declaration or a chronicle, and gives the text behind it and the number of that text's first line.
 fn next_part<'a>(
@@ -70,7 +68,7 @@ fn read_all<'a>(
     symbols: &mut Symbols,
     text: &'a [u8],
 ) -> Result<Reading<'a>, ModelRefused>
-    requires { length text.now ≤ 1048576 }
+    requires { length text.now ≤ SIZE_LIMIT }
     ensures limit { symbols.new.limit ≡ symbols.old.limit }
     ensures grows { Grows (lines_symbols (lines_of text.now)) symbols.old.texts symbols.new.texts }
     ensures read { steps.Comes (λ r. see.reading_of symbols.new.texts r) result (faults.after_lines symbols.old.limit 1 (faults.nothing_read symbols.old.texts) (lines_of text.now)) }

@@ -12,34 +12,12 @@ ghost use Rattle.crs_print.specs.Printed as from;
 ghost use Rattle.crs_print.specs.Said as said;
 ghost use Rattle.crs_grammar.specs.Statements.{Happens, Point, Between, Among, Differ, Over, Begin, Message, Attribute};
 
-use crs_base::{List, Sym, Symbols, Text};
+use crs_base::{List, Sym, Symbols, Text, push_bytes, push_integer, push_number};
 use crs_model::{
     Anchor, Body, Chronicle, EventDef, Kind, Models, Name, Pattern, Term, VarSet, Window,
 };
 use crs_stn::Bound;
-use itoa::Buffer;
 use std::alloc::{AllocError, Global};
-
-fn put(out: &mut Vec<u8>, bytes: &[u8]) -> Result<(), AllocError>
-    ensures { OnOk result (out.new.items ≡ out.old.items ++ bytes.now) }
-{
-    out.extend_from_slice(bytes)?;
-    Ok(())
-}
-
-fn put_number(out: &mut Vec<u8>, n: u64) -> Result<(), AllocError>
-    ensures { OnOk result (out.new.items ≡ out.old.items ++ decimal n) }
-{
-    let mut buffer = Buffer::new();
-    put(out, buffer.format(n).as_bytes())
-}
-
-fn put_integer(out: &mut Vec<u8>, z: i128) -> Result<(), AllocError>
-    ensures { OnOk result (out.new.items ≡ out.old.items ++ signed_decimal z) }
-{
-    let mut buffer = Buffer::new();
-    put(out, buffer.format(z).as_bytes())
-}
 
 /// The text of the symbol at a place of a list, or no bytes past its end.
 fn text_of<'s>(symbols: &'s Symbols, list: &[Sym], place: u8) -> &'s [u8]
@@ -63,12 +41,12 @@ fn put_term(
     ensures { OnOk result (out.new.items ≡ out.old.items ++ said.text_of (forms.term_form (said.term symbols.now.texts variables.now term))) }
 {
     match term {
-        Term::Value(s) => put(out, symbols.text(s)),
+        Term::Value(s) => push_bytes(out, symbols.text(s)),
         Term::Var(v) => {
-            put(out, b"?")?;
-            put(out, text_of(symbols, variables, v))
+            push_bytes(out, b"?")?;
+            push_bytes(out, text_of(symbols, variables, v))
         }
-        Term::Any => put(out, b"*"),
+        Term::Any => push_bytes(out, b"*"),
     }
 }
 
@@ -84,7 +62,7 @@ fn put_more_terms(
     ensures { OnOk result (out.new.items ≡ out.old.items ++ flat_map (λ t. 44 ∷ 32 ∷ said.text_of (forms.term_form t)) (said.terms symbols.now.texts variables.now terms.now)) }
 {
     for t in terms {
-        put(out, b", ")?;
+        push_bytes(out, b", ")?;
         put_term(out, symbols, variables, *t)?;
     }
     Ok(())
@@ -120,9 +98,9 @@ fn put_terms(
     ensures { OnOk result (out.new.items ≡ out.old.items ++ said.text_of (forms.terms_form (said.terms symbols.now.texts variables.now terms.now))) }
 {
     if let [first, rest @ ..] = terms {
-        put(out, b"[")?;
+        push_bytes(out, b"[")?;
         put_listed_terms(out, symbols, variables, *first, rest)?;
-        put(out, b"]")?;
+        push_bytes(out, b"]")?;
     }
     Ok(())
 }
@@ -139,11 +117,11 @@ fn put_pair(
     requires new { said.HasTerm symbols.now.texts new }
     ensures { OnOk result (out.new.items ≡ out.old.items ++ said.text_of (forms.change_form (Some (said.term symbols.now.texts variables.now old, said.term symbols.now.texts variables.now new)))) }
 {
-    put(out, b": (")?;
+    push_bytes(out, b": (")?;
     put_term(out, symbols, variables, old)?;
-    put(out, b", ")?;
+    push_bytes(out, b", ")?;
     put_term(out, symbols, variables, new)?;
-    put(out, b")")
+    push_bytes(out, b")")
 }
 
 fn put_change(
@@ -172,7 +150,7 @@ fn put_pattern(
     requires has { said.HasPattern symbols.now.texts pattern.now }
     ensures { OnOk result (out.new.items ≡ out.old.items ++ said.text_of (forms.pattern_form (said.pattern symbols.now.texts variables.now pattern.now))) }
 {
-    put(out, symbols.text(pattern.name))?;
+    push_bytes(out, symbols.text(pattern.name))?;
     put_terms(out, symbols, variables, pattern.terms.as_slice())?;
     put_change(out, symbols, variables, pattern.change)
 }
@@ -181,8 +159,8 @@ fn put_level(out: &mut Vec<u8>, level: u8) -> Result<(), AllocError>
     ensures { OnOk result (out.new.items ≡ out.old.items ++ said.text_of (forms.level_form (from.level_from level))) }
 {
     if level > 0 {
-        put(out, b" level ")?;
-        put_number(out, level as u64)?;
+        push_bytes(out, b" level ")?;
+        push_number(out, level as u64)?;
     }
     Ok(())
 }
@@ -198,13 +176,13 @@ fn put_event(
     requires point { said.Has symbols.now.texts event.now.point }
     ensures { OnOk result (out.new.items ≡ out.old.items ++ statement_line (Happens (said.event symbols.now.texts variables.now event.now))) }
 {
-    put(out, b"  event(")?;
+    push_bytes(out, b"  event(")?;
     put_pattern(out, symbols, variables, &event.pattern)?;
-    put(out, b", ")?;
-    put(out, symbols.text(event.point))?;
-    put(out, b")")?;
+    push_bytes(out, b", ")?;
+    push_bytes(out, symbols.text(event.point))?;
+    push_bytes(out, b")")?;
     put_level(out, event.level)?;
-    put(out, b"\n")
+    push_bytes(out, b"\n")
 }
 
 /// Symbols, each behind a comma.
@@ -213,8 +191,8 @@ fn put_more_values(out: &mut Vec<u8>, symbols: &Symbols, values: &[Sym]) -> Resu
     ensures { OnOk result (out.new.items ≡ out.old.items ++ flat_map (λ v. 44 ∷ 32 ∷ said.text_of (forms.symbol_form v)) (said.texts_of symbols.now.texts values.now)) }
 {
     for v in values {
-        put(out, b", ")?;
-        put(out, symbols.text(*v))?;
+        push_bytes(out, b", ")?;
+        push_bytes(out, symbols.text(*v))?;
     }
     Ok(())
 }
@@ -230,7 +208,7 @@ fn put_listed(
     requires rest { renamed.AreKnown symbols.now.texts rest.now }
     ensures { OnOk result (out.new.items ≡ out.old.items ++ said.text_of (forms.listed forms.symbol_form (renamed.text_in symbols.now.texts first ∷ said.texts_of symbols.now.texts rest.now))) }
 {
-    put(out, symbols.text(first))?;
+    push_bytes(out, symbols.text(first))?;
     put_more_values(out, symbols, rest)?;
     Ok(())
 }
@@ -241,11 +219,11 @@ fn put_values(out: &mut Vec<u8>, symbols: &Symbols, values: &[Sym]) -> Result<()
     ensures { OnOk result (out.new.items ≡ out.old.items ++ said.text_of (forms.values_form (said.texts_of symbols.now.texts values.now))) }
 {
     match values {
-        [] => put(out, b"()"),
+        [] => push_bytes(out, b"()"),
         [first, rest @ ..] => {
-            put(out, b"(")?;
+            push_bytes(out, b"(")?;
             put_listed(out, symbols, *first, rest)?;
-            put(out, b")")
+            push_bytes(out, b")")
         }
     }
 }
@@ -255,11 +233,11 @@ fn put_shift(out: &mut Vec<u8>, offset: i64) -> Result<(), AllocError>
     ensures { OnOk result (out.new.items ≡ out.old.items ++ said.text_of (forms.shift_form (from.shift_from offset))) }
 {
     if offset > 0 {
-        put(out, b" + ")?;
-        put_number(out, offset.unsigned_abs())
+        push_bytes(out, b" + ")?;
+        push_number(out, offset.unsigned_abs())
     } else if offset < 0 {
-        put(out, b" - ")?;
-        put_number(out, offset.unsigned_abs())
+        push_bytes(out, b" - ")?;
+        push_number(out, offset.unsigned_abs())
     } else {
         Ok(())
     }
@@ -274,7 +252,7 @@ fn put_anchor(
     requires { renamed.AreKnown symbols.now.texts points.now }
     ensures { OnOk result (out.new.items ≡ out.old.items ++ said.text_of (forms.anchor_form (said.anchor symbols.now.texts points.now anchor))) }
 {
-    put(out, text_of(symbols, points, anchor.event))?;
+    push_bytes(out, text_of(symbols, points, anchor.event))?;
     put_shift(out, anchor.offset)
 }
 
@@ -289,19 +267,19 @@ fn put_span(
     requires { renamed.AreKnown symbols.now.texts points.now }
     ensures { OnOk result (out.new.items ≡ out.old.items ++ said.text_of (forms.span_form (said.anchor symbols.now.texts points.now from) (said.anchor symbols.now.texts points.now to))) }
 {
-    put(out, b", (")?;
+    push_bytes(out, b", (")?;
     put_anchor(out, symbols, points, from)?;
-    put(out, b", ")?;
+    push_bytes(out, b", ")?;
     put_anchor(out, symbols, points, to)?;
-    put(out, b"))")
+    push_bytes(out, b"))")
 }
 
 fn put_most(out: &mut Vec<u8>, most: Option<u32>) -> Result<(), AllocError>
     ensures { OnOk result (out.new.items ≡ out.old.items ++ said.text_of (forms.most_part most ∷ [])) }
 {
     match most {
-        Some(n) => put_number(out, n as u64),
-        None => put(out, b"inf"),
+        Some(n) => push_number(out, n as u64),
+        None => push_bytes(out, b"inf"),
     }
 }
 
@@ -309,8 +287,8 @@ fn put_low(out: &mut Vec<u8>, most: Option<i64>) -> Result<(), AllocError>
     ensures { OnOk result (out.new.items ≡ out.old.items ++ said.text_of (forms.low_part (option_map neg_ℤ most) ∷ [])) }
 {
     match most {
-        Some(z) => put_integer(out, -(z as i128)),
-        None => put(out, b"-inf"),
+        Some(z) => push_integer(out, -(z as i128)),
+        None => push_bytes(out, b"-inf"),
     }
 }
 
@@ -318,8 +296,8 @@ fn put_high(out: &mut Vec<u8>, most: Option<i64>) -> Result<(), AllocError>
     ensures { OnOk result (out.new.items ≡ out.old.items ++ said.text_of (forms.high_part most ∷ [])) }
 {
     match most {
-        Some(z) => put_integer(out, z as i128),
-        None => put(out, b"inf"),
+        Some(z) => push_integer(out, z as i128),
+        None => push_bytes(out, b"inf"),
     }
 }
 
@@ -336,7 +314,7 @@ fn put_body(
 {
     match body {
         Body::NoEvent(pattern) => {
-            put(out, b"noevent(")?;
+            push_bytes(out, b"noevent(")?;
             put_pattern(out, symbols, variables, pattern)
         }
         Body::Occurs {
@@ -344,18 +322,18 @@ fn put_body(
             most,
             pattern,
         } => {
-            put(out, b"occurs((")?;
-            put_number(out, *least as u64)?;
-            put(out, b", ")?;
+            push_bytes(out, b"occurs((")?;
+            push_number(out, *least as u64)?;
+            push_bytes(out, b", ")?;
             put_most(out, *most)?;
-            put(out, b"), ")?;
+            push_bytes(out, b"), ")?;
             put_pattern(out, symbols, variables, pattern)
         }
         Body::Hold { name, terms, value } => {
-            put(out, b"hold(")?;
-            put(out, symbols.text(*name))?;
+            push_bytes(out, b"hold(")?;
+            push_bytes(out, symbols.text(*name))?;
             put_terms(out, symbols, variables, terms.as_slice())?;
-            put(out, b": ")?;
+            push_bytes(out, b": ")?;
             put_term(out, symbols, variables, *value)
         }
     }
@@ -373,10 +351,10 @@ fn put_window(
     requires has { renamed.IsBodyOf (said.Has symbols.now.texts) (view.body_of window.now.body) }
     ensures { OnOk result (out.new.items ≡ out.old.items ++ statement_line (Over (said.window symbols.now.texts variables.now points.now window.now))) }
 {
-    put(out, b"  ")?;
+    push_bytes(out, b"  ")?;
     put_body(out, symbols, variables, &window.body)?;
     put_span(out, symbols, points, window.from, window.to)?;
-    put(out, b"\n")
+    push_bytes(out, b"\n")
 }
 
 /// The ends of a bound, and the end of the statement.
@@ -384,9 +362,9 @@ fn put_ends(out: &mut Vec<u8>, low: Option<i64>, high: Option<i64>) -> Result<()
     ensures { OnOk result (out.new.items ≡ out.old.items ++ said.text_of (forms.low_part (option_map neg_ℤ low) ∷ Sign 44 ∷ Gap ∷ forms.high_part high ∷ Sign 93 ∷ [])) }
 {
     put_low(out, low)?;
-    put(out, b", ")?;
+    push_bytes(out, b", ")?;
     put_high(out, high)?;
-    put(out, b"]")
+    push_bytes(out, b"]")
 }
 
 fn put_distance(
@@ -399,13 +377,13 @@ fn put_distance(
     requires { renamed.AreKnown symbols.now.texts points.now }
     ensures { OnOk result (out.new.items ≡ out.old.items ++ statement_line (Between (said.distance symbols.now.texts points.now high low))) }
 {
-    put(out, b"  ")?;
-    put(out, text_of(symbols, points, high.to))?;
-    put(out, b" - ")?;
-    put(out, text_of(symbols, points, high.from))?;
-    put(out, b" in [")?;
+    push_bytes(out, b"  ")?;
+    push_bytes(out, text_of(symbols, points, high.to))?;
+    push_bytes(out, b" - ")?;
+    push_bytes(out, text_of(symbols, points, high.from))?;
+    push_bytes(out, b" in [")?;
     put_ends(out, low.most, high.most)?;
-    put(out, b"\n")
+    push_bytes(out, b"\n")
 }
 
 fn put_set(
@@ -418,11 +396,11 @@ fn put_set(
     requires values { renamed.AreKnown symbols.now.texts set.now.values }
     ensures { OnOk result (out.new.items ≡ out.old.items ++ statement_line (Among (text_at (said.texts_of symbols.now.texts variables.now) set.now.variable) (said.texts_of symbols.now.texts set.now.values))) }
 {
-    put(out, b"  ?")?;
-    put(out, text_of(symbols, variables, set.variable))?;
-    put(out, b" in ")?;
+    push_bytes(out, b"  ?")?;
+    push_bytes(out, text_of(symbols, variables, set.variable))?;
+    push_bytes(out, b" in ")?;
     put_values(out, symbols, set.values.as_slice())?;
-    put(out, b"\n")
+    push_bytes(out, b"\n")
 }
 
 fn put_differ(
@@ -435,11 +413,11 @@ fn put_differ(
     requires { renamed.AreKnown symbols.now.texts variables.now }
     ensures { OnOk result (out.new.items ≡ out.old.items ++ statement_line (Differ (text_at (said.texts_of symbols.now.texts variables.now) left) (text_at (said.texts_of symbols.now.texts variables.now) right))) }
 {
-    put(out, b"  ?")?;
-    put(out, text_of(symbols, variables, left))?;
-    put(out, b" != ?")?;
-    put(out, text_of(symbols, variables, right))?;
-    put(out, b"\n")
+    push_bytes(out, b"  ?")?;
+    push_bytes(out, text_of(symbols, variables, left))?;
+    push_bytes(out, b" != ?")?;
+    push_bytes(out, text_of(symbols, variables, right))?;
+    push_bytes(out, b"\n")
 }
 
 fn put_events(
@@ -463,9 +441,9 @@ fn put_point(out: &mut Vec<u8>, symbols: &Symbols, name: Sym) -> Result<(), Allo
     requires { said.Has symbols.now.texts name }
     ensures { OnOk result (out.new.items ≡ out.old.items ++ statement_line (Point (renamed.text_in symbols.now.texts name))) }
 {
-    put(out, b"  point ")?;
-    put(out, symbols.text(name))?;
-    put(out, b"\n")
+    push_bytes(out, b"  point ")?;
+    push_bytes(out, symbols.text(name))?;
+    push_bytes(out, b"\n")
 }
 
 fn put_free(out: &mut Vec<u8>, symbols: &Symbols, free: &[Sym]) -> Result<(), AllocError>
@@ -548,9 +526,9 @@ fn put_begin(out: &mut Vec<u8>, symbols: &Symbols, name: Sym) -> Result<(), Allo
     requires { said.Has symbols.now.texts name }
     ensures { OnOk result (out.new.items ≡ out.old.items ++ statement_line (Begin (renamed.text_in symbols.now.texts name))) }
 {
-    put(out, b"chronicle ")?;
-    put(out, symbols.text(name))?;
-    put(out, b" {\n")
+    push_bytes(out, b"chronicle ")?;
+    push_bytes(out, symbols.text(name))?;
+    push_bytes(out, b" {\n")
 }
 
 /// The points of the events, and then the free ones.
@@ -568,11 +546,11 @@ fn points(alloc: Global, events: &[EventDef], free: &[Sym]) -> Result<Vec<Sym>, 
 fn put_message(out: &mut Vec<u8>, name: &[u8], arity: u8) -> Result<(), AllocError>
     ensures { OnOk result (out.new.items ≡ out.old.items ++ statement_line (Message name.now arity)) }
 {
-    put(out, b"message ")?;
-    put(out, name)?;
-    put(out, b" ")?;
-    put_number(out, arity as u64)?;
-    put(out, b"\n")
+    push_bytes(out, b"message ")?;
+    push_bytes(out, name)?;
+    push_bytes(out, b" ")?;
+    push_number(out, arity as u64)?;
+    push_bytes(out, b"\n")
 }
 
 fn put_attribute(
@@ -585,12 +563,12 @@ fn put_attribute(
     requires { IfSome values.now (renamed.AreKnown symbols.now.texts) }
     ensures { OnOk result (out.new.items ≡ out.old.items ++ statement_line (Attribute name.now arity (option_map (said.texts_of symbols.now.texts) values.now))) }
 {
-    put(out, b"attribute ")?;
-    put(out, name)?;
-    put(out, b" ")?;
-    put_number(out, arity as u64)?;
+    push_bytes(out, b"attribute ")?;
+    push_bytes(out, name)?;
+    push_bytes(out, b" ")?;
+    push_number(out, arity as u64)?;
     put_listing(out, symbols, values)?;
-    put(out, b"\n")
+    push_bytes(out, b"\n")
 }
 
 /// Nothing, or the values of an attribute.
@@ -605,7 +583,7 @@ fn put_listing(
     match values {
         None => Ok(()),
         Some(values) => {
-            put(out, b" in ")?;
+            push_bytes(out, b" in ")?;
             put_values(out, symbols, values.as_slice())
         }
     }
@@ -652,7 +630,7 @@ fn put_chronicle(
     put_sets(out, symbols, variables, c.sets.as_slice())?;
     put_differs(out, symbols, variables, c.differs.as_slice())?;
     put_windows(out, symbols, variables, &points, c.windows.as_slice())?;
-    put(out, b"}\n")?;
+    push_bytes(out, b"}\n")?;
     Ok(())
 }
 

@@ -3,7 +3,6 @@
 
 mod recognitions;
 mod refusals;
-mod writing;
 
 pub use recognitions::{line_of, push_line_of};
 pub use refusals::{Fault, model_line, push_refusal_line, refusal_line};

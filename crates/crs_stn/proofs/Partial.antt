@@ -8,8 +8,8 @@ use Rattle.std.proofs.lemmas.List.Elements.{All-cons, All-nil}
 use Rattle.crs_stn.specs.declared.bound.Bound.{Bound}
 use Rattle.crs_stn.specs.Bound.{Meets, Agrees, MeetsInPart, IsConsistent, IsWithin}
 use Rattle.crs_stn.specs.Network.{IsMost, IsMinimal, IsPairwiseWithin, LeastBoundsDecide}
-pub use Rattle.crs_stn.specs.Cycle.{lesser}
-pub use Rattle.crs_stn.specs.DateWindow.{least_of, after, latest}
+use Rattle.crs_stn.specs.Cycle.{lesser}
+use Rattle.crs_stn.specs.DateWindow.{least_of, after, latest}
 use Rattle.crs_stn.proofs.Extend.{below_size}
 use Rattle.crs_stn.proofs.Most.{IsMost-self_option}
 use Rattle.crs_stn.proofs.Earliest.{upper_option, step_of}

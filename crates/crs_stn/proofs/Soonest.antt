@@ -10,7 +10,7 @@ use Rattle.crs_stn.specs.Bound.{Meets, Agrees, IsWithin, IsConsistent}
 use Rattle.crs_stn.specs.Lower.{Held}
 use Rattle.crs_stn.specs.Network.{IsMinimal, IsPairwiseWithin}
 use Rattle.crs_stn.specs.DateWindow.{IsSoonest, given_also, DateWindowsAreExact, latest}
-pub use Rattle.crs_stn.specs.DateWindow.{greater_of, greatest_of, before, soonest}
+use Rattle.crs_stn.specs.DateWindow.{greater_of, greatest_of, before, soonest}
 use Rattle.crs_stn.proofs.Extend.{below_size, filled, extend_early}
 use Rattle.crs_stn.proofs.Most.{IsMost-self_option, triangle_option}
 use Rattle.crs_stn.proofs.DateWindow.{IsLatest-latest}

@@ -1,6 +1,6 @@
 use Rattle.std.proofs.Common.{◌≡◌, map}
 use Rattle.std.specs.Prelude.{◌==◌}
-use Rattle.crs_stn.proofs.Partial.{least_of}
+use Rattle.crs_stn.specs.DateWindow.{least_of}
 use Rattle.crs_model.specs.Levels.{level_in}
 use Rattle.crs_model.specs.Partial.{at}
 use Rattle.crs_model.specs.Seen.{event_of}

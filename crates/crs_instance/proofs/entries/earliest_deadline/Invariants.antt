@@ -1,5 +1,5 @@
 use Rattle.std.proofs.Common.{◌≡◌}
-use Rattle.crs_stn.proofs.Partial.{least_of}
+use Rattle.crs_stn.specs.DateWindow.{least_of}
 use Rattle.crs_model.specs.Partial.{at}
 use Rattle.crs_instance.specs.Instances.{partial_of, window_at}
 use Rattle.crs_instance.specs.Deadlines.{end_of}

@@ -31,7 +31,7 @@ returns c =
     (map Between (from.distances_from (from.points_in (renamed.renamed_chronicle (renamed.text_in T) (view.chronicle_of c.args.c.now))) c.args.c.now.bounds))
     (said.sets T c.args.c.now.variables c.args.c.now.sets) (said.differs T c.args.c.now.variables c.args.c.now.differs)
     (map (λ v. Over (from.window_from (said.texts_of T c.args.c.now.variables) (from.points_in (renamed.renamed_chronicle (renamed.text_in T) (view.chronicle_of c.args.c.now))) v)) (map (renamed.renamed_window (renamed.text_in T)) (map view.window_of c.args.c.now.windows)))
-    c.args.out.now.items c.put_begin.new.out.items c.put_events.new.out.items c.put_free.new.out.items c.put_distances.new.out.items c.put_sets.new.out.items c.put_differs.new.out.items c.put_windows.new.out.items c.put.new.out.items
+    c.args.out.now.items c.put_begin.new.out.items c.put_events.new.out.items c.put_free.new.out.items c.put_distances.new.out.items c.put_sets.new.out.items c.put_differs.new.out.items c.put_windows.new.out.items c.push_bytes.new.out.items
     c.in_ok-put_begin.ensures
     (c.in_ok-put_events.ensures ∙ (λ i. c.put_begin.new.out.items ++ flat_map statement_line (said.events T (c.as_slice-variables.ensures i) (c.as_slice-events.ensures i))))
     (c.in_ok-put_free.ensures ∙ (λ i. c.put_events.new.out.items ++ flat_map statement_line (said.free T (c.as_slice-free.ensures i))))
@@ -41,4 +41,4 @@ returns c =
     (c.in_ok-put_differs.ensures ∙ (λ i. c.put_sets.new.out.items ++ flat_map statement_line (said.differs T (c.as_slice-variables.ensures i) (c.as_slice-3.ensures i))))
     (c.in_ok-put_windows.ensures ∙ (λ i. c.put_differs.new.out.items ++ flat_map statement_line (map (λ v. Over (from.window_from (said.texts_of T (c.as_slice-variables.ensures i)) (map (renamed.text_in T) (c.deref-2.ensures.value i)) v)) (map (renamed.renamed_window (renamed.text_in T)) (map view.window_of (c.as_slice-4.ensures i)))))
     ∙ (λ i. c.put_differs.new.out.items ++ flat_map statement_line (map (λ v. Over (from.window_from (said.texts_of T c.args.c.now.variables) (ps i) v)) (map (renamed.renamed_window (renamed.text_in T)) (map view.window_of c.args.c.now.windows)))))
-    c.in_ok-put.ensures
+    c.in_ok-push_bytes.ensures
