@@ -1,7 +1,8 @@
 ghost use Rattle.std.specs.Prelude.{◌≡◌, ◌+◌, ◌%◌, ◌++◌, ◌<◌, ◌≤◌, ◌^◌, OnOk};
 ghost use Rattle.crs_drill.specs.Drill.{State, next, first_state, grown, drawn, stage_of, staged, kind_of, behind_kind, line_of, behind_line, clock_text};
 
-use crate::writing::{push_bytes, push_entry, push_number};
+use crate::writing::push_entry;
+use crs_base::{push_bytes, push_number};
 use std::alloc::AllocError;
 use std::marker::Model;
 

@@ -10,7 +10,7 @@ mod laws;
 mod writing;
 
 use crate::drill::Drill;
-use crate::writing::push_bytes;
+use crs_base::push_bytes;
 pub use laws::seven_makes;
 use std::alloc::{AllocError, Global};
 

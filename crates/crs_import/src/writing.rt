@@ -4,23 +4,8 @@ ghost use Rattle.crs_import.specs.Records.{args_of, line_text, with_comma};
 ghost use Rattle.crs_import.specs.Seen.{line_seen};
 
 use crate::rows::Statement;
-use itoa::Buffer;
+use crs_base::{push_bytes, push_number};
 use std::alloc::AllocError;
-
-/// Writes bytes behind those that are there.
-fn push_bytes(out: &mut Vec<u8>, bytes: &[u8]) -> Result<(), AllocError>
-    ensures { OnOk result (out.new.items ≡ out.old.items ++ bytes.now) }
-{
-    out.extend_from_slice(bytes)
-}
-
-/// Writes a number's decimal digits.
-fn push_number(out: &mut Vec<u8>, n: u64) -> Result<(), AllocError>
-    ensures { OnOk result (out.new.items ≡ out.old.items ++ decimal n) }
-{
-    let mut buffer = Buffer::new();
-    out.extend_from_slice(buffer.format(n).as_bytes())
-}
 
 /// Writes a byte of a list of arguments, where a comma stands for each `;`.
 fn push_comma_for(out: &mut Vec<u8>, b: u8) -> Result<(), AllocError>
