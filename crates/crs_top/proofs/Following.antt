@@ -30,6 +30,7 @@ module _ (f : Frame) where
       unopened = λ h. absurd (omega arith);
       turns = o.turns ∙ sym (append-nil old.turns);
       rises = omega arith;
+      rooms = tt;
       prompt = tt;
       outcome = (refl, ([], refl, o.written ∙ sym (append-nil old.written)));
     },
@@ -48,6 +49,7 @@ module _ (f : Frame) where
       unopened = λ _. (refl, refl);
       turns = o.turns ∙ sym (append-nil old.turns);
       rises = omega arith;
+      rooms = tt;
       prompt = tt;
       outcome = inl o.written;
     },
@@ -69,6 +71,7 @@ module _ (f : Frame) where
           unopened = λ h. absurd (omega arith);
           turns = s.turns ∙ ap (λ (x : List Turn). x ++ more) o.turns;
           rises = rw ie at s.rises;
+          rooms = s.rooms;
           prompt = rw (log_is, o.written) at s.prompt;
           outcome = outcome;
         },

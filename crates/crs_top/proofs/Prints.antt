@@ -1,5 +1,5 @@
 -- The whole of a listing, by its parts.
-use Rattle.std.proofs.Common.{◌≡◌, ◌⊎◌, ◌∙◌, sym, refl, inl, inr, ℕ, ◌+◌, List, [], arith, append-nil}
+use Rattle.std.proofs.Common.{◌≡◌, ◌⊎◌, ◌∙◌, sym, refl, inl, inr, ℕ, ◌+◌, ◌^◌, List, [], arith, append-nil}
 use Rattle.std.proofs.Math.Seq.{take-length}
 use Rattle.crs_desk.specs.Desk.{Told}
 use Rattle.crs_desk.specs.declared.turn.Turn.{Turn}
@@ -15,26 +15,26 @@ use Rattle.crs_top.proofs.Recognising.{same_files}
 
 module _ (base symbols : ℕ) (listing : Listing) (old : Told) (models : List ℕ) where
   -- the models' input was opened, and nothing but writing follows
-  ends : (mid new : Told) (k : ℕ) (more : List Turn) (status : Status) → Opened base old models k more mid
+  ends : (mid new : Told) (k : ℕ) (more : List Turn) (status : Status) → Opened base old models (2 ^ 20) k more mid
       → new.files ≡ mid.files → new.opened ≡ mid.opened → new.turns ≡ mid.turns → ListingOutcome symbols listing (bytes_of old models) 1 old.written status new.written → Prints base symbols listing old models status new
   ends mid new k more status o files opened turns outcome = (
     1,
     more,
-    record { files = files ∙ o.files; names = omega arith; opened = opened ∙ o.opened; turns = turns ∙ o.turns; rises = (k + 1, o.rises); outcome = outcome },
+    record { files = files ∙ o.files; names = omega arith; opened = opened ∙ o.opened; turns = turns ∙ o.turns; rises = (k + 1, o.rises); rooms = o.rooms; outcome = outcome },
   )
 
   not_opened : (new : Told) (status : Status) → (o : NotOpened old models new) → ListingOutcome symbols listing (bytes_of old models) o.opened.0 old.written status new.written → Prints base symbols listing old models status new
   not_opened new status o outcome = (
     o.opened.0,
     [],
-    record { files = o.files; names = o.opened.1; opened = o.opened.2; turns = o.turns ∙ sym (append-nil old.turns); rises = (0, omega arith); outcome = outcome },
+    record { files = o.files; names = o.opened.1; opened = o.opened.2; turns = o.turns ∙ sym (append-nil old.turns); rises = (0, omega arith); rooms = tt; outcome = outcome },
   )
 
-  pub print_failed : (new : Told) → NotOpened old models new ⊎ ((k : ℕ) × (more : List Turn) × Opened base old models k more new) → Prints base symbols listing old models ReadFault new
+  pub print_failed : (new : Told) → NotOpened old models new ⊎ ((k : ℕ) × (more : List Turn) × Opened base old models (2 ^ 20) k more new) → Prints base symbols listing old models ReadFault new
   print_failed new (inl o) = not_opened new ReadFault o o.written
   print_failed new (inr o) = ends new new o.0 o.1 ReadFault o.2 refl refl refl o.2.written
 
-  pub print_memory : (new : Told) → NotOpened old models new ⊎ ((k : ℕ) × (more : List Turn) × Opened base old models k more new) → Prints base symbols listing old models Memory new
+  pub print_memory : (new : Told) → NotOpened old models new ⊎ ((k : ℕ) × (more : List Turn) × Opened base old models (2 ^ 20) k more new) → Prints base symbols listing old models Memory new
   print_memory new (inl o) = not_opened new Memory o (inl o.written)
   print_memory new (inr o) = ends new new o.0 o.1 Memory o.2 refl refl refl (inl o.2.written)
 
@@ -49,7 +49,7 @@ module _ (base symbols : ℕ) (listing : Listing) (old : Told) (models : List �
   refused mid new line word ReadFault e h r = absurd r
   refused mid new line word TooLong e h r = absurd r
 
-  pub print_refused : (mid new : Told) (k : ℕ) (more : List Turn) (line : ℕ) (word : ModelWord) (status : Status) → Opened base old models k more mid → IsFaulty symbols (bytes_of old models) line word → Refuses mid (model_line line word) status new
+  pub print_refused : (mid new : Told) (k : ℕ) (more : List Turn) (line : ℕ) (word : ModelWord) (status : Status) → Opened base old models (2 ^ 20) k more mid → IsFaulty symbols (bytes_of old models) line word → Refuses mid (model_line line word) status new
       → Prints base symbols listing old models status new
   print_refused mid new k more line word status o h r =
       let same = same_files mid new (model_line line word) status r in
@@ -76,7 +76,7 @@ module _ (base symbols : ℕ) (listing : Listing) (old : Told) (models : List �
   shown_files mid new text ReadFault r = absurd r
   shown_files mid new text TooLong r = absurd r
 
-  pub print_shown : (mid new : Told) (k : ℕ) (more : List Turn) (text : List ℕ) (status : Status) → Opened base old models k more mid → IsListed symbols listing (bytes_of old models) text → Shows mid text status new
+  pub print_shown : (mid new : Told) (k : ℕ) (more : List Turn) (text : List ℕ) (status : Status) → Opened base old models (2 ^ 20) k more mid → IsListed symbols listing (bytes_of old models) text → Shows mid text status new
       → Prints base symbols listing old models status new
   print_shown mid new k more text status o h r =
       let same = shown_files mid new text status r in

@@ -23,7 +23,7 @@ long_is_faulty symbols models h =
     inl (λ i. read_of (cond (lt-ltb 1048576 (length models) h i) (Err (0, Size)) (after_lines symbols 1 (nothing_read []) (lines_of models))))
 
 -- a run that stops once the models' input is opened
-stops : (base : ℕ) (most : Most) (old mid new : Told) (models log : List ℕ) (k : ℕ) (more : List Turn) (status : Status) → Opened base old models k more mid
+stops : (base : ℕ) (most : Most) (old mid new : Told) (models log : List ℕ) (k : ℕ) (more : List Turn) (status : Status) → Opened base old models (2 ^ 20) k more mid
     → new.files ≡ mid.files → new.opened ≡ mid.opened → new.turns ≡ mid.turns → Outcome most (bytes_of old models) (bytes_of old log) 1 0 old.written status new.written → Runs base most old models log status new
 stops base most old mid new models log k more status o files opened turns outcome = (
   1,
@@ -40,6 +40,8 @@ stops base most old mid new models log k more status o files opened turns outcom
     turns = turns ∙ o.turns ∙ ap (λ (x : List Turn). old.turns ++ x) (sym (append-nil more));
     models_rise = (k + 1, o.rises);
     log_rises = omega arith;
+    models_rooms = o.rooms;
+    log_rooms = tt;
     outcome = outcome;
   },
 )
@@ -65,7 +67,7 @@ same_files mid new text Refusals r = absurd r
 same_files mid new text ReadFault r = absurd r
 same_files mid new text TooLong r = absurd r
 
-pub run_refused : (base : ℕ) (most : Most) (old mid new : Told) (models log : List ℕ) (k : ℕ) (more : List Turn) (line : ℕ) (word : ModelWord) (status : Status) → Opened base old models k more mid
+pub run_refused : (base : ℕ) (most : Most) (old mid new : Told) (models log : List ℕ) (k : ℕ) (more : List Turn) (line : ℕ) (word : ModelWord) (status : Status) → Opened base old models (2 ^ 20) k more mid
     → IsRejected most.symbols (bytes_of old models) line word → Refuses mid (model_line line word) status new → Runs base most old models log status new
 run_refused base most old mid new models log k more line word status o h r =
     let same = same_files mid new (model_line line word) status r in
@@ -87,15 +89,17 @@ not_opened base most old new models log status o outcome = (
     turns = o.turns ∙ sym (append-nil old.turns);
     models_rise = (0, omega arith);
     log_rises = omega arith;
+    models_rooms = tt;
+    log_rooms = tt;
     outcome = outcome;
   },
 )
 
-pub run_failed : (base : ℕ) (most : Most) (old new : Told) (models log : List ℕ) → NotOpened old models new ⊎ ((k : ℕ) × (more : List Turn) × Opened base old models k more new) → Runs base most old models log ReadFault new
+pub run_failed : (base : ℕ) (most : Most) (old new : Told) (models log : List ℕ) → NotOpened old models new ⊎ ((k : ℕ) × (more : List Turn) × Opened base old models (2 ^ 20) k more new) → Runs base most old models log ReadFault new
 run_failed base most old new models log (inl o) = not_opened base most old new models log ReadFault o (inl (omega (arith, o.opened.1), o.written))
 run_failed base most old new models log (inr o) = stops base most old new new models log o.0 o.1 ReadFault o.2 refl refl refl (inl (omega arith, o.2.written))
 
-pub run_memory : (base : ℕ) (most : Most) (old new : Told) (models log : List ℕ) → NotOpened old models new ⊎ ((k : ℕ) × (more : List Turn) × Opened base old models k more new) → Runs base most old models log Memory new
+pub run_memory : (base : ℕ) (most : Most) (old new : Told) (models log : List ℕ) → NotOpened old models new ⊎ ((k : ℕ) × (more : List Turn) × Opened base old models (2 ^ 20) k more new) → Runs base most old models log Memory new
 run_memory base most old new models log (inl o) = not_opened base most old new models log Memory o (inl o.written)
 run_memory base most old new models log (inr o) = stops base most old new new models log o.0 o.1 Memory o.2 refl refl refl (inl o.2.written)
 
@@ -110,7 +114,7 @@ followed_outcome most f models log n t old new WriteFault a o = inl (omega (arit
 followed_outcome most f models log n t old new Memory a (inl o) = inl o
 followed_outcome most f models log n t old new Memory a (inr o) = inr (inl (omega (arith, o.0), (f, a, o.1)))
 
-pub run_followed : (base base2 : ℕ) (most : Most) (f : Frame) (old mid new : Told) (models log : List ℕ) (k n t : ℕ) (more turns : List Turn) (status : Status) → Opened base old models k more mid → base2 ≡ base + 1
+pub run_followed : (base base2 : ℕ) (most : Most) (f : Frame) (old mid new : Told) (models log : List ℕ) (k n t : ℕ) (more turns : List Turn) (status : Status) → Opened base old models (2 ^ 20) k more mid → base2 ≡ base + 1
     → IsAccepted most.symbols most.entries (bytes_of old models) f → Followed f base2 most.bytes mid log n t turns status new → Runs base most old models log status new
 run_followed base base2 most f old mid new models log k n t more turns status o be a h =
     let same : bytes_of mid log ≡ bytes_of old log = ap (λ (x : List (List ℕ × List ℕ)). unwrap_or (file_of x log) []) o.files in (
@@ -128,6 +132,8 @@ run_followed base base2 most f old mid new models log k n t more turns status o 
         turns = h.turns ∙ rw (o.turns, append_assoc) refl;
         models_rise = (k + 1, o.rises);
         log_rises = rw be at h.rises;
+        models_rooms = o.rooms;
+        log_rooms = h.rooms;
         outcome = followed_outcome most f (bytes_of old models) (bytes_of old log) n t old.written new.written status a (rw (same, o.written) at h.outcome);
       },
     )

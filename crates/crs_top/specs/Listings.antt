@@ -1,6 +1,7 @@
 -- What a command that prints models does to a desk that tells its contents.
-use Rattle.std.specs.Prelude.{◌≡◌, ◌⊎◌, ℕ, ◌≤◌, List, [], ◌∷◌, ◌++◌, length, take}
-use Rattle.crs_desk.specs.Desk.{Told, Rises, Wrote}
+use Rattle.std.specs.Prelude.{◌≡◌, ◌⊎◌, ℕ, ◌+◌, ◌^◌, ◌≤◌, List, [], ◌∷◌, ◌++◌, length, take}
+use Rattle.std.specs.List.{AllByRecursion}
+use Rattle.crs_desk.specs.Desk.{Told, Rises, HasRoom, Wrote}
 use Rattle.crs_desk.specs.declared.turn.Turn.{Turn}
 use Rattle.crs_model.specs.declared.models.ModelWord.{ModelWord}
 use Rattle.crs_model.specs.declared.models.ModelRefused.{ModelRefused}
@@ -42,13 +43,14 @@ ListingOutcome symbols listing models n old WriteFault new = (n ≡ 1) × (Appen
 ListingOutcome symbols listing models n old Memory new = (new ≡ old) ⊎ ((n ≡ 1) × (AppendsFront (IsListed symbols listing models) old new ⊎ IsRefusalFront (IsFaulty symbols models) old new))
 ListingOutcome symbols listing models n old TooLong new = ⊥
 
--- the models' name alone was handed to open, or none; the turns are of that input, with rising counts
+-- the models' name alone was handed to open, or none; the turns are of that input, with rising counts and with the room that is left to the limit
 pub record DidPrint (base symbols : ℕ) (listing : Listing) (old : Told) (models : List ℕ) (n : ℕ) (more : List Turn) (status : Status) (new : Told) : Type 0 where
   pub files : new.files ≡ old.files
   pub names : n ≤ 1
   pub opened : new.opened ≡ old.opened ++ take n (models ∷ [])
   pub turns : new.turns ≡ old.turns ++ more
   pub rises : (high : ℕ) × Rises base 0 high more
+  pub rooms : AllByRecursion (HasRoom (2 ^ 20 + 1)) more
   pub outcome : ListingOutcome symbols listing (bytes_of old models) n old.written status new.written
 
 abbrev pub Prints : ℕ → ℕ → Listing → Told → List ℕ → Status → Told → Type 0

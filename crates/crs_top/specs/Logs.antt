@@ -1,6 +1,7 @@
 -- Reading a log to its end, and writing as it comes.
 use Rattle.std.specs.Prelude.{◌≡◌, ◌⊎◌, ℕ, ◌+◌, ◌<◌, ◌≤◌, Bool, List, [], ◌∷◌, ◌++◌, length, take, Result, Ok, Err}
-use Rattle.crs_desk.specs.Desk.{Told, stream_at, advanced, Rises, Wrote}
+use Rattle.std.specs.List.{AllByRecursion}
+use Rattle.crs_desk.specs.Desk.{Told, stream_at, advanced, Rises, HasRoom, Wrote}
 use Rattle.crs_desk.specs.declared.turn.Turn.{Turn}
 use Rattle.crs_log.specs.Reading.{Reader, Given, HasNoLine, ahead}
 use Rattle.crs_log.specs.Run.{State}
@@ -40,7 +41,7 @@ Ended f old log limit t (Err TooLong) new = (t ≡ limit) × Appends (IsWholeTex
 Ended f old log limit t (Err WriteFault) new = IsCutShort f log t old new
 Ended f old log limit t (Err Memory) new = IsCutShort f log t old new
 
--- t bytes of a log that was just opened were read, in rising and prompt turns
+-- t bytes of a log that was just opened were read, in rising and prompt turns, each with the room that is left to the limit
 pub record ReadsLog (f : Frame) (old : Told) (input limit t : ℕ) (more : List Turn) (result : Result Bool Stop) (new : Told) : Type 0 where
   pub files : new.files ≡ old.files
   pub opened : new.opened ≡ old.opened
@@ -48,6 +49,7 @@ pub record ReadsLog (f : Frame) (old : Told) (input limit t : ℕ) (more : List 
   pub within : t ≤ length (stream_at old.left input).rest
   pub turns : new.turns ≡ old.turns ++ more
   pub rises : Rises input 0 (t + 1) more
+  pub rooms : AllByRecursion (HasRoom limit) more
   pub prompt : IsPrompt f old.written (stream_at old.left input).rest new.written more
   pub ended : Ended f old.written (stream_at old.left input).rest limit t result new.written
 

@@ -1,8 +1,9 @@
 -- What a call of the program does to a desk that tells its contents.
-use Rattle.std.specs.Prelude.{◌≡◌, ◌⊎◌, ℕ, ◌+◌, ◌<◌, ◌≤◌, true, false, List, [], ◌∷◌, ◌++◌, length, take, Result, Ok, Err, Vec}
+use Rattle.std.specs.Prelude.{◌≡◌, ◌⊎◌, ℕ, ◌+◌, ◌^◌, ◌<◌, ◌≤◌, true, false, List, [], ◌∷◌, ◌++◌, length, take, Result, Ok, Err, Vec}
+use Rattle.std.specs.List.{AllByRecursion}
 use Rattle.std.specs.Option.{unwrap_or}
 use Rattle.std.specs.declared.alloc.Global.{Global}
-use Rattle.crs_desk.specs.Desk.{Told, file_of, Rises, Wrote}
+use Rattle.crs_desk.specs.Desk.{Told, file_of, Rises, HasRoom, Wrote}
 use Rattle.crs_desk.specs.declared.turn.Turn.{Turn}
 use Rattle.crs_desk.specs.declared.whole.ReadAllError.{ReadAllError}
 use Rattle.crs_desk.specs.declared.whole.ReadAllError.TheVariants as refusals
@@ -44,7 +45,7 @@ Outcome most models log n t old WriteFault new = ((n ≡ 2) × WithModels most m
 Outcome most models log n t old Memory new = (new ≡ old) ⊎ ((n ≡ 2) × WithModels most models (λ f. IsCutShort f log t old new)) ⊎ ((n ≡ 1) × IsRefusalFront (IsRejected most.symbols models) old new)
 
 -- n of the two names were handed to open, the log only where the models are accepted, and t bytes of the log were read;
--- the turns are first of the models' input and then of the log's, in each with rising counts, and the log's are prompt
+-- the turns are first of the models' input and then of the log's, in each with rising counts and with the room that is left to its limit, and the log's are prompt
 pub record DidRun (base : ℕ) (most : Most) (old : Told) (models log : List ℕ) (n t : ℕ) (of_models of_log : List Turn) (status : Status) (new : Told) : Type 0 where
   pub files : new.files ≡ old.files
   pub names : n ≤ 2
@@ -55,18 +56,21 @@ pub record DidRun (base : ℕ) (most : Most) (old : Told) (models log : List ℕ
   pub turns : new.turns ≡ old.turns ++ (of_models ++ of_log)
   pub models_rise : (high : ℕ) × Rises base 0 high of_models
   pub log_rises : Rises (base + 1) 0 (t + 1) of_log
+  pub models_rooms : AllByRecursion (HasRoom (2 ^ 20 + 1)) of_models
+  pub log_rooms : AllByRecursion (HasRoom most.bytes) of_log
   pub outcome : Outcome most (bytes_of old models) (bytes_of old log) n t old.written status new.written
 
 abbrev pub Runs : ℕ → Most → Told → List ℕ → List ℕ → Status → Told → Type 0
 Runs base most old models log status new = (n : ℕ) × (t : ℕ) × (of_models : List Turn) × (of_log : List Turn) × DidRun base most old models log n t of_models of_log status new
 
 -- an input that was opened and of which k bytes were taken
-pub record Opened (base : ℕ) (old : Told) (name : List ℕ) (k : ℕ) (more : List Turn) (new : Told) : Type 0 where
+pub record Opened (base : ℕ) (old : Told) (name : List ℕ) (limit k : ℕ) (more : List Turn) (new : Told) : Type 0 where
   pub files : new.files ≡ old.files
   pub opened : new.opened ≡ old.opened ++ name ∷ []
   pub written : new.written ≡ old.written
   pub turns : new.turns ≡ old.turns ++ more
   pub rises : Rises base 0 (k + 1) more
+  pub rooms : AllByRecursion (HasRoom (limit + 1)) more
 
 -- an input that was not opened
 pub record NotOpened (old : Told) (name : List ℕ) (new : Told) : Type 0 where
@@ -76,10 +80,10 @@ pub record NotOpened (old : Told) (name : List ℕ) (new : Told) : Type 0 where
   pub turns : new.turns ≡ old.turns
 
 abbrev pub Loads : ℕ → Told → List ℕ → ℕ → Result (Vec ℕ Global) ReadAllError → Told → Type 0
-Loads base old name limit (Ok v) new = (k : ℕ) × (more : List Turn) × Opened base old name k more new × (v.items ≡ bytes_of old name)
-Loads base old name limit (Err refusals.Long) new = (k : ℕ) × (more : List Turn) × Opened base old name k more new × (limit < length (bytes_of old name))
-Loads base old name limit (Err refusals.Failed) new = NotOpened old name new ⊎ ((k : ℕ) × (more : List Turn) × Opened base old name k more new)
-Loads base old name limit (Err refusals.Memory) new = NotOpened old name new ⊎ ((k : ℕ) × (more : List Turn) × Opened base old name k more new)
+Loads base old name limit (Ok v) new = (k : ℕ) × (more : List Turn) × Opened base old name limit k more new × (v.items ≡ bytes_of old name)
+Loads base old name limit (Err refusals.Long) new = (k : ℕ) × (more : List Turn) × Opened base old name limit k more new × (limit < length (bytes_of old name))
+Loads base old name limit (Err refusals.Failed) new = NotOpened old name new ⊎ ((k : ℕ) × (more : List Turn) × Opened base old name limit k more new)
+Loads base old name limit (Err refusals.Memory) new = NotOpened old name new ⊎ ((k : ℕ) × (more : List Turn) × Opened base old name limit k more new)
 
 -- the refused models' line is written, or a front of it
 abbrev pub Refuses : Told → List ℕ → Status → Told → Type 0
@@ -111,6 +115,7 @@ pub record Followed (f : Frame) (base limit : ℕ) (old : Told) (log : List ℕ)
   pub unopened : n < 1 → (t ≡ 0) × (more ≡ [])
   pub turns : new.turns ≡ old.turns ++ more
   pub rises : Rises base 0 (t + 1) more
+  pub rooms : AllByRecursion (HasRoom limit) more
   pub prompt : IsPrompt f old.written (bytes_of old log) new.written more
   pub outcome : LogOutcome f (bytes_of old log) limit n t old.written status new.written
 
