@@ -26,7 +26,7 @@ loop-taken-init g c = record {
 pub returns-in-Err-Failed-clause-told : goal.returns-in-Err-Failed-clause-told
 returns-in-Err-Failed-clause-told g c = λ t f r.
     stop_failed f _ c.args.log (omega (arith, g.met.D.Desk.places c.args.desk.now t)) (c.requires.fresh t) (g.D.Desk.told c.loop-taken.desk) _ c.args.limit _ c.loop-taken.session c.loop-taken.lines _
-    (c.loop-taken.invariant.told t f r) (rw c.in-Err-Failed.field-0-is at (c.in-Err-Failed.ensures.told t)) (grind (arith, common_steps))
+    (c.loop-taken.invariant.told t f r) (rw c.in-Err-Failed.field-0-is at (c.in-Err-Failed.ensures.told t)) (grind (arith, common_steps)) c.loop-taken-test.true
 
 pub returns-in-Err-Memory-clause-told : goal.returns-in-Err-Memory-clause-told
 returns-in-Err-Memory-clause-told g c = λ t f r.
@@ -42,7 +42,7 @@ pub returns-in_err-text-clause-told : goal.returns-in_err-text-clause-told
 returns-in_err-text-clause-told g c = λ t f r.
     let p = err_from_is_err_and c.from_residual-in_err-text.result c.from_residual-in_err-text.ensures.1 in
     rw (p.1, p.2) (stop_piece f _ c.args.log (omega (arith, g.met.D.Desk.places c.args.desk.now t)) (c.requires.fresh t) (g.D.Desk.told c.loop-taken.desk) (g.D.Desk.told c.read.new.self) c.args.limit _ _ c.loop-taken.session c.loop-taken.lines _
-    (c.loop-taken.invariant.told t f r) (c.in-Ok.ensures.told t) (grind (arith, common_steps)) (omega arith))
+    (c.loop-taken.invariant.told t f r) (c.in-Ok.ensures.told t) (grind (arith, common_steps)) c.in-Ok.ensures.count (omega arith))
 
 pub returns-in-Err-clause-told : goal.returns-in-Err-clause-told
 returns-in-Err-clause-told g c = λ t f r.
