@@ -64,7 +64,7 @@ enough_on old mid i k n lt e le =
     let at = ap (λ (l : List Stream). stream_at l i) e ∙ stream_after old.left i k lt in
     rw at at le
 
-pub took_more : (old mid new : Told) (i k n : ℕ) (more : List Turn) (buf : List ℕ) → i < length old.left → Took old i k more mid → Reads mid i (Ok n) buf new → Took old i (k + n) (more ++ turn_of mid i ∷ []) new
+pub took_more : (old mid new : Told) (i k n : ℕ) (more : List Turn) (buf : List ℕ) → i < length old.left → Took old i k more mid → Reads mid i (Ok n) buf new → Took old i (k + n) (more ++ turn_of mid i (length buf) ∷ []) new
 took_more old mid new i k n more buf lt t r = record {
   files = r.files ∙ t.files;
   opened = r.opened ∙ t.opened;
@@ -74,7 +74,7 @@ took_more old mid new i k n more buf lt t r = record {
   turns = r.turns ∙ rw (t.turns, append_assoc) refl;
 }
 
-pub took_failed : (old mid new : Told) (i k : ℕ) (more : List Turn) (buf : List ℕ) → Took old i k more mid → Reads mid i (Err Failed) buf new → Took old i k (more ++ turn_of mid i ∷ []) new
+pub took_failed : (old mid new : Told) (i k : ℕ) (more : List Turn) (buf : List ℕ) → Took old i k more mid → Reads mid i (Err Failed) buf new → Took old i k (more ++ turn_of mid i (length buf) ∷ []) new
 took_failed old mid new i k more buf t r = record {
   files = r.files ∙ t.files;
   opened = r.opened ∙ t.opened;

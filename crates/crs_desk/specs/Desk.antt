@@ -55,14 +55,14 @@ pub record Opens (old : Told) (name : List ℕ) (result : Result ℕ DeskError) 
   pub written : new.written ≡ old.written
   pub turns : new.turns ≡ old.turns
 
--- the turn that a read adds
-abbrev pub turn_of : Told → ℕ → Turn
-turn_of t input = record { input = input; taken = (stream_at t.left input).taken; written = length t.written }
+-- the turn that a read into a slice of so many bytes adds
+abbrev pub turn_of : Told → ℕ → ℕ → Turn
+turn_of t input room = record { input = input; taken = (stream_at t.left input).taken; written = length t.written; room = room }
 
-abbrev pub turned : Told → ℕ → Result ℕ DeskError → List Turn
-turned t input (Err Memory) = t.turns
-turned t input (Err Failed) = t.turns ++ turn_of t input ∷ []
-turned t input (Ok _) = t.turns ++ turn_of t input ∷ []
+abbrev pub turned : Told → ℕ → ℕ → Result ℕ DeskError → List Turn
+turned t input room (Err Memory) = t.turns
+turned t input room (Err Failed) = t.turns ++ turn_of t input room ∷ []
+turned t input room (Ok _) = t.turns ++ turn_of t input room ∷ []
 
 -- n bytes of an input are read
 abbrev pub advanced : List Stream → ℕ → ℕ → List Stream
@@ -87,7 +87,7 @@ pub record Reads (old : Told) (input : ℕ) (result : Result ℕ DeskError) (buf
   pub opened : new.opened ≡ old.opened
   pub bytes : OnBytes old input result buf new
   pub written : new.written ≡ old.written
-  pub turns : new.turns ≡ turned old input result
+  pub turns : new.turns ≡ turned old input (length buf) result
 
 abbrev pub appended : List ℕ → List ℕ → Result ℕ DeskError → List ℕ
 appended old bytes (Ok n) = old ++ take n bytes
@@ -119,6 +119,10 @@ WritesAll old bytes (Err _) new = (k : ℕ) × Wrote old bytes k new
 abbrev pub Rises : ℕ → ℕ → ℕ → List Turn → Type 0
 Rises input low high [] = low ≤ high
 Rises input low high (t ∷ ts) = (t.input ≡ input) × (low ≤ t.taken) × Rises input (t.taken + 1) high ts
+
+-- the read handed over a slice of 4096 bytes, or of as many as were left to the limit
+abbrev pub HasRoom : ℕ → Turn → Type 0
+HasRoom limit t = t.room ≡ min 4096 (limit - t.taken)
 
 -- k bytes of an input were taken, in turns of that input alone
 pub record Took (old : Told) (input k : ℕ) (more : List Turn) (new : Told) : Type 0 where

@@ -204,6 +204,7 @@ impl Desk for MemoryDesk {
             input,
             taken: from.at,
             written: self.written.len(),
+            room: buf.len(),
         })?;
         from.reads = call;
         if fails {

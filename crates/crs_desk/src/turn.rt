@@ -7,4 +7,6 @@ pub struct Turn {
     pub taken: usize,
     /// How many bytes were written before the call.
     pub written: usize,
+    /// How many bytes the slice has that was to take the bytes.
+    pub room: usize,
 }

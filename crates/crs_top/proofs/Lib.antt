@@ -7,11 +7,11 @@ pub mod Accepting
 pub mod Ordering
 pub mod Taken
 pub mod LogReading
-pub mod Following
-pub mod Recognising
-pub mod Completing
+pub mod Follows
+pub mod Runs
+pub mod Completes
 pub mod Preparing
 pub mod OneText
-pub mod Prints
+pub mod Loads
 pub mod Listed
 mod Rows

@@ -1,9 +1,11 @@
 -- A log, read by read.
-use Rattle.std.proofs.Common.{◌≡◌, ◌⊎◌, ◌∙◌, ap, sym, refl, subst, inl, inr, ℕ, ◌+◌, ◌<◌, ◌≤◌, Bool, false, List, [], ◌∷◌, ◌++◌, length, take, drop, arith, add-zero, append-nil, append_assoc, length-append, length-take-le, Ok, Err, Result}
+use Rattle.std.proofs.Common.{◌≡◌, ◌⊎◌, ◌∙◌, ap, sym, refl, subst, inl, inr, ℕ, ◌+◌, ◌-◌, ◌<◌, ◌≤◌, min, Bool, false, List, [], ◌∷◌, ◌++◌, length, take, drop, arith, add-zero, append-nil, append_assoc, length-append, length-take-le, Ok, Err, Result}
 use Rattle.std.proofs.lemmas.List.{length-drop, take-append-le}
 use Rattle.std.proofs.Math.Seq.{take-add, take-length, take-append-add}
+use Rattle.std.specs.List.{AllByRecursion}
+use Rattle.crs_base.proofs.Alls.{all_put}
 use Rattle.crs_base.specs.Lines.{lines_of}
-use Rattle.crs_desk.specs.Desk.{Told, Stream, stream_at, advanced, turn_of, Reads, Wrote, Rises}
+use Rattle.crs_desk.specs.Desk.{Told, Stream, stream_at, advanced, turn_of, Reads, Wrote, Rises, HasRoom}
 use Rattle.crs_desk.specs.declared.turn.Turn.{Turn}
 use Rattle.crs_desk.specs.declared.desk.DeskError.TheVariants as errors
 use Rattle.crs_desk.proofs.Calls.{took_none, stream_after, advanced_twice, rises_push, rises_weaker}
@@ -16,7 +18,7 @@ use Rattle.crs_top.specs.declared.session.Session.{Session}
 use Rattle.crs_top.specs.Session.{Represents}
 use Rattle.crs_top.specs.Taking.{after_all, refuses_some, Takes, IsGivenText}
 use Rattle.crs_top.specs.Texts.{Frame, setting_of, IsWholeText, IsLogText, some_refused}
-use Rattle.crs_top.specs.Logs.{Appends, IsPrompt, IsPromptAt, IsCutShort, Ended, HasReadLog, TakesPiece, TakesRest, Finishes}
+use Rattle.crs_top.specs.Logs.{no_tail, IsEndedText, Appends, IsPrompt, IsPromptAt, IsCutShort, Ended, HasReadLog, TakesPiece, TakesRest, Finishes}
 use Rattle.crs_top.proofs.Taken.{takes_none, takes_append, given_text, given_refused}
 
 -- the lines of the first t bytes were given, and the reader stands behind them
@@ -37,10 +39,12 @@ pub record Base (f : Frame) (old : Told) (i t : ℕ) (more : List Turn) (now : T
   pub prompt : IsPrompt f old.written (stream_at old.left i).rest now.written more
 
 -- and the text of the whole lines among them is written
-pub record Reading (f : Frame) (old : Told) (i t : ℕ) (x : Session) (lines : Reader) (now : Told) : Type 0 where
+pub record Reading (f : Frame) (old : Told) (i limit t : ℕ) (x : Session) (lines : Reader) (now : Told) : Type 0 where
   pub more : List Turn
   pub base : Base f old i t more now
   pub rises : Rises i 0 t more
+  pub rooms : AllByRecursion (HasRoom limit) more
+  pub most : t ≤ limit
   pub told : List Given
   pub at : IsAt t (take t (stream_at old.left i).rest) lines told
   pub text : List ℕ
@@ -54,14 +58,16 @@ whole_of f t bytes x lines told text a k =
     (subst (λ (gs : List Given). IsGivenText f (at_start f.texts) gs k.text) is k.says))
 
 -- what is written so far is the text of the whole lines
-appends : (f : Frame) (old : Told) (i t : ℕ) (x : Session) (lines : Reader) (now : Told) → Reading f old i t x lines now → Appends (IsWholeText f (take t (stream_at old.left i).rest)) old.written now.written
-appends f old i t x lines now h = (h.text, whole_of f t (take t (stream_at old.left i).rest) x lines h.told h.text h.at h.takes, h.written)
+appends : (f : Frame) (old : Told) (i limit t : ℕ) (x : Session) (lines : Reader) (now : Told) → Reading f old i limit t x lines now → Appends (IsWholeText f (take t (stream_at old.left i).rest)) old.written now.written
+appends f old i limit t x lines now h = (h.text, whole_of f t (take t (stream_at old.left i).rest) x lines h.told h.text h.at h.takes, h.written)
 
-pub reading_none : (f : Frame) (t : Told) (i : ℕ) (x : Session) (lines : Reader) → Represents f x (at_start f.texts) → x.refused ≡ false → lines ≡ record { limit = 4096; number = 0; rest = []; finished = false; fed = 0 } → Reading f t i 0 x lines t
-reading_none f t i x lines r fresh new = record {
+pub reading_none : (f : Frame) (t : Told) (i limit : ℕ) (x : Session) (lines : Reader) → Represents f x (at_start f.texts) → x.refused ≡ false → lines ≡ record { limit = 4096; number = 0; rest = []; finished = false; fed = 0 } → Reading f t i limit 0 x lines t
+reading_none f t i limit x lines r fresh new = record {
   more = [];
   base = record { files = refl; opened = refl; left = (took_none t i).left; within = omega arith; turns = sym (append-nil t.turns); prompt = tt };
   rises = omega arith;
+  rooms = tt;
+  most = omega arith;
   told = [];
   at = subst (λ (l : Reader). IsAt 0 [] l []) (sym new) (record { limit = refl; open_still = refl; fed = refl; none = (refl, refl); given = λ m. refl });
   text = [];
@@ -87,23 +93,28 @@ module _ (f : Frame) (old : Told) (i : ℕ) (lt : i < length old.left) (z : (str
   stream_now : (now : Told) (t : ℕ) (more : List Turn) → Base f old i t more now → stream_at now.left i ≡ (let s = stream_at old.left i in record { taken = s.taken + t; rest = drop t s.rest })
   stream_now now t more h = ap (λ (l : List Stream). stream_at l i) h.left ∙ stream_after old.left i t lt
 
-  taken_now : (now : Told) (t : ℕ) (more : List Turn) → Base f old i t more now → (turn_of now i).taken ≡ t
-  taken_now now t more h = ap (λ (s : Stream). s.taken) (stream_now now t more h) ∙ omega arith
+  taken_now : (now : Told) (t room : ℕ) (more : List Turn) → Base f old i t more now → (turn_of now i room).taken ≡ t
+  taken_now now t room more h = ap (λ (s : Stream). s.taken) (stream_now now t more h) ∙ omega arith
 
-  prompt_turn : (now : Told) (t : ℕ) (x : Session) (lines : Reader) → (h : Reading f old i t x lines now) → IsPrompt f old.written log now.written (h.more ++ turn_of now i ∷ [])
-  prompt_turn now t x lines h =
-      let a = appends f old i t x lines now h in
-      prompt_push f _ _ _ h.more (turn_of now i) h.base.prompt
-      (omega arith, (a.0, subst (λ (n : ℕ). IsWholeText f (take n log) a.0) (sym (taken_now now t h.more h.base)) a.1, take-length now.written ∙ a.2))
+  prompt_turn : (now : Told) (limit t room : ℕ) (x : Session) (lines : Reader) → (h : Reading f old i limit t x lines now) → IsPrompt f old.written log now.written (h.more ++ turn_of now i room ∷ [])
+  prompt_turn now limit t room x lines h =
+      let a = appends f old i limit t x lines now h in
+      prompt_push f _ _ _ h.more (turn_of now i room) h.base.prompt
+      (omega arith, (a.0, subst (λ (n : ℕ). IsWholeText f (take n log) a.0) (sym (taken_now now t room h.more h.base)) a.1, take-length now.written ∙ a.2))
 
-  rises_turn : (now : Told) (t : ℕ) (x : Session) (lines : Reader) → (h : Reading f old i t x lines now) → Rises i 0 (t + 1) (h.more ++ turn_of now i ∷ [])
-  rises_turn now t x lines h =
-      let e = taken_now now t h.more h.base in
-      rises_weaker _ _ _ _ _ (rises_push i _ _ h.more (turn_of now i) h.rises refl (omega (arith, e))) (omega (arith, e))
+  rises_turn : (now : Told) (limit t room : ℕ) (x : Session) (lines : Reader) → (h : Reading f old i limit t x lines now) → Rises i 0 (t + 1) (h.more ++ turn_of now i room ∷ [])
+  rises_turn now limit t room x lines h =
+      let e = taken_now now t room h.more h.base in
+      rises_weaker _ _ _ _ _ (rises_push i _ _ h.more (turn_of now i room) h.rises refl (omega (arith, e))) (omega (arith, e))
+
+  rooms_turn : (now : Told) (limit t room : ℕ) (x : Session) (lines : Reader) → (h : Reading f old i limit t x lines now) → room ≡ min 4096 (limit - t) → AllByRecursion (HasRoom limit) (h.more ++ turn_of now i room ∷ [])
+  rooms_turn now limit t room x lines h e =
+      let here : HasRoom limit (turn_of now i room) = e ∙ ap (λ (n : ℕ). min 4096 (limit - n)) (sym (taken_now now t room h.more h.base)) in
+      all_put (HasRoom limit) h.more (turn_of now i room) h.rooms here
 
   -- the base after a read that gave n bytes
-  base_read : (mid new : Told) (t n : ℕ) (x : Session) (lines : Reader) (buf : List ℕ) → (h : Reading f old i t x lines mid) → Reads mid i (Ok n) buf new → Base f old i (t + n) (h.more ++ turn_of mid i ∷ []) new
-  base_read mid new t n x lines buf h r =
+  base_read : (mid new : Told) (limit t n : ℕ) (x : Session) (lines : Reader) (buf : List ℕ) → (h : Reading f old i limit t x lines mid) → Reads mid i (Ok n) buf new → Base f old i (t + n) (h.more ++ turn_of mid i (length buf) ∷ []) new
+  base_read mid new limit t n x lines buf h r =
       let rest_is = ap (λ (s : Stream). s.rest) (stream_now mid t h.more h.base) in
       let le : n ≤ length (drop t log) = rw rest_is at r.bytes.enough in
       record {
@@ -112,12 +123,12 @@ module _ (f : Frame) (old : Told) (i : ℕ) (lt : i < length old.left) (z : (str
         left = r.bytes.left ∙ rw (h.base.left) (advanced_twice old.left i t n lt);
         within = omega (arith, le, length-drop t log, h.base.within);
         turns = r.turns ∙ rw (h.base.turns, append_assoc) refl;
-        prompt = rw (r.written) (prompt_turn mid t x lines h);
+        prompt = rw (r.written) (prompt_turn mid limit t (length buf) x lines h);
       }
 
   -- the bytes that came are the next of the log
-  piece_is : (mid new : Told) (t n : ℕ) (x : Session) (lines : Reader) (buf : List ℕ) → (h : Reading f old i t x lines mid) → Reads mid i (Ok n) buf new → take (t + n) log ≡ take t log ++ take n buf
-  piece_is mid new t n x lines buf h r =
+  piece_is : (mid new : Told) (limit t n : ℕ) (x : Session) (lines : Reader) (buf : List ℕ) → (h : Reading f old i limit t x lines mid) → Reads mid i (Ok n) buf new → take (t + n) log ≡ take t log ++ take n buf
+  piece_is mid new limit t n x lines buf h r =
       let rest_is = ap (λ (s : Stream). s.rest) (stream_now mid t h.more h.base) in
       take-add t n _ ∙ ap (λ (y : List ℕ). take t log ++ y) (ap (take n) (sym rest_is) ∙ sym r.bytes.bytes)
 
@@ -141,14 +152,16 @@ module _ (f : Frame) (old : Told) (i : ℕ) (lt : i < length old.left) (z : (str
     given = λ m. ap (given 4096 0) (append_assoc bytes piece m) ∙ a.given (piece ++ m) ∙ ap (λ (gs : List Given). told ++ gs) (p.ahead_is m) ∙ sym (append_assoc told p.told (ahead now m));
   }
 
-  pub reading_more : (mid new last : Told) (t n : ℕ) (x y : Session) (lines now : Reader) (buf text : List ℕ)
-      → (h : Reading f old i t x lines mid) → Reads mid i (Ok n) buf new → n ≤ length buf → 0 < n → TakesPiece lines now x y (take n buf) text → Wrote new text (length text) last → Reading f old i (t + n) y now last
-  reading_more mid new last t n x y lines now buf text h r few pos p w =
-      let piece = piece_is mid new t n x lines buf h r in
+  pub reading_more : (mid new last : Told) (limit t n : ℕ) (x y : Session) (lines now : Reader) (buf text : List ℕ)
+      → (h : Reading f old i limit t x lines mid) → Reads mid i (Ok n) buf new → length buf ≡ min 4096 (limit - t) → n ≤ length buf → 0 < n → TakesPiece lines now x y (take n buf) text → Wrote new text (length text) last → Reading f old i limit (t + n) y now last
+  reading_more mid new last limit t n x y lines now buf text h r room few pos p w =
+      let piece = piece_is mid new limit t n x lines buf h r in
       record {
-        more = h.more ++ turn_of mid i ∷ [];
-        base = base_write new last (t + n) (length text) (h.more ++ turn_of mid i ∷ []) text (base_read mid new t n x lines buf h r) w;
-        rises = rises_weaker _ _ _ _ _ (rises_turn mid t x lines h) (omega arith);
+        more = h.more ++ turn_of mid i (length buf) ∷ [];
+        base = base_write new last (t + n) (length text) (h.more ++ turn_of mid i (length buf) ∷ []) text (base_read mid new limit t n x lines buf h r) w;
+        rises = rises_weaker _ _ _ _ _ (rises_turn mid limit t (length buf) x lines h) (omega arith);
+        rooms = rooms_turn mid limit t (length buf) x lines h room;
+        most = omega (arith, h.most, few, room);
         told = h.told ++ p.told;
         at = subst (λ (bs : List ℕ). IsAt (t + n) bs now (h.told ++ p.told)) (sym piece) (at_more t n lines now h.told (take t log) (take n buf) x y text (length-take-le n buf few) h.at p);
         text = h.text ++ text;
@@ -157,27 +170,29 @@ module _ (f : Frame) (old : Told) (i : ℕ) (lt : i < length old.left) (z : (str
       }
 
   -- the stops
-  reads_log : (new : Told) (limit t : ℕ) (more : List Turn) (e : _) → Base f old i t more new → Rises i 0 (t + 1) more → Ended f old.written log limit t (Err e) new.written → HasReadLog f old i limit (Err e) new
-  reads_log new limit t more e b r end = (t, more, record { files = b.files; opened = b.opened; left = b.left; within = b.within; turns = b.turns; rises = r; prompt = b.prompt; ended = end })
+  reads_log : (new : Told) (limit t : ℕ) (more : List Turn) (e : _) → Base f old i t more new → Rises i 0 (t + 1) more → AllByRecursion (HasRoom limit) more → t ≤ limit → Ended no_tail f old.written log limit t (Err e) new.written → HasReadLog no_tail f old i limit (Err e) new
+  reads_log new limit t more e b r rooms most end = (t, more, record { files = b.files; opened = b.opened; left = b.left; within = b.within; turns = b.turns; rises = r; rooms = rooms; most = most; prompt = b.prompt; ended = end })
 
-  pub stop_failed : (mid new : Told) (limit t : ℕ) (x : Session) (lines : Reader) (buf : List ℕ) → Reading f old i t x lines mid → Reads mid i (Err errors.Failed) buf new → HasReadLog f old i limit (Err stops.ReadFault) new
-  stop_failed mid new limit t x lines buf h r =
-      let a = appends f old i t x lines mid h in
-      reads_log new limit t (h.more ++ turn_of mid i ∷ []) stops.ReadFault
+  pub stop_failed : (mid new : Told) (limit t : ℕ) (x : Session) (lines : Reader) (buf : List ℕ) → Reading f old i limit t x lines mid → Reads mid i (Err errors.Failed) buf new → length buf ≡ min 4096 (limit - t) → t < limit → HasReadLog no_tail f old i limit (Err stops.ReadFault) new
+  stop_failed mid new limit t x lines buf h r room below =
+      let a = appends f old i limit t x lines mid h in
+      reads_log new limit t (h.more ++ turn_of mid i (length buf) ∷ []) stops.ReadFault
       (record {
         files = r.files ∙ h.base.files;
         opened = r.opened ∙ h.base.opened;
         left = r.bytes ∙ h.base.left;
         within = h.base.within;
         turns = r.turns ∙ rw (h.base.turns, append_assoc) refl;
-        prompt = rw (r.written) (prompt_turn mid t x lines h);
+        prompt = rw (r.written) (prompt_turn mid limit t (length buf) x lines h);
       })
-      (rises_turn mid t x lines h)
-      (a.0, a.1, r.written ∙ a.2)
+      (rises_turn mid limit t (length buf) x lines h)
+      (rooms_turn mid limit t (length buf) x lines h room)
+      h.most
+      (below, (a.0, a.1, r.written ∙ a.2))
 
-  pub stop_refused : (mid new : Told) (limit t : ℕ) (x : Session) (lines : Reader) (buf : List ℕ) → Reading f old i t x lines mid → Reads mid i (Err errors.Memory) buf new → HasReadLog f old i limit (Err stops.Memory) new
+  pub stop_refused : (mid new : Told) (limit t : ℕ) (x : Session) (lines : Reader) (buf : List ℕ) → Reading f old i limit t x lines mid → Reads mid i (Err errors.Memory) buf new → HasReadLog no_tail f old i limit (Err stops.Memory) new
   stop_refused mid new limit t x lines buf h r =
-      let a = appends f old i t x lines mid h in
+      let a = appends f old i limit t x lines mid h in
       reads_log new limit t h.more stops.Memory
       (record {
         files = r.files ∙ h.base.files;
@@ -188,31 +203,35 @@ module _ (f : Frame) (old : Told) (i : ℕ) (lt : i < length old.left) (z : (str
         prompt = rw (r.written) h.base.prompt;
       })
       (rises_weaker _ _ _ _ _ h.rises (omega arith))
+      h.rooms
+      h.most
       (inl (t, omega arith, (a.0, length a.0, a.1, r.written ∙ a.2 ∙ rw take-length refl)))
 
-  pub stop_long : (now : Told) (limit t : ℕ) (x : Session) (lines : Reader) → Reading f old i t x lines now → t ≡ limit → HasReadLog f old i limit (Err stops.TooLong) now
+  pub stop_long : (now : Told) (limit t : ℕ) (x : Session) (lines : Reader) → Reading f old i limit t x lines now → t ≡ limit → HasReadLog no_tail f old i limit (Err stops.TooLong) now
   stop_long now limit t x lines h e =
-      reads_log now limit t h.more stops.TooLong h.base (rises_weaker _ _ _ _ _ h.rises (omega arith)) (e, appends f old i t x lines now h)
+      reads_log now limit t h.more stops.TooLong h.base (rises_weaker _ _ _ _ _ h.rises (omega arith)) h.rooms h.most (e, appends f old i limit t x lines now h)
 
   -- the write or the memory failed, with k bytes of the piece's text written
   cut_short : (mid new last : Told) (limit t n : ℕ) (x y : Session) (lines : Reader) (buf text : List ℕ) (stop : Stop) → (stop ≡ stops.WriteFault) ⊎ (stop ≡ stops.Memory)
-      → (h : Reading f old i t x lines mid) → Reads mid i (Ok n) buf new → 0 < n → (k : ℕ) → Wrote new text k last → IsCutShort f log (t + n) old.written last.written → HasReadLog f old i limit (Err stop) last
-  cut_short mid new last limit t n x y lines buf text stop either h r pos k w cut =
-      let b = base_write new last (t + n) k (h.more ++ turn_of mid i ∷ []) text (base_read mid new t n x lines buf h r) w in
-      let up = rises_weaker _ _ _ _ _ (rises_turn mid t x lines h) (omega arith) in
+      → (h : Reading f old i limit t x lines mid) → Reads mid i (Ok n) buf new → length buf ≡ min 4096 (limit - t) → n ≤ length buf → 0 < n → (k : ℕ) → Wrote new text k last → IsCutShort no_tail f log (t + n) old.written last.written → HasReadLog no_tail f old i limit (Err stop) last
+  cut_short mid new last limit t n x y lines buf text stop either h r room few pos k w cut =
+      let b = base_write new last (t + n) k (h.more ++ turn_of mid i (length buf) ∷ []) text (base_read mid new limit t n x lines buf h r) w in
+      let up : Rises i 0 (t + n + 1) (h.more ++ turn_of mid i (length buf) ∷ []) = rises_weaker _ _ _ _ _ (rises_turn mid limit t (length buf) x lines h) (omega arith) in
+      let rooms = rooms_turn mid limit t (length buf) x lines h room in
+      let few_all : t + n ≤ limit = omega (arith, h.most, few, room) in
       elim either [
-        | inl e ↦ rw e (reads_log last limit (t + n) (h.more ++ turn_of mid i ∷ []) stops.WriteFault b up cut)
-        | inr e ↦ rw e (reads_log last limit (t + n) (h.more ++ turn_of mid i ∷ []) stops.Memory b up cut)
+        | inl e ↦ rw e (reads_log last limit (t + n) (h.more ++ turn_of mid i (length buf) ∷ []) stops.WriteFault b up rooms few_all cut)
+        | inr e ↦ rw e (reads_log last limit (t + n) (h.more ++ turn_of mid i (length buf) ∷ []) stops.Memory b up rooms few_all cut)
       ]
 
   pub stop_write : (mid new last : Told) (limit t n : ℕ) (x y : Session) (lines now : Reader) (buf text : List ℕ) (stop : Stop) → (stop ≡ stops.WriteFault) ⊎ (stop ≡ stops.Memory)
-      → (h : Reading f old i t x lines mid) → Reads mid i (Ok n) buf new → n ≤ length buf → 0 < n → (p : TakesPiece lines now x y (take n buf) text) → (k : ℕ) → Wrote new text k last → HasReadLog f old i limit (Err stop) last
-  stop_write mid new last limit t n x y lines now buf text stop either h r few pos p k w =
-      let piece = piece_is mid new t n x lines buf h r in
+      → (h : Reading f old i limit t x lines mid) → Reads mid i (Ok n) buf new → length buf ≡ min 4096 (limit - t) → n ≤ length buf → 0 < n → (p : TakesPiece lines now x y (take n buf) text) → (k : ℕ) → Wrote new text k last → HasReadLog no_tail f old i limit (Err stop) last
+  stop_write mid new last limit t n x y lines now buf text stop either h r room few pos p k w =
+      let piece = piece_is mid new limit t n x lines buf h r in
       let at : IsAt (t + n) (take (t + n) log) now (h.told ++ p.told) =
       subst (λ (bs : List ℕ). IsAt (t + n) bs now (h.told ++ p.told)) (sym piece) (at_more t n lines now h.told (take t log) (take n buf) x y text (length-take-le n buf few) h.at p) in
       let takes = takes_append f x y (at_start f.texts) h.told p.told h.text text h.takes (p.takes f (after_all (setting_of f) (at_start f.texts) h.told) h.takes.state) in
-      cut_short mid new last limit t n x y lines buf text stop either h r pos k w
+      cut_short mid new last limit t n x y lines buf text stop either h r room few pos k w
       (inl (
         t + n,
         omega arith,
@@ -225,15 +244,15 @@ module _ (f : Frame) (old : Told) (i : ℕ) (lt : i < length old.left) (z : (str
       ))
 
   -- memory was wanting before the piece's text was made
-  pub stop_piece : (mid new : Told) (limit t n : ℕ) (x : Session) (lines : Reader) (buf : List ℕ) → (h : Reading f old i t x lines mid) → Reads mid i (Ok n) buf new → 0 < n → HasReadLog f old i limit (Err stops.Memory) new
-  stop_piece mid new limit t n x lines buf h r pos =
-      let a = appends f old i t x lines mid h in
-      cut_short mid new new limit t n x x lines buf [] stops.Memory (inr refl) h r pos 0
+  pub stop_piece : (mid new : Told) (limit t n : ℕ) (x : Session) (lines : Reader) (buf : List ℕ) → (h : Reading f old i limit t x lines mid) → Reads mid i (Ok n) buf new → length buf ≡ min 4096 (limit - t) → n ≤ length buf → 0 < n → HasReadLog no_tail f old i limit (Err stops.Memory) new
+  stop_piece mid new limit t n x lines buf h r room few pos =
+      let a = appends f old i limit t x lines mid h in
+      cut_short mid new new limit t n x x lines buf [] stops.Memory (inr refl) h r room few pos 0
       (record { files = refl; opened = refl; left = refl; turns = refl; within = omega arith; written = sym (append-nil new.written) })
       (inl (t, omega arith, (a.0, length a.0, a.1, r.written ∙ a.2 ∙ rw take-length refl)))
 
   -- where the end was met
-  module _ (mid new : Told) (limit t : ℕ) (x : Session) (lines : Reader) (buf : List ℕ) (h : Reading f old i t x lines mid) (r : Reads mid i (Ok 0) buf new) where
+  module _ (mid new : Told) (limit t : ℕ) (x : Session) (lines : Reader) (buf : List ℕ) (h : Reading f old i limit t x lines mid) (r : Reads mid i (Ok 0) buf new) (room : length buf ≡ min 4096 (limit - t)) where
     all_read : t ≡ length log
     all_read =
         let rest_is = ap (λ (s : Stream). s.rest) (stream_now mid t h.more h.base) in
@@ -243,19 +262,21 @@ module _ (f : Frame) (old : Told) (i : ℕ) (lt : i < length old.left) (z : (str
     all_is : take t log ≡ log
     all_is = rw all_read (take-length log)
 
-    at_end : (last : Told) (k : ℕ) (text : List ℕ) (result : Result Bool Stop) → Wrote new text k last → Ended f old.written log limit t result last.written → HasReadLog f old i limit result last
+    at_end : (last : Told) (k : ℕ) (text : List ℕ) (result : Result Bool Stop) → Wrote new text k last → Ended no_tail f old.written log limit t result last.written → HasReadLog no_tail f old i limit result last
     at_end last k text result w ended =
-        let b : Base f old i t (h.more ++ turn_of mid i ∷ []) new = rw add-zero at (base_read mid new t 0 x lines buf h r) in
-        let c = base_write new last t k (h.more ++ turn_of mid i ∷ []) text b w in (
+        let b : Base f old i t (h.more ++ turn_of mid i (length buf) ∷ []) new = rw add-zero at (base_read mid new limit t 0 x lines buf h r) in
+        let c = base_write new last t k (h.more ++ turn_of mid i (length buf) ∷ []) text b w in (
           t,
-          h.more ++ turn_of mid i ∷ [],
+          h.more ++ turn_of mid i (length buf) ∷ [],
           record {
             files = c.files;
             opened = c.opened;
             left = c.left;
             within = c.within;
             turns = c.turns;
-            rises = rises_turn mid t x lines h;
+            rises = rises_turn mid limit t (length buf) x lines h;
+            rooms = rooms_turn mid limit t (length buf) x lines h room;
+            most = h.most;
             prompt = c.prompt;
             ended = ended;
           },
@@ -275,33 +296,36 @@ module _ (f : Frame) (old : Told) (i : ℕ) (lt : i < length old.left) (z : (str
           (subst (λ (z : List ℕ). IsGivenText f (at_start f.texts) (given_lines 4096 0 (lines_of log)) z) (sym all_takes.written)
           (subst (λ (gs : List Given). IsGivenText f (at_start f.texts) gs all_takes.text) (sym all_told) all_takes.says))
 
+      ended_text : IsEndedText no_tail f log (h.text ++ text)
+      ended_text = (h.text ++ text, [], log_text, refl, sym (append-nil (h.text ++ text)))
+
       log_refused : y.refused ≡ some_refused f log
       log_refused = all_takes.noted ∙ ap (refuses_some (setting_of f) (at_start f.texts)) (sym all_told) ∙ given_refused (setting_of f) 0 (at_start f.texts) (lines_of log)
 
       written_front : (last : Told) (k : ℕ) → Wrote new text k last → last.written ≡ old.written ++ take (length h.text + k) (h.text ++ text)
       written_front last k w = w.written ∙ rw (r.written, h.written, append_assoc) (ap (λ (y : List ℕ). old.written ++ y) (sym (take-append-add h.text text k)))
 
-      pub end_done : (last : Told) → t < limit → Wrote new text (length text) last → HasReadLog f old i limit (Ok y.refused) last
+      pub end_done : (last : Told) → t < limit → Wrote new text (length text) last → HasReadLog no_tail f old i limit (Ok y.refused) last
       end_done last below w = at_end last (length text) text (Ok y.refused) w
-          (all_read, below, (h.text ++ text, log_text, w.written ∙ rw (r.written, h.written, append_assoc) (ap (λ (y : List ℕ). old.written ++ (h.text ++ y)) (take-length text))), log_refused)
+          (all_read, below, (h.text ++ text, ended_text, w.written ∙ rw (r.written, h.written, append_assoc) (ap (λ (y : List ℕ). old.written ++ (h.text ++ y)) (take-length text))), log_refused)
 
-      pub end_stopped : (last : Told) (k : ℕ) (stop : Stop) → (stop ≡ stops.WriteFault) ⊎ (stop ≡ stops.Memory) → Wrote new text k last → HasReadLog f old i limit (Err stop) last
+      pub end_stopped : (last : Told) (k : ℕ) (stop : Stop) → (stop ≡ stops.WriteFault) ⊎ (stop ≡ stops.Memory) → Wrote new text k last → HasReadLog no_tail f old i limit (Err stop) last
       end_stopped last k stop either w =
-          let cut : IsCutShort f log t old.written last.written = inr (all_read, (h.text ++ text, length h.text + k, log_text, written_front last k w)) in
+          let cut : IsCutShort no_tail f log t old.written last.written = inr (all_read, (h.text ++ text, length h.text + k, ended_text, written_front last k w)) in
           elim either [
             | inl e ↦ rw e (at_end last k text (Err stops.WriteFault) w cut)
             | inr e ↦ rw e (at_end last k text (Err stops.Memory) w cut)
           ]
 
     -- memory was wanting before the last line's text was made
-    pub end_refused : HasReadLog f old i limit (Err stops.Memory) new
+    pub end_refused : HasReadLog no_tail f old i limit (Err stops.Memory) new
     end_refused =
-        let a = appends f old i t x lines mid h in
+        let a = appends f old i limit t x lines mid h in
         at_end new 0 [] (Err stops.Memory) (record { files = refl; opened = refl; left = refl; turns = refl; within = omega arith; written = sym (append-nil new.written) })
         (inl (t, omega arith, (a.0, length a.0, a.1, r.written ∙ a.2 ∙ rw take-length refl)))
 
 -- nothing was read
-pub stop_before : (f : Frame) (t : Told) (i limit : ℕ) → HasReadLog f t i limit (Err stops.Memory) t
+pub stop_before : (f : Frame) (t : Told) (i limit : ℕ) → HasReadLog no_tail f t i limit (Err stops.Memory) t
 stop_before f t i limit = (
   0,
   [],
@@ -312,25 +336,27 @@ stop_before f t i limit = (
     within = omega arith;
     turns = sym (append-nil t.turns);
     rises = omega arith;
+    rooms = tt;
+    most = omega arith;
     prompt = tt;
     ended = inl (0, omega arith, ([], 0, refl, sym (append-nil t.written)));
   },
 )
 
 -- where the rest was taken and written, or the write or the memory failed
-pub end_by : (f : Frame) (old mid new last : Told) (i limit t n : ℕ) (x : Session) (lines : Reader) (buf : List ℕ) (result : Result Bool Stop) → i < length old.left → (stream_at old.left i).taken ≡ 0 → Reading f old i t x lines mid
-    → Reads mid i (Ok n) buf new → n ≡ 0 → t < limit → Finishes new x lines result last → HasReadLog f old i limit result last
-end_by f old mid new last i limit t n x lines buf (Ok refused) lt z h r zero below e =
+pub end_by : (f : Frame) (old mid new last : Told) (i limit t n : ℕ) (x : Session) (lines : Reader) (buf : List ℕ) (result : Result Bool Stop) → i < length old.left → (stream_at old.left i).taken ≡ 0 → Reading f old i limit t x lines mid
+    → Reads mid i (Ok n) buf new → length buf ≡ min 4096 (limit - t) → n ≡ 0 → t < limit → Finishes new x lines result last → HasReadLog no_tail f old i limit result last
+end_by f old mid new last i limit t n x lines buf (Ok refused) lt z h r room zero below e =
     let r0 : Reads mid i (Ok 0) buf new = subst (λ (k : ℕ). Reads mid i (Ok k) buf new) zero r in
-    subst (λ (b : Bool). HasReadLog f old i limit (Ok b) last) (sym e.4) (end_done f old i lt z mid new limit t x lines buf h r0 e.0 e.1 e.2 last below e.3)
-end_by f old mid new last i limit t n x lines buf (Err stops.TooLong) lt z h r zero below e = absurd e
-end_by f old mid new last i limit t n x lines buf (Err stops.ReadFault) lt z h r zero below e = absurd e
-end_by f old mid new last i limit t n x lines buf (Err stops.WriteFault) lt z h r zero below e =
+    subst (λ (b : Bool). HasReadLog no_tail f old i limit (Ok b) last) (sym e.4) (end_done f old i lt z mid new limit t x lines buf h r0 room e.0 e.1 e.2 last below e.3)
+end_by f old mid new last i limit t n x lines buf (Err stops.TooLong) lt z h r room zero below e = absurd e
+end_by f old mid new last i limit t n x lines buf (Err stops.ReadFault) lt z h r room zero below e = absurd e
+end_by f old mid new last i limit t n x lines buf (Err stops.WriteFault) lt z h r room zero below e =
     let r0 : Reads mid i (Ok 0) buf new = subst (λ (k : ℕ). Reads mid i (Ok k) buf new) zero r in
-    end_stopped f old i lt z mid new limit t x lines buf h r0 e.0 e.1 e.3 last e.2 stops.WriteFault (inl refl) e.4
-end_by f old mid new last i limit t n x lines buf (Err stops.Memory) lt z h r zero below (inl same) =
+    end_stopped f old i lt z mid new limit t x lines buf h r0 room e.0 e.1 e.3 last e.2 stops.WriteFault (inl refl) e.4
+end_by f old mid new last i limit t n x lines buf (Err stops.Memory) lt z h r room zero below (inl same) =
     let r0 : Reads mid i (Ok 0) buf new = subst (λ (k : ℕ). Reads mid i (Ok k) buf new) zero r in
-    subst (λ (d : Told). HasReadLog f old i limit (Err stops.Memory) d) (sym same) (end_refused f old i lt z mid new limit t x lines buf h r0)
-end_by f old mid new last i limit t n x lines buf (Err stops.Memory) lt z h r zero below (inr e) =
+    subst (λ (d : Told). HasReadLog no_tail f old i limit (Err stops.Memory) d) (sym same) (end_refused f old i lt z mid new limit t x lines buf h r0 room)
+end_by f old mid new last i limit t n x lines buf (Err stops.Memory) lt z h r room zero below (inr e) =
     let r0 : Reads mid i (Ok 0) buf new = subst (λ (k : ℕ). Reads mid i (Ok k) buf new) zero r in
-    end_stopped f old i lt z mid new limit t x lines buf h r0 e.0 e.1 e.3 last e.2 stops.Memory (inr refl) e.4
+    end_stopped f old i lt z mid new limit t x lines buf h r0 room e.0 e.1 e.3 last e.2 stops.Memory (inr refl) e.4

@@ -1,16 +1,20 @@
 -- What a call of the program does, by the command that its words are.
-use Rattle.std.specs.Prelude.{ℕ}
+use Rattle.std.specs.Prelude.{◌≡◌, ◌⊎◌, ℕ, Option, Some, None}
 use Rattle.crs_desk.specs.Desk.{Told}
 use Rattle.crs_top.specs.declared.status.Status.{Status}
 use Rattle.crs_top.specs.Words.{Command, Run, Print}
+use Rattle.crs_top.specs.Logs.{no_tail}
 use Rattle.crs_top.specs.Run.{Most, Runs, Completes}
 use Rattle.crs_top.specs.Listings.{Prints, CompletesPrint}
 
-abbrev pub Does : ℕ → Most → Told → Command → Status → Told → Type 0
-Does base most old (Run models log) status new = Runs base most old models log status new
-Does base most old (Print listing models) status new = Prints base most.symbols listing old models status new
+-- what a call does to the desk, whose count of inputs was base and is now; with other words it does nothing
+abbrev pub Does : ℕ → ℕ → Most → Told → Option Command → Status → Told → Type 0
+Does base now most old None status new = (new ≡ old) × (now ≡ base)
+Does base now most old (Some (Run models log)) status new = Runs base now no_tail most old models log status new
+Does base now most old (Some (Print listing models)) status new = Prints base now most.symbols listing old models status new
 
 -- without a fault of the outside it ends as its input says, unless memory is wanting
-abbrev pub CompletesCommand : Most → Told → Command → Type 0 → Status → Type 0
-CompletesCommand most old (Run models log) fault status = Completes most old models log fault status
-CompletesCommand most old (Print listing models) fault status = CompletesPrint most.symbols old models fault status
+abbrev pub CompletesCommand : Most → Told → Option Command → Type 0 → Status → Type 0
+CompletesCommand most old None fault status = Unit {0}
+CompletesCommand most old (Some (Run models log)) fault status = Completes most old models log fault status
+CompletesCommand most old (Some (Print listing models)) fault status = CompletesPrint most.symbols old models fault status

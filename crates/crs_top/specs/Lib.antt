@@ -5,6 +5,8 @@ pub mod Session
 pub mod Taking
 pub mod Logs
 pub mod Models
+pub mod Inputs
+pub mod Loads
 pub mod Prepared
 pub mod Run
 pub mod Listings

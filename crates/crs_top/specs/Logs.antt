@@ -1,6 +1,7 @@
 -- Reading a log to its end, and writing as it comes.
 use Rattle.std.specs.Prelude.{◌≡◌, ◌⊎◌, ℕ, ◌+◌, ◌<◌, ◌≤◌, Bool, List, [], ◌∷◌, ◌++◌, length, take, Result, Ok, Err}
-use Rattle.crs_desk.specs.Desk.{Told, stream_at, advanced, Rises, Wrote}
+use Rattle.std.specs.List.{AllByRecursion}
+use Rattle.crs_desk.specs.Desk.{Told, stream_at, advanced, Rises, HasRoom, Wrote}
 use Rattle.crs_desk.specs.declared.turn.Turn.{Turn}
 use Rattle.crs_log.specs.Reading.{Reader, Given, HasNoLine, ahead}
 use Rattle.crs_log.specs.Run.{State}
@@ -19,6 +20,18 @@ Appends P old new = (text : List ℕ) × P text × (new ≡ old ++ text)
 abbrev pub AppendsFront : (List ℕ → Type 0) → List ℕ → List ℕ → Type 0
 AppendsFront P old new = (text : List ℕ) × (k : ℕ) × P text × (new ≡ old ++ take k text)
 
+-- what is to be written behind the text of a log whose end was met
+abbrev pub Tail : Type 1
+Tail = Frame → List ℕ → List ℕ → Type 0
+
+-- nothing: neither a summary nor pages are asked for
+abbrev pub no_tail : Tail
+no_tail f log text = text ≡ []
+
+-- the text of the whole log, and then the tail
+abbrev pub IsEndedText : Tail → Frame → List ℕ → List ℕ → Type 0
+IsEndedText tail f log text = (lines : List ℕ) × (rest : List ℕ) × IsLogText f log lines × tail f log rest × (text ≡ lines ++ rest)
+
 -- At this turn the bytes written were the text of the whole lines among the log bytes read.
 abbrev pub IsPromptAt : Frame → List ℕ → List ℕ → List ℕ → Turn → Type 0
 IsPromptAt f old log written t = (t.written ≤ length written) × Appends (IsWholeText f (take t.taken log)) old (take t.written written)
@@ -27,32 +40,34 @@ abbrev pub IsPrompt : Frame → List ℕ → List ℕ → List ℕ → List Turn
 IsPrompt f old log written [] = Unit {0}
 IsPrompt f old log written (t ∷ ts) = IsPromptAt f old log written t × IsPrompt f old log written ts
 
--- a front of the text of the whole lines among the first bytes, of which at most t were read; or, where the end was met, of the whole log's text
-abbrev pub IsCutShort : Frame → List ℕ → ℕ → List ℕ → List ℕ → Type 0
-IsCutShort f log t old new =
-    ((u : ℕ) × (u ≤ t) × AppendsFront (IsWholeText f (take u log)) old new) ⊎ ((t ≡ length log) × AppendsFront (IsLogText f log) old new)
+-- a front of the text of the whole lines among the first bytes, of which at most t were read; or, where the end was met, of the whole log's text and the tail
+abbrev pub IsCutShort : Tail → Frame → List ℕ → ℕ → List ℕ → List ℕ → Type 0
+IsCutShort tail f log t old new =
+    ((u : ℕ) × (u ≤ t) × AppendsFront (IsWholeText f (take u log)) old new) ⊎ ((t ≡ length log) × AppendsFront (IsEndedText tail f log) old new)
 
 -- what was written when t bytes of the log were read, and how it ended; Ok tells whether some line was refused
-abbrev pub Ended : Frame → List ℕ → List ℕ → ℕ → ℕ → Result Bool Stop → List ℕ → Type 0
-Ended f old log limit t (Ok refused) new = (t ≡ length log) × (t < limit) × Appends (IsLogText f log) old new × (refused ≡ some_refused f log)
-Ended f old log limit t (Err ReadFault) new = Appends (IsWholeText f (take t log)) old new
-Ended f old log limit t (Err TooLong) new = (t ≡ limit) × Appends (IsWholeText f (take t log)) old new
-Ended f old log limit t (Err WriteFault) new = IsCutShort f log t old new
-Ended f old log limit t (Err Memory) new = IsCutShort f log t old new
+abbrev pub Ended : Tail → Frame → List ℕ → List ℕ → ℕ → ℕ → Result Bool Stop → List ℕ → Type 0
+Ended tail f old log limit t (Ok refused) new = (t ≡ length log) × (t < limit) × Appends (IsEndedText tail f log) old new × (refused ≡ some_refused f log)
+Ended tail f old log limit t (Err ReadFault) new = (t < limit) × Appends (IsWholeText f (take t log)) old new
+Ended tail f old log limit t (Err TooLong) new = (t ≡ limit) × Appends (IsWholeText f (take t log)) old new
+Ended tail f old log limit t (Err WriteFault) new = IsCutShort tail f log t old new
+Ended tail f old log limit t (Err Memory) new = IsCutShort tail f log t old new
 
--- t bytes of a log that was just opened were read, in rising and prompt turns
-pub record ReadsLog (f : Frame) (old : Told) (input limit t : ℕ) (more : List Turn) (result : Result Bool Stop) (new : Told) : Type 0 where
+-- t bytes of a log that was just opened were read, in rising and prompt turns, each with the room that is left to the limit
+pub record ReadsLog (tail : Tail) (f : Frame) (old : Told) (input limit t : ℕ) (more : List Turn) (result : Result Bool Stop) (new : Told) : Type 0 where
   pub files : new.files ≡ old.files
   pub opened : new.opened ≡ old.opened
   pub left : new.left ≡ advanced old.left input t
   pub within : t ≤ length (stream_at old.left input).rest
   pub turns : new.turns ≡ old.turns ++ more
   pub rises : Rises input 0 (t + 1) more
+  pub rooms : AllByRecursion (HasRoom limit) more
+  pub most : t ≤ limit
   pub prompt : IsPrompt f old.written (stream_at old.left input).rest new.written more
-  pub ended : Ended f old.written (stream_at old.left input).rest limit t result new.written
+  pub ended : Ended tail f old.written (stream_at old.left input).rest limit t result new.written
 
-abbrev pub HasReadLog : Frame → Told → ℕ → ℕ → Result Bool Stop → Told → Type 0
-HasReadLog f old input limit result new = (t : ℕ) × (more : List Turn) × ReadsLog f old input limit t more result new
+abbrev pub HasReadLog : Tail → Frame → Told → ℕ → ℕ → Result Bool Stop → Told → Type 0
+HasReadLog tail f old input limit result new = (t : ℕ) × (more : List Turn) × ReadsLog tail f old input limit t more result new
 
 -- the lines that a piece completes are taken, and their text is made
 pub record TakesPiece (old_lines new_lines : Reader) (old new : Session) (piece text : List ℕ) : Type 0 where

@@ -1,18 +1,16 @@
--- What a call of the program does to a desk that tells its contents.
-use Rattle.std.specs.Prelude.{◌≡◌, ◌⊎◌, ℕ, ◌+◌, ◌<◌, ◌≤◌, true, false, List, [], ◌∷◌, ◌++◌, length, take, Result, Ok, Err, Vec}
-use Rattle.std.specs.Option.{unwrap_or}
-use Rattle.std.specs.declared.alloc.Global.{Global}
-use Rattle.crs_desk.specs.Desk.{Told, file_of, Rises, Wrote}
+-- What a run does to a desk that tells its contents.
+use Rattle.std.specs.Prelude.{◌≡◌, ◌⊎◌, ℕ, ◌+◌, ◌-◌, ◌^◌, ◌<◌, ◌≤◌, true, false, List, [], ◌∷◌, ◌++◌, length, take}
+use Rattle.crs_desk.specs.Desk.{Told}
 use Rattle.crs_desk.specs.declared.turn.Turn.{Turn}
-use Rattle.crs_desk.specs.declared.whole.ReadAllError.{ReadAllError}
-use Rattle.crs_desk.specs.declared.whole.ReadAllError.TheVariants as refusals
 use Rattle.crs_model.specs.declared.models.ModelWord.{ModelWord}
-use Rattle.crs_report.specs.Lines.{model_line}
+use Rattle.crs_top.specs.declared.limits.Limits.{Limits}
 use Rattle.crs_top.specs.declared.status.Status.{Status}
 use Rattle.crs_top.specs.declared.status.Status.TheVariants.{Done, Refusals, Words, Rejected, ReadFault, WriteFault, Memory, TooLong}
-use Rattle.crs_top.specs.Logs.{Appends, IsPrompt, IsCutShort}
+use Rattle.crs_top.specs.Inputs.{bytes_of, after, Opened, IsRead}
+use Rattle.crs_top.specs.Loads.{AreTaken, IsRefusal, IsRefusalFront}
+use Rattle.crs_top.specs.Logs.{Tail, IsEndedText, Appends, IsPrompt, IsCutShort}
 use Rattle.crs_top.specs.Models.{IsAccepted, IsRejected}
-use Rattle.crs_top.specs.Texts.{Frame, IsWholeText, IsLogText, some_refused}
+use Rattle.crs_top.specs.Texts.{Frame, IsWholeText, some_refused}
 
 -- how much a call takes in: the distinct symbols, the accepted entries, the bytes of a log
 pub record Most : Type 0 where
@@ -20,104 +18,79 @@ pub record Most : Type 0 where
   pub entries : ℕ
   pub bytes : ℕ
 
--- the bytes of a name, or none where no file has it
-abbrev pub bytes_of : Told → List ℕ → List ℕ
-bytes_of t name = unwrap_or (file_of t.files name) []
+abbrev pub most_of : Limits → Most
+most_of limits = record { symbols = limits.symbols; entries = limits.entries; bytes = limits.bytes }
 
--- some frame of the models, of which P holds
-abbrev pub WithModels : Most → List ℕ → (Frame → Type 0) → Type 0
-WithModels most models P = (f : Frame) × IsAccepted most.symbols most.entries models f × P f
+-- the limits of the program
+abbrev pub standard : Most
+standard = record { symbols = 2 ^ 20; entries = 2 ^ 32 - 1; bytes = 2 ^ 40 }
 
--- the models are refused at a line with a word, and a front of that line of output, of this length at most, is written
-abbrev pub IsRefusalFront : (ℕ → ModelWord → Type 0) → List ℕ → List ℕ → Type 0
-IsRefusalFront Refused old new = (line : ℕ) × (word : ModelWord) × (k : ℕ) × Refused line word × (new ≡ old ++ take k (model_line line word))
+-- the models, of which k bytes were taken, were read whole and are accepted as those of some frame of which P holds
+abbrev pub WithModels : Most → List ℕ → ℕ → (Frame → Type 0) → Type 0
+WithModels most models k P = (f : Frame) × IsAccepted most.symbols most.entries models f × (k ≡ length models) × P f
 
--- What holds at each status of the models, the log, how many of the two names were handed to open (n), how much of the log was read (t), and what was written.
-abbrev pub Outcome : Most → List ℕ → List ℕ → ℕ → ℕ → List ℕ → Status → List ℕ → Type 0
-Outcome most models log n t old Done new = (n ≡ 2) × (t ≡ length log) × (t < most.bytes) × WithModels most models (λ f. Appends (IsLogText f log) old new × (some_refused f log ≡ false))
-Outcome most models log n t old Refusals new = (n ≡ 2) × (t ≡ length log) × (t < most.bytes) × WithModels most models (λ f. Appends (IsLogText f log) old new × (some_refused f log ≡ true))
-Outcome most models log n t old Words new = ⊥
-Outcome most models log n t old Rejected new = (n ≡ 1) × ((line : ℕ) × (word : ModelWord) × IsRejected most.symbols models line word × (new ≡ old ++ model_line line word))
-Outcome most models log n t old ReadFault new = ((n < 2) × (new ≡ old)) ⊎ ((n ≡ 2) × WithModels most models (λ f. Appends (IsWholeText f (take t log)) old new))
-Outcome most models log n t old TooLong new = (n ≡ 2) × (t ≡ most.bytes) × WithModels most models (λ f. Appends (IsWholeText f (take t log)) old new)
-Outcome most models log n t old WriteFault new = ((n ≡ 2) × WithModels most models (λ f. IsCutShort f log t old new)) ⊎ ((n ≡ 1) × IsRefusalFront (IsRejected most.symbols models) old new)
-Outcome most models log n t old Memory new = (new ≡ old) ⊎ ((n ≡ 2) × WithModels most models (λ f. IsCutShort f log t old new)) ⊎ ((n ≡ 1) × IsRefusalFront (IsRejected most.symbols models) old new)
+-- What holds at each status of the models, the log, how many of the two names were handed to open (n) and how many inputs were opened (i),
+-- how many bytes of the models (k) and of the log (t) were taken, and what was written.
+abbrev pub Outcome : Tail → Most → List ℕ → List ℕ → ℕ → ℕ → ℕ → ℕ → List ℕ → Status → List ℕ → Type 0
+Outcome tail most models log n i k t old Done new =
+    (n ≡ 2) × (t ≡ length log) × (t < most.bytes) × WithModels most models k (λ f. Appends (IsEndedText tail f log) old new × (some_refused f log ≡ false))
+Outcome tail most models log n i k t old Refusals new =
+    (n ≡ 2) × (t ≡ length log) × (t < most.bytes) × WithModels most models k (λ f. Appends (IsEndedText tail f log) old new × (some_refused f log ≡ true))
+Outcome tail most models log n i k t old Words new = ⊥
+Outcome tail most models log n i k t old Rejected new = (n ≡ 1) × AreTaken models k × IsRefusal (IsRejected most.symbols models) old new
+Outcome tail most models log n i k t old ReadFault new =
+    ((n < 2) × (new ≡ old))
+    ⊎ ((n ≡ 2) × (i ≡ 2 → t < most.bytes) × WithModels most models k (λ f. Appends (IsWholeText f (take t log)) old new))
+Outcome tail most models log n i k t old TooLong new =
+    (n ≡ 2) × (t ≡ most.bytes) × WithModels most models k (λ f. Appends (IsWholeText f (take t log)) old new)
+Outcome tail most models log n i k t old WriteFault new =
+    ((n ≡ 2) × WithModels most models k (λ f. IsCutShort tail f log t old new))
+    ⊎ ((n ≡ 1) × AreTaken models k × IsRefusalFront (IsRejected most.symbols models) old new)
+Outcome tail most models log n i k t old Memory new =
+    (new ≡ old)
+    ⊎ ((n ≡ 2) × WithModels most models k (λ f. IsCutShort tail f log t old new))
+    ⊎ ((n ≡ 1) × AreTaken models k × IsRefusalFront (IsRejected most.symbols models) old new)
 
--- n of the two names were handed to open, the log only where the models are accepted, and t bytes of the log were read;
--- the turns are first of the models' input and then of the log's, in each with rising counts, and the log's are prompt
-pub record DidRun (base : ℕ) (most : Most) (old : Told) (models log : List ℕ) (n t : ℕ) (of_models of_log : List Turn) (status : Status) (new : Told) : Type 0 where
-  pub files : new.files ≡ old.files
-  pub names : n ≤ 2
-  pub opened : new.opened ≡ old.opened ++ take n (models ∷ log ∷ [])
-  pub within : t ≤ length (bytes_of old log)
-  pub unopened : n < 2 → (t ≡ 0) × (of_log ≡ [])
-  pub prompt : n ≡ 2 → WithModels most (bytes_of old models) (λ f. IsPrompt f old.written (bytes_of old log) new.written of_log)
-  pub turns : new.turns ≡ old.turns ++ (of_models ++ of_log)
-  pub models_rise : (high : ℕ) × Rises base 0 high of_models
-  pub log_rises : Rises (base + 1) 0 (t + 1) of_log
-  pub outcome : Outcome most (bytes_of old models) (bytes_of old log) n t old.written status new.written
+-- Of the two names n were handed to open, the log's only where the models are accepted, and i inputs were opened, all of these but where that was a read fault.
+-- k bytes of the models and t of the log were taken; the turns are first of the models' input and then of the log's, and the log's are prompt.
+pub record DidRun (base now : ℕ) (tail : Tail) (most : Most) (old : Told) (models log : List ℕ) (n i k t : ℕ) (of_models of_log : List Turn) (status : Status) (new : Told) : Type 0 where
+  pub did : Opened base now old (models ∷ log ∷ []) (after (bytes_of old models) k ∷ after (bytes_of old log) t ∷ []) n i (of_models ++ of_log) new
+  pub models_read : IsRead base (2 ^ 20 + 1) (i < 1) (bytes_of old models) k of_models
+  pub log_read : IsRead (base + 1) most.bytes (i < 2) (bytes_of old log) t of_log
+  pub failed : i < n → status ≡ ReadFault
+  pub prompt : n ≡ 2 → WithModels most (bytes_of old models) k (λ f. IsPrompt f old.written (bytes_of old log) new.written of_log)
+  pub outcome : Outcome tail most (bytes_of old models) (bytes_of old log) n i k t old.written status new.written
 
-abbrev pub Runs : ℕ → Most → Told → List ℕ → List ℕ → Status → Told → Type 0
-Runs base most old models log status new = (n : ℕ) × (t : ℕ) × (of_models : List Turn) × (of_log : List Turn) × DidRun base most old models log n t of_models of_log status new
-
--- an input that was opened and of which k bytes were taken
-pub record Opened (base : ℕ) (old : Told) (name : List ℕ) (k : ℕ) (more : List Turn) (new : Told) : Type 0 where
-  pub files : new.files ≡ old.files
-  pub opened : new.opened ≡ old.opened ++ name ∷ []
-  pub written : new.written ≡ old.written
-  pub turns : new.turns ≡ old.turns ++ more
-  pub rises : Rises base 0 (k + 1) more
-
--- an input that was not opened
-pub record NotOpened (old : Told) (name : List ℕ) (new : Told) : Type 0 where
-  pub files : new.files ≡ old.files
-  pub opened : (n : ℕ) × (n ≤ 1) × (new.opened ≡ old.opened ++ take n (name ∷ []))
-  pub written : new.written ≡ old.written
-  pub turns : new.turns ≡ old.turns
-
-abbrev pub Loads : ℕ → Told → List ℕ → ℕ → Result (Vec ℕ Global) ReadAllError → Told → Type 0
-Loads base old name limit (Ok v) new = (k : ℕ) × (more : List Turn) × Opened base old name k more new × (v.items ≡ bytes_of old name)
-Loads base old name limit (Err refusals.Long) new = (k : ℕ) × (more : List Turn) × Opened base old name k more new × (limit < length (bytes_of old name))
-Loads base old name limit (Err refusals.Failed) new = NotOpened old name new ⊎ ((k : ℕ) × (more : List Turn) × Opened base old name k more new)
-Loads base old name limit (Err refusals.Memory) new = NotOpened old name new ⊎ ((k : ℕ) × (more : List Turn) × Opened base old name k more new)
-
--- the refused models' line is written, or a front of it
-abbrev pub Refuses : Told → List ℕ → Status → Told → Type 0
-Refuses old text Rejected new = Wrote old text (length text) new
-Refuses old text WriteFault new = (k : ℕ) × Wrote old text k new
-Refuses old text Memory new = (k : ℕ) × Wrote old text k new
-Refuses old text Words new = ⊥
-Refuses old text Done new = ⊥
-Refuses old text Refusals new = ⊥
-Refuses old text ReadFault new = ⊥
-Refuses old text TooLong new = ⊥
+abbrev pub Runs : ℕ → ℕ → Tail → Most → Told → List ℕ → List ℕ → Status → Told → Type 0
+Runs base now tail most old models log status new =
+    (n : ℕ) × (i : ℕ) × (k : ℕ) × (t : ℕ) × (of_models : List Turn) × (of_log : List Turn) × DidRun base now tail most old models log n i k t of_models of_log status new
 
 -- what a log's reading leaves
-abbrev pub LogOutcome : Frame → List ℕ → ℕ → ℕ → ℕ → List ℕ → Status → List ℕ → Type 0
-LogOutcome f log limit n t old Done new = (n ≡ 1) × (t ≡ length log) × (t < limit) × Appends (IsLogText f log) old new × (some_refused f log ≡ false)
-LogOutcome f log limit n t old Refusals new = (n ≡ 1) × (t ≡ length log) × (t < limit) × Appends (IsLogText f log) old new × (some_refused f log ≡ true)
-LogOutcome f log limit n t old Words new = ⊥
-LogOutcome f log limit n t old Rejected new = ⊥
-LogOutcome f log limit n t old ReadFault new = (n ≡ 1) × Appends (IsWholeText f (take t log)) old new
-LogOutcome f log limit n t old TooLong new = (n ≡ 1) × (t ≡ limit) × Appends (IsWholeText f (take t log)) old new
-LogOutcome f log limit n t old WriteFault new = (n ≡ 1) × IsCutShort f log t old new
-LogOutcome f log limit n t old Memory new = (new ≡ old) ⊎ ((n ≡ 1) × IsCutShort f log t old new)
+abbrev pub LogOutcome : Tail → Frame → List ℕ → ℕ → ℕ → ℕ → ℕ → List ℕ → Status → List ℕ → Type 0
+LogOutcome tail f log limit n i t old Done new = (n ≡ 1) × (t ≡ length log) × (t < limit) × Appends (IsEndedText tail f log) old new × (some_refused f log ≡ false)
+LogOutcome tail f log limit n i t old Refusals new = (n ≡ 1) × (t ≡ length log) × (t < limit) × Appends (IsEndedText tail f log) old new × (some_refused f log ≡ true)
+LogOutcome tail f log limit n i t old Words new = ⊥
+LogOutcome tail f log limit n i t old Rejected new = ⊥
+LogOutcome tail f log limit n i t old ReadFault new = (n ≡ 1) × (i ≡ 1 → t < limit) × Appends (IsWholeText f (take t log)) old new
+LogOutcome tail f log limit n i t old TooLong new = (n ≡ 1) × (t ≡ limit) × Appends (IsWholeText f (take t log)) old new
+LogOutcome tail f log limit n i t old WriteFault new = (n ≡ 1) × IsCutShort tail f log t old new
+LogOutcome tail f log limit n i t old Memory new = (new ≡ old) ⊎ ((n ≡ 1) × IsCutShort tail f log t old new)
 
-pub record Followed (f : Frame) (base limit : ℕ) (old : Told) (log : List ℕ) (n t : ℕ) (more : List Turn) (status : Status) (new : Told) : Type 0 where
-  pub files : new.files ≡ old.files
-  pub names : n ≤ 1
-  pub opened : new.opened ≡ old.opened ++ take n (log ∷ [])
-  pub within : t ≤ length (bytes_of old log)
-  pub unopened : n < 1 → (t ≡ 0) × (more ≡ [])
-  pub turns : new.turns ≡ old.turns ++ more
-  pub rises : Rises base 0 (t + 1) more
+pub record Followed (base now : ℕ) (tail : Tail) (f : Frame) (limit : ℕ) (old : Told) (log : List ℕ) (n i t : ℕ) (more : List Turn) (status : Status) (new : Told) : Type 0 where
+  pub did : Opened base now old (log ∷ []) (after (bytes_of old log) t ∷ []) n i more new
+  pub read : IsRead base limit (i < 1) (bytes_of old log) t more
+  pub failed : i < n → status ≡ ReadFault
   pub prompt : IsPrompt f old.written (bytes_of old log) new.written more
-  pub outcome : LogOutcome f (bytes_of old log) limit n t old.written status new.written
+  pub outcome : LogOutcome tail f (bytes_of old log) limit n i t old.written status new.written
 
-abbrev pub Follows : Frame → ℕ → ℕ → Told → List ℕ → Status → Told → Type 0
-Follows f base limit old log status new = (n : ℕ) × (t : ℕ) × (more : List Turn) × Followed f base limit old log n t more status new
+abbrev pub Follows : ℕ → ℕ → Tail → Frame → ℕ → Told → List ℕ → Status → Told → Type 0
+Follows base now tail f limit old log status new = (n : ℕ) × (i : ℕ) × (t : ℕ) × (more : List Turn) × Followed base now tail f limit old log n i t more status new
 
--- Where the models are accepted, the log is short enough and no fault rose, the answer is one of these three.
-abbrev pub Completes : Most → Told → List ℕ → List ℕ → Type 0 → Status → Type 0
-Completes most old models log fault status =
-    (f : Frame) → IsAccepted most.symbols most.entries (bytes_of old models) f → length (bytes_of old log) < most.bytes → (fault → ⊥) → (status ≡ Done) ⊎ (status ≡ Refusals) ⊎ (status ≡ Memory)
+-- Where no fault rose, the status is, unless memory is wanting: by the lines of the log, where the models are accepted and the log is short enough;
+-- TooLong, where it is not; Rejected, where the models are refused.
+pub record Completes (most : Most) (old : Told) (models log : List ℕ) (fault : Type 0) (status : Status) : Type 0 where
+  pub accepted : (f : Frame) → IsAccepted most.symbols most.entries (bytes_of old models) f → length (bytes_of old log) < most.bytes → (fault → ⊥)
+      → (status ≡ Done) ⊎ (status ≡ Refusals) ⊎ (status ≡ Memory)
+  pub too_long : (f : Frame) → IsAccepted most.symbols most.entries (bytes_of old models) f → most.bytes ≤ length (bytes_of old log) → (fault → ⊥)
+      → (status ≡ TooLong) ⊎ (status ≡ Memory)
+  pub refused : (line : ℕ) (word : ModelWord) → IsRejected most.symbols (bytes_of old models) line word → (fault → ⊥) → (status ≡ Rejected) ⊎ (status ≡ Memory)

@@ -4,7 +4,7 @@ ghost use Rattle.crs_desk.specs.Desk.{Rose, stream_at};
 ghost use Rattle.crs_log.specs.Run.{at_start};
 ghost use Rattle.crs_top.specs.Session.{IsReady, Represents};
 ghost use Rattle.crs_top.specs.Texts.{Frame};
-ghost use Rattle.crs_top.specs.Logs.{HasReadLog, TakesPiece, TakesRest, Finishes};
+ghost use Rattle.crs_top.specs.Logs.{no_tail, HasReadLog, TakesPiece, TakesRest, Finishes};
 ghost use Rattle.crs_top.specs.declared.log.Stop.TheVariants.{Memory as OutOfMemory};
 
 use crate::piece::take_lines;
@@ -114,7 +114,7 @@ pub fn read_log<D: Desk>(
     ensures writing { D.out_faults desk.old ≤ D.out_faults desk.new }
     ensures read_fault { IsErrOf result Stop.ReadFault → Rose (D.in_faults desk.old) (D.in_faults desk.new) }
     ensures write_fault { IsErrOf result Stop.WriteFault → Rose (D.out_faults desk.old) (D.out_faults desk.new) }
-    ensures told { D.tells ≡ true → (f : Frame) → Represents f session (at_start f.texts) → HasReadLog f (D.told desk.old) log limit result (D.told desk.new) }
+    ensures told { D.tells ≡ true → (f : Frame) → Represents f session (at_start f.texts) → HasReadLog no_tail f (D.told desk.old) log limit result (D.told desk.new) }
 {
     let mut lines = Lines::new(alloc, LINE_LIMIT)?;
     let mut taken = 0;

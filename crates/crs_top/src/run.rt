@@ -1,37 +1,36 @@
 // The top call.
-ghost use Rattle.std.specs.Prelude.{◌≡◌, ◌<◌, ◌≤◌, ◌+◌, ◌-◌, ◌^◌, ◌↔◌, ◌⊎◌, true, false, None, MatchOption, IfSome};
+ghost use Rattle.std.specs.Prelude.{◌≡◌, ◌<◌, ◌≤◌, ◌+◌, ◌-◌, ◌^◌, ◌↔◌, ◌⊎◌, true, false, None};
 ghost use Rattle.crs_desk.specs.Desk.{Rose};
 ghost use Rattle.crs_log.specs.Run.{at_start};
 ghost use Rattle.crs_top.specs.Session.{IsReady, Represents};
 ghost use Rattle.crs_top.specs.Texts.{Frame};
 ghost use Rattle.crs_top.specs.Words.{command_of};
-ghost use Rattle.crs_top.specs.Run.{Runs, Follows};
+ghost use Rattle.crs_top.specs.Logs.{no_tail};
+ghost use Rattle.crs_top.specs.Run.{Runs, Follows, most_of, standard};
+ghost use Rattle.crs_top.specs.Status.{HasCauses};
 ghost use Rattle.crs_top.specs.Commands.{Does, CompletesCommand};
 
 use crate::limits::{Limits, STANDARD};
-use crate::loading::{MODELS_LIMIT, load, refuse};
+use crate::loading::{load_models, refuse};
 use crate::log::{Stop, read_log};
 use crate::models::prepare;
 use crate::printing::print;
 use crate::session::Session;
 use crate::status::Status;
 use crate::words::{Command, read_words};
-use crs_desk::{Desk, DeskError, ReadAllError};
-use crs_model::{ModelRefused, ModelWord};
+use crs_desk::{Desk, DeskError};
 use std::alloc::Global;
 
 /// Runs the command that the words ask for, at the program's limits.
 pub fn run_program<D: Desk>(alloc: Global, words: &[String], desk: &mut D) -> Status
     requires { D.inputs desk.old < 2 ^ 31 }
     ensures words { result ≡ Status.Words ↔ command_of words.now ≡ None }
-    ensures read_fault { result ≡ Status.ReadFault → Rose (D.in_faults desk.old) (D.in_faults desk.new) }
-    ensures write_fault { result ≡ Status.WriteFault → Rose (D.out_faults desk.old) (D.out_faults desk.new) }
-    ensures inputs { D.inputs desk.new ≤ D.inputs desk.old + 2 }
-    ensures told { D.tells ≡ true → MatchOption (command_of words.now) (D.told desk.new ≡ D.told desk.old)
-        (λ command. Does (D.inputs desk.old) (record { symbols = 2 ^ 20; entries = 2 ^ 32 - 1; bytes = 2 ^ 40 }) (D.told desk.old) command result (D.told desk.new)) }
-    ensures complete { D.tells ≡ true → IfSome (command_of words.now)
-        (λ command. CompletesCommand (record { symbols = 2 ^ 20; entries = 2 ^ 32 - 1; bytes = 2 ^ 40 }) (D.told desk.old) command
-        (Rose (D.in_faults desk.old) (D.in_faults desk.new) ⊎ Rose (D.out_faults desk.old) (D.out_faults desk.new)) result) }
+    ensures causes { HasCauses (D.in_faults desk.old) (D.in_faults desk.new) (D.out_faults desk.old) (D.out_faults desk.new) result }
+    ensures least { D.inputs desk.old ≤ D.inputs desk.new }
+    ensures most { D.inputs desk.new ≤ D.inputs desk.old + 2 }
+    ensures told { D.tells ≡ true → Does (D.inputs desk.old) (D.inputs desk.new) standard (D.told desk.old) (command_of words.now) result (D.told desk.new) }
+    ensures complete { D.tells ≡ true → CompletesCommand standard (D.told desk.old) (command_of words.now)
+        (Rose (D.in_faults desk.old) (D.in_faults desk.new) ⊎ Rose (D.out_faults desk.old) (D.out_faults desk.new)) result }
 {
     run_with(alloc, words, STANDARD, desk)
 }
@@ -40,14 +39,12 @@ pub fn run_program<D: Desk>(alloc: Global, words: &[String], desk: &mut D) -> St
 pub fn run_with<D: Desk>(alloc: Global, words: &[String], limits: Limits, desk: &mut D) -> Status
     requires { D.inputs desk.old < 2 ^ 31 }
     ensures words { result ≡ Status.Words ↔ command_of words.now ≡ None }
-    ensures read_fault { result ≡ Status.ReadFault → Rose (D.in_faults desk.old) (D.in_faults desk.new) }
-    ensures write_fault { result ≡ Status.WriteFault → Rose (D.out_faults desk.old) (D.out_faults desk.new) }
-    ensures inputs { D.inputs desk.new ≤ D.inputs desk.old + 2 }
-    ensures told { D.tells ≡ true → MatchOption (command_of words.now) (D.told desk.new ≡ D.told desk.old)
-        (λ command. Does (D.inputs desk.old) (record { symbols = limits.symbols; entries = limits.entries; bytes = limits.bytes }) (D.told desk.old) command result (D.told desk.new)) }
-    ensures complete { D.tells ≡ true → IfSome (command_of words.now)
-        (λ command. CompletesCommand (record { symbols = limits.symbols; entries = limits.entries; bytes = limits.bytes }) (D.told desk.old) command
-        (Rose (D.in_faults desk.old) (D.in_faults desk.new) ⊎ Rose (D.out_faults desk.old) (D.out_faults desk.new)) result) }
+    ensures causes { HasCauses (D.in_faults desk.old) (D.in_faults desk.new) (D.out_faults desk.old) (D.out_faults desk.new) result }
+    ensures least { D.inputs desk.old ≤ D.inputs desk.new }
+    ensures most { D.inputs desk.new ≤ D.inputs desk.old + 2 }
+    ensures told { D.tells ≡ true → Does (D.inputs desk.old) (D.inputs desk.new) (most_of limits) (D.told desk.old) (command_of words.now) result (D.told desk.new) }
+    ensures complete { D.tells ≡ true → CompletesCommand (most_of limits) (D.told desk.old) (command_of words.now)
+        (Rose (D.in_faults desk.old) (D.in_faults desk.new) ⊎ Rose (D.out_faults desk.old) (D.out_faults desk.new)) result }
 {
     match read_words(words) {
         None => Status::Words,
@@ -68,21 +65,18 @@ fn recognise<D: Desk>(
 ) -> Status
     requires { D.inputs desk.old < 2 ^ 31 }
     ensures words { result ≡ Status.Words → ⊥ }
-    ensures read_fault { result ≡ Status.ReadFault → Rose (D.in_faults desk.old) (D.in_faults desk.new) }
-    ensures write_fault { result ≡ Status.WriteFault → Rose (D.out_faults desk.old) (D.out_faults desk.new) }
-    ensures inputs { D.inputs desk.new ≤ D.inputs desk.old + 2 }
-    ensures told { D.tells ≡ true → Runs (D.inputs desk.old) (record { symbols = limits.symbols; entries = limits.entries; bytes = limits.bytes }) (D.told desk.old) models.now log.now result (D.told desk.new) }
+    ensures causes { HasCauses (D.in_faults desk.old) (D.in_faults desk.new) (D.out_faults desk.old) (D.out_faults desk.new) result }
+    ensures least { D.inputs desk.old ≤ D.inputs desk.new }
+    ensures most { D.inputs desk.new ≤ D.inputs desk.old + 2 }
+    ensures told { D.tells ≡ true → Runs (D.inputs desk.old) (D.inputs desk.new) no_tail (most_of limits) (D.told desk.old) models.now log.now result (D.told desk.new) }
 {
-    let text = match load(alloc, desk, models, MODELS_LIMIT) {
+    let text = match load_models(alloc, desk, models) {
         Ok(text) => text,
-        Err(ReadAllError::Long) => return refuse(alloc, desk, 0, ModelWord::Size),
-        Err(ReadAllError::Failed) => return Status::ReadFault,
-        Err(ReadAllError::Memory) => return Status::Memory,
+        Err(status) => return status,
     };
     match prepare(alloc, text.as_slice(), limits) {
         Ok(session) => follow(alloc, desk, log, limits.bytes, session),
-        Err(ModelRefused::At { line, word }) => refuse(alloc, desk, line, word),
-        Err(ModelRefused::Memory) => Status::Memory,
+        Err(refused) => refuse(alloc, desk, refused),
     }
 }
 
@@ -91,13 +85,12 @@ fn follow<D: Desk>(alloc: Global, desk: &mut D, log: &str, limit: u64, session: 
     requires inputs { D.inputs desk.old < 2 ^ 32 - 1 }
     requires ready { IsReady session }
     requires unrefused { session.refused ≡ false }
-    ensures inputs { D.inputs desk.new ≤ D.inputs desk.old + 1 }
-    ensures reading { D.in_faults desk.old ≤ D.in_faults desk.new }
-    ensures writing { D.out_faults desk.old ≤ D.out_faults desk.new }
     ensures words { result ≡ Status.Words → ⊥ }
-    ensures read_fault { result ≡ Status.ReadFault → Rose (D.in_faults desk.old) (D.in_faults desk.new) }
-    ensures write_fault { result ≡ Status.WriteFault → Rose (D.out_faults desk.old) (D.out_faults desk.new) }
-    ensures told { D.tells ≡ true → (f : Frame) → Represents f session (at_start f.texts) → Follows f (D.inputs desk.old) limit (D.told desk.old) log.now result (D.told desk.new) }
+    ensures causes { HasCauses (D.in_faults desk.old) (D.in_faults desk.new) (D.out_faults desk.old) (D.out_faults desk.new) result }
+    ensures least { D.inputs desk.old ≤ D.inputs desk.new }
+    ensures most { D.inputs desk.new ≤ D.inputs desk.old + 1 }
+    ensures told { D.tells ≡ true → (f : Frame) → Represents f session (at_start f.texts)
+        → Follows (D.inputs desk.old) (D.inputs desk.new) no_tail f limit (D.told desk.old) log.now result (D.told desk.new) }
 {
     let input = match desk.open(log) {
         Ok(input) => input,

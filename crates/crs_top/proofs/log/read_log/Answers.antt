@@ -20,13 +20,13 @@ loop-taken-init g c = record {
   short = ap (λ l. l.limit) c.in_ok-lines.ensures;
   open_still = ap (λ l. l.finished) c.in_ok-lines.ensures;
   fed = ap (λ l. l.fed) c.in_ok-lines.ensures;
-  told = λ t f r. reading_none f _ c.args.log c.args.session c.in_ok-lines.lines r c.requires.unrefused c.in_ok-lines.ensures;
+  told = λ t f r. reading_none f _ c.args.log c.args.limit c.args.session c.in_ok-lines.lines r c.requires.unrefused c.in_ok-lines.ensures;
 }
 
 pub returns-in-Err-Failed-clause-told : goal.returns-in-Err-Failed-clause-told
 returns-in-Err-Failed-clause-told g c = λ t f r.
     stop_failed f _ c.args.log (omega (arith, g.met.D.Desk.places c.args.desk.now t)) (c.requires.fresh t) (g.D.Desk.told c.loop-taken.desk) _ c.args.limit _ c.loop-taken.session c.loop-taken.lines _
-    (c.loop-taken.invariant.told t f r) (rw c.in-Err-Failed.field-0-is at (c.in-Err-Failed.ensures.told t))
+    (c.loop-taken.invariant.told t f r) (rw c.in-Err-Failed.field-0-is at (c.in-Err-Failed.ensures.told t)) (grind (arith, common_steps)) c.loop-taken-test.true
 
 pub returns-in-Err-Memory-clause-told : goal.returns-in-Err-Memory-clause-told
 returns-in-Err-Memory-clause-told g c = λ t f r.
@@ -36,20 +36,20 @@ returns-in-Err-Memory-clause-told g c = λ t f r.
 pub returns-then-count-eq0-clause-told : goal.returns-then-count-eq0-clause-told
 returns-then-count-eq0-clause-told g c = λ t f r.
     end_by f _ (g.D.Desk.told c.loop-taken.desk) (g.D.Desk.told c.read.new.self) _ c.args.log c.args.limit _ _ c.loop-taken.session c.loop-taken.lines _ c.finish.result
-    (omega (arith, g.met.D.Desk.places c.args.desk.now t)) (c.requires.fresh t) (c.loop-taken.invariant.told t f r) (c.in-Ok.ensures.told t) c.if-count-eq0.true (omega arith) (c.finish.ensures.told t)
+    (omega (arith, g.met.D.Desk.places c.args.desk.now t)) (c.requires.fresh t) (c.loop-taken.invariant.told t f r) (c.in-Ok.ensures.told t) (grind (arith, common_steps)) c.if-count-eq0.true (omega arith) (c.finish.ensures.told t)
 
 pub returns-in_err-text-clause-told : goal.returns-in_err-text-clause-told
 returns-in_err-text-clause-told g c = λ t f r.
     let p = err_from_is_err_and c.from_residual-in_err-text.result c.from_residual-in_err-text.ensures.1 in
     rw (p.1, p.2) (stop_piece f _ c.args.log (omega (arith, g.met.D.Desk.places c.args.desk.now t)) (c.requires.fresh t) (g.D.Desk.told c.loop-taken.desk) (g.D.Desk.told c.read.new.self) c.args.limit _ _ c.loop-taken.session c.loop-taken.lines _
-    (c.loop-taken.invariant.told t f r) (c.in-Ok.ensures.told t) (omega arith))
+    (c.loop-taken.invariant.told t f r) (c.in-Ok.ensures.told t) (grind (arith, common_steps)) c.in-Ok.ensures.count (omega arith))
 
 pub returns-in-Err-clause-told : goal.returns-in-Err-clause-told
 returns-in-Err-clause-told g c = λ t f r.
     let few = c.in-Ok.ensures.count in
     let w = rw c.as_slice.ensures.value at (c.in-Err.ensures.told t) in
     stop_write f _ c.args.log (omega (arith, g.met.D.Desk.places c.args.desk.now t)) (c.requires.fresh t) (g.D.Desk.told c.loop-taken.desk) (g.D.Desk.told c.read.new.self) _ c.args.limit _ _ c.loop-taken.session c.take_piece.new.session c.loop-taken.lines c.take_piece.new.lines _ _ _
-    c.write_stop.ensures.either (c.loop-taken.invariant.told t f r) (c.in-Ok.ensures.told t) few (omega arith) (rw take-append-le at c.in_ok-text.ensures) w.0 w.1
+    c.write_stop.ensures.either (c.loop-taken.invariant.told t f r) (c.in-Ok.ensures.told t) (grind (arith, common_steps)) few (omega arith) (rw take-append-le at c.in_ok-text.ensures) w.0 w.1
 
 pub loop-taken-preserved : goal.loop-taken-preserved
 loop-taken-preserved g c =
@@ -65,8 +65,8 @@ loop-taken-preserved g c =
       short = p.limit ∙ i.short;
       open_still = p.finished ∙ i.open_still;
       fed = p.fed ∙ (λ j. i.fed j + length-take-le c.in-Ok.count c.read.new.buf few j);
-      told = λ t f r. reading_more f _ c.args.log (omega (arith, g.met.D.Desk.places c.args.desk.now t)) (c.requires.fresh t) (g.D.Desk.told c.loop-taken.desk) (g.D.Desk.told c.read.new.self) _ _ _ c.loop-taken.session c.take_piece.new.session c.loop-taken.lines c.take_piece.new.lines _ _
-          (i.told t f r) (c.in-Ok.ensures.told t) few (omega arith) p (rw c.as_slice.ensures.value at (c.in_default.ensures.told t));
+      told = λ t f r. reading_more f _ c.args.log (omega (arith, g.met.D.Desk.places c.args.desk.now t)) (c.requires.fresh t) (g.D.Desk.told c.loop-taken.desk) (g.D.Desk.told c.read.new.self) _ c.args.limit _ _ c.loop-taken.session c.take_piece.new.session c.loop-taken.lines c.take_piece.new.lines _ _
+          (i.told t f r) (c.in-Ok.ensures.told t) (grind (arith, common_steps)) few (omega arith) p (rw c.as_slice.ensures.value at (c.in_default.ensures.told t));
     }
 
 pub returns-clause-told : goal.returns-clause-told

@@ -17,7 +17,7 @@ invariant-loop-taken g l =
       short : l.lines.limit ≡ 4096;
       open_still : l.lines.finished ≡ false;
       fed : l.lines.fed ≡ l.taken;
-      told : d.tells ≡ true → (f : Frame) → Represents f l.fn.session (at_start f.texts) → Reading f (d.told l.fn.desk) l.fn.log l.taken l.session l.lines (d.told l.desk);
+      told : d.tells ≡ true → (f : Frame) → Represents f l.fn.session (at_start f.texts) → Reading f (d.told l.fn.desk) l.fn.log l.limit l.taken l.session l.lines (d.told l.desk);
     }
 
 abbrev pub decreases-loop-taken : goal.decreases-loop-taken

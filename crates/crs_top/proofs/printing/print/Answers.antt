@@ -1,33 +1,29 @@
-use Rattle.std.proofs.Common.{inr}
-use Rattle.crs_top.proofs.Recognising.{long_is_faulty}
-use Rattle.crs_top.proofs.Prints.{print_failed, print_memory, print_refused, print_shown}
+use Rattle.std.proofs.Common.{ap, length}
+use Rattle.crs_top.specs.Inputs.{bytes_of}
+use Rattle.crs_top.specs.Loads.{IsTooLong}
+use Rattle.crs_top.specs.Listings.{IsListed}
+use Rattle.crs_top.specs.Models.{IsFaulty}
+use Rattle.crs_top.proofs.Loads.{ends_weaker, ends_refused, ends_printed, long_is_faulty, all_taken}
 use Rattle.crs_top.proofs.printing.print.Goals as goal
 
-pub returns-in-Err-Failed-clause-told : goal.returns-in-Err-Failed-clause-told
-returns-in-Err-Failed-clause-told g c = λ t. print_failed _ _ _ _ _ _ (rw c.in-Err-Failed.field-0-is at (c.in-Err-Failed.ensures.told t))
-
-pub returns-in-Err-Memory-clause-told : goal.returns-in-Err-Memory-clause-told
-returns-in-Err-Memory-clause-told g c = λ t. print_memory _ _ _ _ _ _ (rw c.in-Err-Memory.field-0-is at (c.in-Err-Memory.ensures.told t))
-
-pub returns-in-Err-Long-clause-told : goal.returns-in-Err-Long-clause-told
-returns-in-Err-Long-clause-told g c = λ t.
-    let h = rw c.in-Err-Long.field-0-is at (c.in-Err-Long.ensures.told t) in
-    print_refused _ _ _ _ _ (g.D.Desk.told c.load.new.desk) _ _ _ _ _ _ h.2 (long_is_faulty _ _ h.3) (c.refuse.ensures.told t)
+pub returns-in-Err-clause-told : goal.returns-in-Err-clause-told
+returns-in-Err-clause-told g c = λ t.
+    let models = bytes_of (g.D.Desk.told c.args.desk.now) c.args.models.now in
+    let symbols = c.args.symbols in
+    ends_weaker (λ text. ⊥) (IsListed symbols c.args.listing models) (IsTooLong models) (IsFaulty symbols models) (λ text p. absurd p) (λ line word l. long_is_faulty symbols models line word l) _ _ _ _ _ _ (c.in-Err.ensures.told t)
 
 pub returns-in-Ok-listing_of-clause-told : goal.returns-in-Ok-listing_of-clause-told
 returns-in-Ok-listing_of-clause-told g c = λ t.
     let h = c.in-Ok.ensures.told t in
-    let p = rw (c.as_slice.ensures.value, h.3) at c.in-Ok-listing_of.ensures.ok in
-    print_shown (g.D.Desk.inputs c.args.desk.now) c.args.symbols c.args.listing (g.D.Desk.told c.args.desk.now) c.args.models.now (g.D.Desk.told c.load.new.desk) (g.D.Desk.told c.show.new.desk) h.0 h.1 c.in-Ok-listing_of.text c.show.result h.2 p (rw c.bytes.ensures at (c.show.ensures.told t))
-
-pub returns-in-Err-At-clause-told : goal.returns-in-Err-At-clause-told
-returns-in-Err-At-clause-told g c = λ t.
-    let h = c.in-Ok.ensures.told t in
-    let p = rw (c.as_slice.ensures.value, h.3, c.in-Err-At.field-0-is) at c.in-Err-At.ensures.refused in
-    print_refused (g.D.Desk.inputs c.args.desk.now) c.args.symbols c.args.listing (g.D.Desk.told c.args.desk.now) c.args.models.now (g.D.Desk.told c.load.new.desk) (g.D.Desk.told c.refuse-in-Err-At.new.desk) h.0 h.1 c.in-Err-At.line c.in-Err-At.word c.refuse-in-Err-At.result h.2 p
-    (c.refuse-in-Err-At.ensures.told t)
+    let models = bytes_of (g.D.Desk.told c.args.desk.now) c.args.models.now in
+    let p = rw (c.as_slice.ensures.value, h.2) at c.in-Ok-listing_of.ensures.ok in
+    ends_printed _ _ (IsListed c.args.symbols c.args.listing models) (IsFaulty c.args.symbols models) _ _ (g.D.Desk.told c.load_models.new.desk) _ _ _ _ _ (rw (← c.write_text.ensures.inputs) at h.1) (ap length h.2) (all_taken models _ (ap length h.2) h.3) p
+    (rw c.bytes.ensures at (c.write_text.ensures.told t))
 
 pub returns-clause-told : goal.returns-clause-told
 returns-clause-told g c = λ t.
     let h = c.in-Ok.ensures.told t in
-    print_memory (g.D.Desk.inputs c.args.desk.now) c.args.symbols c.args.listing (g.D.Desk.told c.args.desk.now) c.args.models.now (g.D.Desk.told c.load.new.desk) (inr (h.0, h.1, h.2))
+    let models = bytes_of (g.D.Desk.told c.args.desk.now) c.args.models.now in
+    let p = rw (c.as_slice.ensures.value, h.2) at c.in-Err-listing_of.ensures.refused in
+    ends_refused _ _ (IsListed c.args.symbols c.args.listing models) (IsFaulty c.args.symbols models) _ _ (g.D.Desk.told c.load_models.new.desk) _ _ _ _ _ (rw (← c.refuse.ensures.inputs) at h.1) (all_taken models _ (ap length h.2) h.3)
+    (λ line word e. rw e at p) (c.refuse.ensures.told t)
