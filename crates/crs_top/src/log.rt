@@ -1,14 +1,15 @@
 // A log, read in pieces.
-ghost use Rattle.std.specs.Prelude.{◌≡◌, ◌⊎◌, ◌<◌, ◌≤◌, ◌+◌, ◌^◌, true, false, length, IsErrOf, IfOk};
+ghost use Rattle.std.specs.Prelude.{◌≡◌, ◌⊎◌, ◌<◌, ◌≤◌, ◌+◌, ◌^◌, true, false, length, IsErrOf, IfOk, OnOk};
 ghost use Rattle.crs_desk.specs.Desk.{Rose, stream_at};
 ghost use Rattle.crs_log.specs.Run.{at_start};
 ghost use Rattle.crs_top.specs.Session.{IsReady, Represents};
+ghost use Rattle.crs_top.specs.Taking.{TakesLines};
 ghost use Rattle.crs_top.specs.Texts.{Frame};
 ghost use Rattle.crs_top.specs.Logs.{no_tail, HasReadLog, TakesPiece, TakesRest, Finishes};
 ghost use Rattle.crs_top.specs.declared.log.Stop.TheVariants.{Memory as OutOfMemory};
 
-use crate::piece::take_lines;
 use crate::session::Session;
+use crate::step::take_line;
 use crs_base::LINE_LIMIT;
 use crs_desk::{Desk, DeskError, write_all};
 use crs_log::Lines;
@@ -40,6 +41,24 @@ fn write_stop(error: DeskError) -> Stop
         DeskError::Failed => Stop::WriteFault,
         DeskError::Memory => Stop::Memory,
     }
+}
+
+/// Takes each line that is held whole, and adds what it brings to the text.
+fn take_lines(
+    alloc: Global,
+    session: &mut Session,
+    lines: &mut Lines,
+    out: &mut Vec<u8>,
+) -> Result<(), AllocError>
+    requires ready { IsReady session.old }
+    requires limit { lines.old.limit ≡ 4096 }
+    ensures { OnOk result (TakesLines lines.old lines.new session.old session.new out.old.items out.new.items) }
+{
+    let mut tokens = Vec::new(alloc);
+    while let Some(line) = lines.next_line() {
+        take_line(alloc, session, line, &mut tokens, out)?;
+    }
+    Ok(())
 }
 
 /// The text of the lines that a piece completes.

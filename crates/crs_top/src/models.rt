@@ -3,7 +3,7 @@ ghost use Rattle.std.specs.Prelude.{IfOk, IfErr, map};
 ghost use Rattle.crs_top.specs.Prepared.{IsPrepared, IsRefusedText, FirstWindowed};
 
 use crate::limits::Limits;
-use crate::reading::read_text;
+use crate::listing::read_text;
 use crate::session::Session;
 use crs_compile::compile;
 use crs_engine::Engine;

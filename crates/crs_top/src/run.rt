@@ -1,5 +1,5 @@
 // The top call.
-ghost use Rattle.std.specs.Prelude.{◌≡◌, ◌<◌, ◌≤◌, ◌+◌, ◌-◌, ◌^◌, ◌↔◌, ◌⊎◌, true, false, None};
+ghost use Rattle.std.specs.Prelude.{◌≡◌, ◌<◌, ◌≤◌, ◌+◌, ◌-◌, ◌^◌, ◌⊎◌, true, false, None};
 ghost use Rattle.crs_desk.specs.Desk.{Rose};
 ghost use Rattle.crs_log.specs.Run.{at_start};
 ghost use Rattle.crs_top.specs.Session.{IsReady, Represents};
@@ -11,20 +11,21 @@ ghost use Rattle.crs_top.specs.Status.{HasCauses};
 ghost use Rattle.crs_top.specs.Commands.{Does, CompletesCommand};
 
 use crate::limits::{Limits, STANDARD};
-use crate::loading::{load_models, refuse};
+use crate::loading::{load_models, refuse, write_text};
 use crate::log::{Stop, read_log};
 use crate::models::prepare;
 use crate::printing::print;
 use crate::session::Session;
 use crate::status::Status;
-use crate::words::{Command, read_words};
+use crate::words::{Command, USAGE, read_words};
 use crs_desk::{Desk, DeskError};
 use std::alloc::Global;
 
 /// Runs the command that the words ask for, at the program's limits.
 pub fn run_program<D: Desk>(alloc: Global, words: &[String], desk: &mut D) -> Status
     requires { D.inputs desk.old < 2 ^ 31 }
-    ensures words { result ≡ Status.Words ↔ command_of words.now ≡ None }
+    ensures words { result ≡ Status.Words → command_of words.now ≡ None }
+    ensures no_command { command_of words.now ≡ None → (result ≡ Status.Words) ⊎ (result ≡ Status.WriteFault) ⊎ (result ≡ Status.Memory) }
     ensures causes { HasCauses (D.in_faults desk.old) (D.in_faults desk.new) (D.out_faults desk.old) (D.out_faults desk.new) result }
     ensures least { D.inputs desk.old ≤ D.inputs desk.new }
     ensures most { D.inputs desk.new ≤ D.inputs desk.old + 2 }
@@ -38,7 +39,8 @@ pub fn run_program<D: Desk>(alloc: Global, words: &[String], desk: &mut D) -> St
 /// Runs the command that the words ask for.
 pub fn run_with<D: Desk>(alloc: Global, words: &[String], limits: Limits, desk: &mut D) -> Status
     requires { D.inputs desk.old < 2 ^ 31 }
-    ensures words { result ≡ Status.Words ↔ command_of words.now ≡ None }
+    ensures words { result ≡ Status.Words → command_of words.now ≡ None }
+    ensures no_command { command_of words.now ≡ None → (result ≡ Status.Words) ⊎ (result ≡ Status.WriteFault) ⊎ (result ≡ Status.Memory) }
     ensures causes { HasCauses (D.in_faults desk.old) (D.in_faults desk.new) (D.out_faults desk.old) (D.out_faults desk.new) result }
     ensures least { D.inputs desk.old ≤ D.inputs desk.new }
     ensures most { D.inputs desk.new ≤ D.inputs desk.old + 2 }
@@ -47,7 +49,7 @@ pub fn run_with<D: Desk>(alloc: Global, words: &[String], limits: Limits, desk: 
         (Rose (D.in_faults desk.old) (D.in_faults desk.new) ⊎ Rose (D.out_faults desk.old) (D.out_faults desk.new)) result }
 {
     match read_words(words) {
-        None => Status::Words,
+        None => write_text(desk, USAGE.as_bytes(), Status::Words),
         Some(Command::Run { models, log }) => recognise(alloc, desk, models, log, limits),
         Some(Command::Print { listing, models }) => {
             print(alloc, desk, models, listing, limits.symbols)

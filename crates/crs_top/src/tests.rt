@@ -1,6 +1,7 @@
 ghost use Rattle.std.specs.Prelude.{◌≡◌, IfOk};
 ghost use Rattle.crs_desk.specs.Memory.{memory_inputs};
 
+use crate::words::USAGE;
 use crate::{Limits, STANDARD, Status, run_with};
 use crs_desk::MemoryDesk;
 use std::alloc::{AllocError, Global};
@@ -252,7 +253,7 @@ fn failing_calls(rt: HostRuntime) -> Result<(), Fail> {
         run_with(alloc, &words[..2], STANDARD, &mut desk),
         Status::Words
     );
-    assert!(rt; desk.written().is_empty());
+    assert!(rt; desk.written() == USAGE.as_bytes());
     Ok(())
 }
 
@@ -311,12 +312,12 @@ fn printed_models(rt: HostRuntime) -> Result<(), Fail> {
         ),
         ("model m", "", Status::Done, ""),
         ("model l", MODELS, Status::ReadFault, ""),
-        ("model m m", MODELS, Status::Words, ""),
-        ("model --minimal", MODELS, Status::Words, ""),
-        ("model -x", MODELS, Status::Words, ""),
-        ("run m", MODELS, Status::Words, ""),
-        ("run --summary m l", MODELS, Status::Words, ""),
-        ("models m", MODELS, Status::Words, ""),
+        ("model m m", MODELS, Status::Words, USAGE),
+        ("model --minimal", MODELS, Status::Words, USAGE),
+        ("model -x", MODELS, Status::Words, USAGE),
+        ("run m", MODELS, Status::Words, USAGE),
+        ("run --summary m l", MODELS, Status::Words, USAGE),
+        ("models m", MODELS, Status::Words, USAGE),
     ] {
         let words = words_in(alloc, words)?;
         let mut desk = MemoryDesk::new(alloc);

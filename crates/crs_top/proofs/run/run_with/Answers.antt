@@ -18,3 +18,6 @@ returns-in-Some-Print-clause-complete g c = λ t.
     rw (sym asked) (completes_print (g.D.Desk.inputs c.args.desk.now) (g.D.Desk.inputs c.print.new.desk) c.args.limits.symbols c.in-Some-Print.listing (g.D.Desk.told c.args.desk.now) (g.D.Desk.told c.print.new.desk) c.in-Some-Print.models.now
     (Rose (g.D.Desk.in_faults c.args.desk.now) (g.D.Desk.in_faults c.print.new.desk) ⊎ Rose (g.D.Desk.out_faults c.args.desk.now) (g.D.Desk.out_faults c.print.new.desk)) c.print.result
     (c.print.ensures.told t) (λ e. inl (c.print.ensures.causes.read_fault e)) (λ e. inr (c.print.ensures.causes.write_fault e)))
+
+pub returns-in-None-clause-told : goal.returns-in-None-clause-told
+returns-in-None-clause-told g c = λ t. rw (sym c.in-None.ensures) (rw c.as_bytes.ensures.value at (c.write_text.ensures.told t), c.write_text.ensures.inputs)

@@ -1,7 +1,7 @@
 use Rattle.std.proofs.Common.{◌∙◌, ap}
 use Rattle.std.proofs.lemmas.Result.{err_from_is_err_and}
 use Rattle.crs_top.proofs.Preparing.{read_faulty}
-use Rattle.crs_top.proofs.reading.read_text.Goals as goal
+use Rattle.crs_top.proofs.listing.read_text.Goals as goal
 
 pub returns-in_err-models-clause-refused : goal.returns-in_err-models-clause-refused
 returns-in_err-models-clause-refused c =

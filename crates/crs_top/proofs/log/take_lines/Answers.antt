@@ -5,7 +5,7 @@ use Rattle.crs_log.specs.Reading.{Given, Gives, ahead}
 use Rattle.crs_top.specs.Texts.{setting_of}
 use Rattle.crs_log.specs.Run.{after_given}
 use Rattle.crs_top.proofs.Taken.{given_short, takes_more}
-use Rattle.crs_top.proofs.piece.take_lines.Goals as goal
+use Rattle.crs_top.proofs.log.take_lines.Goals as goal
 
 pub take_line-requires-clause-short : goal.take_line-requires-clause-short
 take_line-requires-clause-short c =

@@ -4,7 +4,7 @@ use Rattle.crs_log.specs.Run.{State}
 use Rattle.crs_top.specs.Session.{Represents, IsReady}
 use Rattle.crs_top.specs.Taking.{Takes}
 use Rattle.crs_top.specs.Texts.{Frame}
-use Rattle.crs_top.proofs.piece.take_lines.Given as goal
+use Rattle.crs_top.proofs.log.take_lines.Given as goal
 
 abbrev pub invariant-loop-line : goal.invariant-loop-line
 invariant-loop-line l = record {
