@@ -1,5 +1,5 @@
 -- Plans, chronicle by chronicle.
-use Rattle.std.proofs.Common.{◌≡◌, inl, inr, refl, sym, subst, ◌∙◌, List, [], ◌∷◌, ◌++◌, map, append_assoc, append-nil}
+use Rattle.std.proofs.Common.{◌≡◌, inl, inr, subst, List, [], ◌∷◌, ◌++◌, map, append_assoc}
 use Rattle.std.specs.List.{AllByRecursion}
 use Rattle.std.proofs.lemmas.List.{map-append}
 use Rattle.crs_model.specs.declared.chronicle.Chronicle.{Chronicle}
@@ -20,9 +20,6 @@ pub record IsPlanned (all : List Chronicle) (plans : List Plan) (rest : List Chr
   pub names : List (Name Sym)
   pub proper : AllByRecursion (IsProperChronicle names) (map chronicle_of rest)
 
-pub planned_none : (all : List Chronicle) (names : List (Name Sym)) → AllByRecursion (IsProperChronicle names) (map chronicle_of all) → IsPlanned all [] all
-planned_none all names h = record { parts = refl; plans_are = tt; names = names; proper = h }
-
 all_push : (P : Plan → Type 0) (xs : List Plan) (x : Plan) → AllByRecursion P xs → P x → AllByRecursion P (xs ++ x ∷ [])
 all_push P [] x h p = (p, tt)
 all_push P (y ∷ ys) x h p = (h.0, all_push P ys x h.1 p)
@@ -36,7 +33,8 @@ planned_more all plans c rest new a h = record {
   proper = h.proper.1;
 }
 
-closes_within : (plans : List Plan) (c : Chronicle) (rest : List Chronicle) (line : _) → AllByRecursion IsProper plans → ClosesFirst (c ∷ []) line → ClosesFirst (map (λ p. p.chronicle) plans ++ c ∷ rest) line
+closes_within : (plans : List Plan) (c : Chronicle) (rest : List Chronicle) (line : _) → AllByRecursion IsProper plans
+    → ClosesFirst (c ∷ []) line → ClosesFirst (map (λ p. p.chronicle) plans ++ c ∷ rest) line
 closes_within [] c rest line h (inl k) = inl k
 closes_within [] c rest line h (inr k) = absurd k.1
 closes_within (p ∷ ps) c rest line h k = inr (h.0.consistent, closes_within ps c rest line h.1 k)
@@ -45,6 +43,3 @@ pub refused_within : (all : List Chronicle) (plans : List Plan) (c : Chronicle) 
     → IsPlanned all plans (c ∷ rest) → IsRefusal (c ∷ []) e → IsRefusal all e
 refused_within all plans c rest (At line word) h k = (k.0, subst (λ cs. ClosesFirst cs line) h.parts (closes_within plans c rest line h.plans_are k.1))
 refused_within all plans c rest Memory h k = tt
-
-pub planned_all : (all : List Chronicle) (plans : List Plan) → IsPlanned all plans [] → map (λ p. p.chronicle) plans ≡ all
-planned_all all plans h = sym (append-nil (map (λ p. p.chronicle) plans)) ∙ h.parts

@@ -1,5 +1,5 @@
 -- The reach, span by span.
-use Rattle.std.proofs.Common.{◌≡◌, ◌⊎◌, inl, inr, refl, sym, subst, ◌∙◌, ap, ℕ, ◌+◌, List, [], ◌∷◌, Option, Some, None, option_map, arith}
+use Rattle.std.proofs.Common.{◌≡◌, ◌⊎◌, inl, inr, refl, sym, subst, ◌∙◌, ap, ℕ, ◌+◌, List, ◌∷◌, Option, Some, None, option_map, arith}
 use Rattle.std.specs.Prelude.{ℤ, pos, ◌-ℤ◌}
 use Rattle.std.proofs.lemmas.Int.{ints}
 use borrow.Author.Count.{below_none, below_more}
@@ -88,9 +88,6 @@ pairs_more most k n d x e g h f = record {
         below_more (λ q. s ≡ most q r → (IsZero s ⊎ IsPairSpan k n most s) ⊎ (IsZero s ⊎ IsSpanFrom n most (at_event k) s)) k
         (λ q b i. inl (inr (q, r, b, m, i))) (λ i. inr (inr (r, m, i ∙ sym (span_at_event most k r)))) p l j
 
-pub starts_none : (most : ℕ → ℕ → Option ℤ) (n : ℕ) → IsLongest (λ s. IsZero s ⊎ IsStartSpan n most [] s) (Some (pos 0))
-starts_none most n = zero_alone (IsStartSpan n most []) (λ s f. f.1)
-
 pub starts_more : (most : ℕ → ℕ → Option ℤ) (n : ℕ) (a : Anchor) (rest : List Anchor) (x y d : Option ℤ)
     → IsLongest (λ s. IsZero s ⊎ IsSpanFrom n most a s) x → IsLongest (λ s. IsZero s ⊎ IsStartSpan n most rest s) y → IsLongest (λ s. (s ≡ x) ⊎ (s ≡ y)) d
     → IsLongest (λ s. IsZero s ⊎ IsStartSpan n most (a ∷ rest) s) d
@@ -128,9 +125,6 @@ reach_joined most n starts x y d f g h =
     back s (inl z) = inl (inl z)
     back s (inr (inl k)) = inl (inr k)
     back s (inr (inr k)) = inr (inr k)
-
-pub all_none : IsReachOfAll [] (Some (pos 0))
-all_none = zero_alone (λ s. ⊥) (λ s h. h)
 
 pub all_more : (x : Option ℤ) (rest : List (Option ℤ)) (y d : Option ℤ) → IsReachOfAll rest y → IsLongest (λ s. (s ≡ x) ⊎ (s ≡ y)) d → IsReachOfAll (x ∷ rest) d
 all_more x rest y d g h = joined (λ s. s ≡ x) (λ s. IsZero s ⊎ IsIn s rest) (λ s. IsZero s ⊎ IsIn s (x ∷ rest)) x y d (alone x) g h (λ s e. inr (inl e)) later back

@@ -1,6 +1,6 @@
 -- There is one text of the least bounds of chronicles.
 use Rattle.std.proofs.Common.{◌≡◌, ◌⊎◌, inl, inr, refl, ap, sym, subst, ◌∙◌, ◌<◌, ◌≤◌, ◌+◌, ℕ, suc, List, [], ◌∷◌, ◌++◌, length, map, Option, Some, None, option_map, arith}
-use Rattle.std.specs.Prelude.{ℤ, pos, ◌+ℤ◌, ◌-ℤ◌, ◌≤ℤ◌, ◌<ℤ◌, slice_index_or}
+use Rattle.std.specs.Prelude.{ℤ, pos, ◌-ℤ◌, ◌≤ℤ◌, slice_index_or}
 use Rattle.std.specs.List.{AllByRecursion}
 use Rattle.std.proofs.lemmas.Int.{ints}
 use Rattle.std.proofs.lemmas.List.{length-map, length-append}
@@ -10,7 +10,7 @@ use Rattle.crs_stn.specs.Network.{IsMinimal, IsEarliest, negated}
 use Rattle.crs_stn.proofs.Most.{IsMost-unique}
 use Rattle.crs_model.specs.Models.{Anchor, Window, Chronicle, Name}
 use Rattle.crs_model.specs.ProperModels.{IsProperWindow, IsProperChronicle}
-use Rattle.crs_model.specs.Reach.{Bounds, IsLongest, IsZero, IsPairSpan, IsStartSpan, IsReach}
+use Rattle.crs_model.specs.Reach.{Bounds, IsZero, IsPairSpan, IsStartSpan, IsReach}
 use Rattle.crs_compile.specs.Minimal.{pair_line, lines_of_point, pair_lines, head_text, earliest_text, points_of, point_count, IsChronicleText, IsMinimalText}
 
 equal_spans : (x y : Option ℤ) → Bounds x y → Bounds y x → x ≡ y

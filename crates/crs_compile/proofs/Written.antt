@@ -1,15 +1,14 @@
 -- The text of plans, part by part.
-use Rattle.std.proofs.Common.{◌≡◌, refl, ap, sym, subst, ◌∙◌, ℕ, suc, ◌+◌, List, [], ◌∷◌, ◌++◌, length, map, append_assoc, append-nil}
+use Rattle.std.proofs.Common.{◌≡◌, refl, ap, sym, subst, ◌∙◌, ℕ, suc, ◌+◌, List, [], ◌∷◌, ◌++◌, length, map, append_assoc}
 use Rattle.std.specs.Prelude.{ℤ, pos, slice_index_or}
 use Rattle.crs_base.specs.declared.symbols.Sym.{Sym}
 use Rattle.crs_stn.specs.Network.{IsMinimal, IsEarliest}
 use Rattle.crs_stn.specs.Table.{most_of, IsEarliestByBounds}
 use Rattle.crs_model.specs.declared.chronicle.EventDef.{EventDef as CodeEvent}
 use Rattle.crs_model.specs.declared.plan.Plan.{Plan}
-use Rattle.crs_model.specs.Models.{Chronicle}
 use Rattle.crs_model.specs.Plans.{chronicle, IsProper}
 use Rattle.crs_model.specs.Seen.{event_of}
-use Rattle.crs_compile.specs.Minimal.{head_text, pair_lines, earliest_text, plan_text, points_of, point_count, IsChronicleText, IsMinimalText, Appends}
+use Rattle.crs_compile.specs.Minimal.{head_text, pair_lines, earliest_text, plan_text, points_of, point_count, IsChronicleText, Appends}
 
 counted : (events : List CodeEvent) → length (map event_of events) ≡ length events
 counted [] = refl
@@ -35,23 +34,10 @@ plan_step f p points dates old head pairs new h e l earliest a b c = record {
     minimal = subst (λ n. IsMinimal p.chronicle.bounds n (most_of p.network)) (sym (count_is p h)) h.minimal;
     longest = h.reach;
     each = l ∙ sym (count_is p h);
-    earliest = subst (λ n. IsEarliest p.chronicle.bounds n (λ q. slice_index_or dates q (pos 0))) (sym (count_is p h)) (earliest p.chronicle.bounds h.within h.consistent h.minimal);
+    earliest = subst (λ n. IsEarliest p.chronicle.bounds n (λ q. slice_index_or dates q (pos 0))) (sym (count_is p h))
+        (earliest p.chronicle.bounds h.within h.consistent h.minimal);
     is = refl;
   };
   is = subst (λ ps. new ≡ old ++ plan_text (f p.chronicle.name) p.reach (map f ps) (most_of p.network) dates) e
       (three old (head_text (f p.chronicle.name) p.reach) (pair_lines (most_of p.network) 0 (map f points)) (earliest_text (map f points) dates) head pairs new a b c);
 }
-
-pub plans_none : (f : Sym → List ℕ) (old : List ℕ) → Appends (IsMinimalText f []) old old
-plans_none f old = record { text = []; made = refl; is = sym (append-nil old) }
-
-pub plans_more : (f : Sym → List ℕ) (c : Chronicle Sym) (cs : List (Chronicle Sym)) (old mid new : List ℕ)
-    → Appends (IsChronicleText f c) old mid → Appends (IsMinimalText f cs) mid new → Appends (IsMinimalText f (c ∷ cs)) old new
-plans_more f c cs old mid new a b = record {
-  text = a.text ++ b.text;
-  made = (a.text, b.text, a.made, b.made, refl);
-  is = b.is ∙ ap (λ xs. xs ++ b.text) a.is ∙ append_assoc old a.text b.text;
-}
-
-pub from_nothing : (P : List ℕ → Type 0) (new : List ℕ) → Appends P [] new → P new
-from_nothing P new h = subst P (sym h.is) h.made

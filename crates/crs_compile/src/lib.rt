@@ -1,12 +1,12 @@
 //! From models to plans: the least bounds of each chronicle, and its reach.
 #![tactic(auto)]
 
-mod compiling;
+mod compilation;
 mod laws;
 mod minimal;
 mod reach;
 
-pub use compiling::compile;
+pub use compilation::compile;
 pub use laws::{minimal_text_is_one, reach_is_one};
 pub use minimal::minimal_text;
 

@@ -79,7 +79,8 @@ two_hold P x y h = (All-head P x (y ∷ []) h, All-head P y [] (All-tail P x (y 
 
 spaced_by : (least : ℕ) (t : ℕ → ℤ) → Meets (spaced least) t → IsSpaced least t
 spaced_by least t h =
-    let k = two_hold (Keeps t) (record { from = 0; to = 1; most = Some (pos 5) }) (record { from = 1; to = 0; most = Some (neg_ℤ (pos least)) }) h in
+    let k = two_hold (Keeps t) (record { from = 0; to = 1; most = Some (pos 5) })
+    (record { from = 1; to = 0; most = Some (neg_ℤ (pos least)) }) h in
     record { far = k.0; near = k.1 }
 
 -- dates of the two events
@@ -116,9 +117,16 @@ five_by least t s (Some d) h =
     let down = h.0 (dates (pos 5)) (spaced_met least five) in
     ap Some (omega (arith, ints, h.3, up, down, five_later))
 
-five_reach : (least : ℕ) (most : ℕ → ℕ → Option ℤ) → IsConsistent (spaced least) → IsMinimal (spaced least) 2 most → IsReach 2 most [] (Some (pos 5))
+five_reach : (least : ℕ) (most : ℕ → ℕ → Option ℤ) → IsConsistent (spaced least) → IsMinimal (spaced least) 2 most
+    → IsReach 2 most [] (Some (pos 5))
 five_reach least most c m = record {
-  one = inr (inl (0, 1, omega arith, omega arith, sym (five_by least c.0 (spaced_by least c.0 c.1) (most 0 1) (m 0 1 (omega arith) (omega arith)))));
+  one = inr (inl (
+    0,
+    1,
+    omega arith,
+    omega arith,
+    sym (five_by least c.0 (spaced_by least c.0 c.1) (most 0 1) (m 0 1 (omega arith) (omega arith))),
+  ));
   bounds = within;
 }
   where
@@ -143,7 +151,11 @@ module _ (p : Plan) (least : ℕ) (f : IsFixture least p.chronicle) where
   plain_event : (e : CodeEvent) → IsPlain e → IsIn (message e.pattern.name) names → IsProperEvent names (chronicle p) (event_of e)
   unfolding message
   plain_event e h i = record {
-    declared = (message e.pattern.name, record { among = i; same = refl; arity = sym (length-map e.pattern.terms term_of ∙ ap length h.terms) }, plain_change e.pattern.change h.change);
+    declared = (
+      message e.pattern.name,
+      record { among = i; same = refl; arity = sym (length-map e.pattern.terms term_of ∙ ap length h.terms) },
+      plain_change e.pattern.change h.change,
+    );
     below = plain_below e (length p.chronicle.variables) h;
     level = h.level;
   }
@@ -161,7 +173,8 @@ fixture_proper p least f points reach low consistent minimal =
     let within : IsWithin 2 p.chronicle.bounds = subst (IsWithin 2) (sym f.bounds) (spaced_within least low) in
     let named : IsNamed (chronicle p) = record {
       stands = λ v l. absurd (omega (arith, no_variable));
-      below = λ v e def is has. absurd (never_has f.first f.second f.plain_first f.plain_second e v def (ap (λ (t : List CodeEvent). slice_get (map event_of t) e) (sym f.events) ∙ is) has);
+      below = λ v e def is has. absurd (never_has f.first f.second f.plain_first f.plain_second e v def
+          (ap (λ (t : List CodeEvent). slice_get (map event_of t) e) (sym f.events) ∙ is) has);
     } in
     record {
       points = omega (arith, points, two, none);
@@ -185,19 +198,26 @@ fixture_proper p least f points reach low consistent minimal =
           variables_few = omega (arith, no_variable);
           windows_few = rw length-map (omega (arith, no_window));
           within = subst (λ (n : ℕ). IsWithin n p.chronicle.bounds) (λ i. sym both i + sym none i) within;
-          events = subst (λ (t : List CodeEvent). AllByRecursion (IsProperEvent (names p least f) (chronicle p)) (map event_of t)) (sym f.events)
-              (plain_event p least f f.first f.plain_first (inl refl), (plain_event p least f f.second f.plain_second (inr (inl refl)), tt));
+          events = subst (λ (t : List CodeEvent). AllByRecursion (IsProperEvent (names p least f) (chronicle p)) (map event_of t))
+              (sym f.events) (
+                plain_event p least f f.first f.plain_first (inl refl),
+                (plain_event p least f f.second f.plain_second (inr (inl refl)), tt),
+              );
           named = named;
-          sets = subst (λ (t : List CodeSet). AllByRecursion (λ s. s.variable < length p.chronicle.variables) (map set_of t)) (sym f.sets) tt;
-          differs = subst (AllByRecursion (λ (d : ℕ × ℕ). (d.0 < length p.chronicle.variables) × (d.1 < length p.chronicle.variables))) (sym f.differs) tt;
-          windows = subst (λ (t : List CodeWindow). AllByRecursion (IsProperWindow (names p least f) (chronicle p)) (map window_of t)) (sym f.windows) tt;
+          sets = subst (λ (t : List CodeSet). AllByRecursion (λ s. s.variable < length p.chronicle.variables) (map set_of t))
+              (sym f.sets) tt;
+          differs = subst (AllByRecursion (λ (d : ℕ × ℕ). (d.0 < length p.chronicle.variables) × (d.1 < length p.chronicle.variables)))
+              (sym f.differs) tt;
+          windows = subst (λ (t : List CodeWindow). AllByRecursion (IsProperWindow (names p least f) (chronicle p)) (map window_of t))
+              (sym f.windows) tt;
         },
       );
       reach =
           subst (λ (n : ℕ). IsReach n (most_of p.network) (map (λ w. w.from) (map window_of p.chronicle.windows)) p.reach) (sym both)
           (subst (λ (t : List CodeWindow). IsReach 2 (most_of p.network) (map (λ w. w.from) (map window_of t)) p.reach) (sym f.windows)
           (subst (IsReach 2 (most_of p.network) []) (sym reach)
-          (five_reach least (most_of p.network) (subst IsConsistent f.bounds consistent) (subst (λ bs. IsMinimal bs 2 (most_of p.network)) f.bounds minimal))));
+          (five_reach least (most_of p.network) (subst IsConsistent f.bounds consistent)
+          (subst (λ bs. IsMinimal bs 2 (most_of p.network)) f.bounds minimal))));
       small = subst IsSmallSpan (sym reach) (omega (arith, ints));
     }
 

@@ -1,5 +1,5 @@
 -- The numbers of an event's texts, in two parts.
-use Rattle.std.proofs.Common.{◌≡◌, ◌≤◌, ◌<◌, ℕ, ◌+◌, ◌-◌, List, [], ◌∷◌, ◌++◌, length, get_or, map, take, drop, refl, sym, ap, subst, ◌∙◌, arith, suc, zero, Option, Some, None, option_map, take_all, length-append, position, cond, nat_lt, lt-ltb, true, le_refl}
+use Rattle.std.proofs.Common.{◌≡◌, ◌≤◌, ◌<◌, ℕ, ◌+◌, ◌-◌, List, [], ◌∷◌, ◌++◌, length, map, take, drop, refl, sym, ap, subst, ◌∙◌, arith, suc, zero, Option, Some, None, option_map, take_all, length-append, position, cond, nat_lt, lt-ltb, true, le_refl}
 use Rattle.std.specs.Prelude.{bytes_eq}
 use Rattle.std.specs.List.{take-map, position_or_len}
 use Rattle.std.proofs.lemmas.List.{take-append-le, length-map}
@@ -97,7 +97,8 @@ text_found T t None e k = tt
 text_found T t (Some s) e k = number_within T t s (sym k) e
 
 -- an answer with this number tells the text's
-pub told_by : (T : List (List ℕ)) (t : List ℕ) (n : Sym) → IsTextAt T t n → (r : Result Known NameRefused) → IfOk r (HasNumber n) → IfOk r (IsTold T t)
+pub told_by : (T : List (List ℕ)) (t : List ℕ) (n : Sym) → IsTextAt T t n → (r : Result Known NameRefused) → IfOk r (HasNumber n)
+    → IfOk r (IsTold T t)
 told_by T t n at (Err e) h = tt
 told_by T t n at (Ok CodeOther) h = tt
 told_by T t n at (Ok (CodePlace i s)) h = subst (IsTextAt T t) (sym h) at

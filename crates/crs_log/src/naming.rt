@@ -8,8 +8,8 @@ ghost use Rattle.crs_log.specs.SeenNames.{kind_seen, name_seen, IsNumberOf, IsKi
 ghost use Rattle.crs_log.specs.Known.{is_of_kind, change_stands, agrees, known_of, judged};
 
 use crate::entries::Known;
-use crate::items::parts::span_text;
 use crate::items::Raw;
+use crate::items::parts::span_text;
 use crs_base::{List, Sym, Symbols};
 use crs_model::{Kind, Name};
 use thiserror::Error;

@@ -3,7 +3,9 @@ ghost use Rattle.crs_log.specs.SeenNames.{AreNamesIn};
 
 use crate::items::parts::span_text;
 use crate::naming::{NameRefused, known};
-use crate::{EntryRefused, Item, ItemRefused, Known, Line, Lines, lines_of_pieces, make_entry, read_item};
+use crate::{
+    EntryRefused, Item, ItemRefused, Known, Line, Lines, lines_of_pieces, make_entry, read_item,
+};
 use crs_base::{List, Sym, Symbols};
 use crs_model::{Kind, Name};
 use std::alloc::{AllocError, Global};

@@ -4,8 +4,8 @@ use Rattle.std.specs.Prelude.{Option, Some, None, IfSome, option_map}
 use Rattle.std.specs.List.{AllByRecursion}
 use Rattle.crs_base.specs.Entry.{Entry}
 use Rattle.crs_base.proofs.Alls.{all_each}
-use Rattle.crs_model.specs.Models.{Term, Value, Var, Any, Pattern, EventDef, VarSet, Body, NoEvent, Occurs, Hold, Window, Chronicle, Kind, Message, Attribute, Name, Models}
-use Rattle.crs_model.specs.Renaming.{renamed_term, renamed_pattern, renamed_event, renamed_set, renamed_body, renamed_window, renamed_chronicle, renamed_kind, renamed_name, renamed_models, renamed_entry, IsTermOf, IsPatternOf, IsBodyOf, IsChronicleOf, IsKindOf, IsNameOf, AreModelsOf, IsEntryOf}
+use Rattle.crs_model.specs.Models.{Term, Value, Var, Any, Pattern, EventDef, VarSet, Body, NoEvent, Occurs, Hold, Window, Chronicle, Kind, Message, Attribute, Name}
+use Rattle.crs_model.specs.Renaming.{renamed_term, renamed_pattern, renamed_event, renamed_set, renamed_body, renamed_window, renamed_chronicle, renamed_kind, renamed_name, renamed_entry, IsTermOf, IsPatternOf, IsBodyOf, IsChronicleOf, IsKindOf, IsNameOf, IsEntryOf}
 
 -- each of a list
 pub all_same : {A B : Type 0} (f g : A → B) (Q : A → Type 0) (xs : List A) → ((x : A) → Q x → f x ≡ g x) → AllByRecursion Q xs → map f xs ≡ map g xs

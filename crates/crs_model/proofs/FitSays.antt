@@ -1,5 +1,5 @@
 -- Whether some binding fits, and which is the least.
-use Rattle.std.proofs.Common.{◌≡◌, ◌≢◌, ℕ, ◌<◌, List, [], ◌∷◌, length, refl, sym, subst, zero, suc, arith}
+use Rattle.std.proofs.Common.{◌≡◌, ℕ, ◌<◌, List, [], ◌∷◌, length, refl, sym, subst, zero, suc, arith}
 use Rattle.std.specs.Prelude.{Option, Some, None, is_some, IsTrue, IfSome, IsSomeAnd, ◌↔◌}
 use Rattle.std.specs.List.{AllZip, AllByRecursion}
 use Rattle.crs_base.specs.declared.symbols.Sym.{Sym}
@@ -8,7 +8,7 @@ use Rattle.crs_base.specs.Entry.{Entry}
 use Rattle.crs_model.specs.Models.{Term, Value, Var, Any, Pattern}
 use Rattle.crs_model.specs.Bindings.{look_of, IsMatch, IsFit, TermIsBelow, PatternIsBelow}
 use Rattle.crs_model.specs.Verdicts.{TermIsBound, PatternIsBound}
-use Rattle.crs_model.proofs.Matches.{match_then, match_not}
+use Rattle.crs_model.proofs.Matches.{match_then}
 use Rattle.crs_model.proofs.Lost.{terms_up, pattern_down}
 
 pub fits_says : (p : Pattern Sym) (old : List (Option Sym)) (e : Entry Sym) (new : Option (List (Option Sym))) → IsMatch (λ look. PatternIs look p e) old new → IsTrue (is_some new) ↔ IsFit p old e

@@ -53,10 +53,12 @@ module _ (texts : List (List ℕ)) where
 
   body_firm : (b : Body) → has_wrong_counts b ≡ false → body_has_any b ≡ false → IsFirmBody b
   body_firm (NoEvent p) h k = tt
-  body_firm (Occurs least most p) h k = not_below least most (or_parts (nat_lt 4294967295 least || is_above 4294967295 most) (is_below most least) h).1
+  body_firm (Occurs least most p) h k = not_below least most (or_parts (nat_lt 4294967295 least || is_above 4294967295 most)
+      (is_below most least) h).1
   body_firm (Hold name terms value) h k = let o = or_parts (list_any is_any terms) (is_any value) k in (o.1, none_any terms o.0)
 
-  window_held : (w : Window) → AreHeld texts (symbols_of (Over w)) → is_out_of_bounds (Over w) ≡ false → has_any (Over w) ≡ false → IsHeldWindow texts w
+  window_held : (w : Window) → AreHeld texts (symbols_of (Over w)) → is_out_of_bounds (Over w) ≡ false → has_any (Over w) ≡ false
+      → IsHeldWindow texts w
   window_held w h k any =
       let first = or_parts (nat_lt 1099511627776 (shift_size w.from.shift) || nat_lt 1099511627776 (shift_size w.to.shift)) (has_wrong_counts w.body) k in
       let second = or_parts (nat_lt 1099511627776 (shift_size w.from.shift)) (nat_lt 1099511627776 (shift_size w.to.shift)) first.0 in
@@ -135,7 +137,18 @@ module _ (texts : List (List ℕ)) where
   chronicle_held full names done c (Between d) f h k = record { name = k.name; events = k.events; free = k.free; bounds = all_put AreNear c.bounds d k.bounds (distance_held d f.bound); variables = k.variables; sets = k.sets; windows = k.windows; few_variables = k.few_variables; few_points = k.few_points }
   chronicle_held full names done c (Among x values) f h k = record { name = k.name; events = k.events; free = k.free; bounds = k.bounds; variables = k.variables; sets = all_put (IsHeldSet texts) c.sets (x, values) k.sets (record { variable = h.0; values = h.1 }); windows = k.windows; few_variables = k.few_variables; few_points = k.few_points }
   chronicle_held full names done c (Differ x y) f h k = record { name = k.name; events = k.events; free = k.free; bounds = k.bounds; variables = k.variables; sets = k.sets; windows = k.windows; few_variables = k.few_variables; few_points = k.few_points }
-  chronicle_held full names done c (Over w) f h k = record { name = k.name; events = k.events; free = k.free; bounds = k.bounds; variables = k.variables; sets = k.sets; windows = all_put (IsHeldWindow texts) c.windows w k.windows (window_held w h f.bound f.window); few_variables = k.few_variables; few_points = k.few_points }
+  chronicle_held full names done c (Over w) f h k = record {
+    name = k.name;
+    events = k.events;
+    free = k.free;
+    bounds = k.bounds;
+    variables = k.variables;
+    sets = k.sets;
+    windows = all_put (IsHeldWindow texts) c.windows w k.windows
+        (window_held w h f.bound f.window);
+    few_variables = k.few_variables;
+    few_points = k.few_points;
+  }
 
   kind_held : (values : Option (List (List ℕ))) → AreHeld texts (values_symbols values) → IfSome values (AreHeld texts)
   kind_held None h = tt

@@ -81,8 +81,15 @@ module _ {S T : Type 0} (f : S → T) (Q : S → Type 0) (one : (s t : S) → Q 
   body_back names n (NoEvent q) all known h = (declared_back names q all known.name h.0, pattern_below n q h.1)
   body_back names n (Occurs least most q) all known h = (declared_back names q all known.name h.0, pattern_below n q h.1, h.2)
   body_back names n (Hold name terms value) all known h =
-      let r = declares_back names name (length (map (renamed_term f) terms)) h.0.0 all known.0 h.0.1 in
-      ((r.0, subst (λ n. Declares names name n r.0) (terms_count terms) r.1.declares, attribute_back r.0.kind (subst (λ (n : Name T). IsAttribute n.kind) r.1.is h.0.2)), terms_below n (value ∷ terms) h.1, each_back _ _ (renamed_term f) (value ∷ terms) definite_back h.2)
+      let r = declares_back names name (length (map (renamed_term f) terms)) h.0.0 all known.0 h.0.1 in (
+        (
+          r.0,
+          subst (λ n. Declares names name n r.0) (terms_count terms) r.1.declares,
+          attribute_back r.0.kind (subst (λ (n : Name T). IsAttribute n.kind) r.1.is h.0.2),
+        ),
+        terms_below n (value ∷ terms) h.1,
+        each_back _ _ (renamed_term f) (value ∷ terms) definite_back h.2,
+      )
 
   same_has : (v : ℕ) (t : Term S) → term_has v (renamed_term f t) ≡ term_has v t
   same_has v (Value s) = refl

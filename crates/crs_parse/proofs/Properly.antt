@@ -199,10 +199,16 @@ term_definite variables (Value s) h = tt
 term_definite variables (Variable x) h = tt
 term_definite variables Any h = cc
 
-body_meant : (variables : List (List ℕ)) (names : List Name) (b : Body) → IsDeclaredBody names b → body_lacks variables b ≡ false → IsFirmBody b
+body_meant : (variables : List (List ℕ)) (names : List Name) (b : Body) → IsDeclaredBody names b → body_lacks variables b ≡ false
+    → IsFirmBody b
     → p.IsProperBody (map name_of names) (length variables) (body_of variables b)
 body_meant variables names (NoEvent q) h k f = (declared_meant variables names q h, pattern_below variables q (pattern_there variables q k))
-body_meant variables names (Occurs least most q) h k f = (declared_meant variables names q h, pattern_below variables q (pattern_there variables q k), f)
+body_meant variables names (Occurs least most q) h k f = (
+  declared_meant variables names q h,
+  pattern_below variables q
+      (pattern_there variables q k),
+  f,
+)
 body_meant variables names (Hold name terms value) h k f =
     let o = or_parts (list_any (lacks variables) terms) (lacks variables value) k in (
       (name_of h.0, declares_meant variables names name terms h.0 h.1, attribute_meant h.0.kind h.2),

@@ -238,7 +238,8 @@ has_no_point c _ = false
 -- a LOW, HIGH or offset of size above 2^40; LOW above HIGH; an `occurs` number above 2^32 - 1; the first number above the second
 abbrev pub is_out_of_bounds : Statement → Bool
 is_out_of_bounds (Between d) = is_far d.low || is_far d.high || are_crossed d.low d.high
-is_out_of_bounds (Over w) = nat_lt TICK_LIMIT (shift_size w.from.shift) || nat_lt TICK_LIMIT (shift_size w.to.shift) || has_wrong_counts w.body
+is_out_of_bounds (Over w) =
+    nat_lt TICK_LIMIT (shift_size w.from.shift) || nat_lt TICK_LIMIT (shift_size w.to.shift) || has_wrong_counts w.body
 is_out_of_bounds _ = false
 
 -- a `*` in a `hold`
@@ -248,12 +249,15 @@ has_any _ = false
 
 -- with its variables there, an event of this level would pass a limit
 abbrev pub is_full : Written → Option ℕ → Bool
-is_full c level = nat_le EVENT_LIMIT (length c.events) || nat_le POINT_LIMIT (length c.events + length c.free) || is_above LEVEL_LIMIT level || nat_lt VARIABLE_LIMIT (length c.variables)
+is_full c level =
+    nat_le EVENT_LIMIT (length c.events) || nat_le POINT_LIMIT (length c.events + length c.free)
+    || is_above LEVEL_LIMIT level || nat_lt VARIABLE_LIMIT (length c.variables)
 
 -- a counted quantity would pass its limit
 abbrev pub passes_count : List Name → List (ℕ × Written) → Written → Statement → Bool
 passes_count names done c (Message name arity) = nat_le NAME_LIMIT (length names) || nat_lt ARITY_LIMIT arity
-passes_count names done c (Attribute name arity values) = nat_le NAME_LIMIT (length names) || nat_lt ARITY_LIMIT arity || is_above VALUE_LIMIT (option_map length values)
+passes_count names done c (Attribute name arity values) =
+    nat_le NAME_LIMIT (length names) || nat_lt ARITY_LIMIT arity || is_above VALUE_LIMIT (option_map length values)
 passes_count names done c (Begin name) = nat_le CHRONICLE_LIMIT (length done)
 passes_count names done c (Happens e) = is_full (record c { variables = with_texts c.variables (variables_of e.pattern) }) e.level
 passes_count names done c (Point name) = nat_le POINT_LIMIT (length c.events + length c.free)
@@ -318,7 +322,9 @@ body_fault names body = first_of ((NameWord, body_has_no_name names body) ∷ (A
 
 -- the same from the points of a window on
 abbrev pub range_fault : Written → Window → Option ModelWord
-range_fault c w = first_of ((PointWord, has_no_point c (Over w)) ∷ (BoundWord, is_out_of_bounds (Over w)) ∷ (WindowWord, body_has_any w.body) ∷ (LimitWord, nat_le WINDOW_LIMIT (length c.windows)) ∷ [])
+range_fault c w = first_of (
+    (PointWord, has_no_point c (Over w)) ∷ (BoundWord, is_out_of_bounds (Over w))
+    ∷ (WindowWord, body_has_any w.body) ∷ (LimitWord, nat_le WINDOW_LIMIT (length c.windows)) ∷ [])
 
 -- the first word that applies, where the table of symbols isn't looked at
 abbrev pub own_fault : List Name → List (ℕ × Written) → Written → Statement → Option ModelWord
@@ -391,4 +397,5 @@ nothing_read texts = record { names = []; done = []; current = None; texts = tex
 
 -- what a text declares, behind a table with these texts and this limit, or its first fault
 abbrev pub reading_of : List (List ℕ) → ℕ → List ℕ → Result Reading Fault
-reading_of texts limit text = cond (nat_lt SIZE_LIMIT (length text)) (Err (0, SizeWord)) (after_lines limit 1 (nothing_read texts) (lines_of text))
+reading_of texts limit text = cond (nat_lt SIZE_LIMIT (length text)) (Err (0, SizeWord))
+    (after_lines limit 1 (nothing_read texts) (lines_of text))

@@ -1,6 +1,5 @@
 //! The canonical text of models.
-ghost use Rattle.std.specs.Prelude.{◌≡◌, ◌<◌, ◌∷◌, [], ◌++◌, map, length, option_map, IfOk, IfSome, OnOk, decimal, neg_ℤ};
-ghost use Rattle.std.specs.Fmt.{signed_decimal};
+ghost use Rattle.std.specs.Prelude.{◌≡◌, ◌<◌, ◌∷◌, [], ◌++◌, map, length, option_map, IfOk, IfSome, OnOk, neg_ℤ};
 ghost use Rattle.std.specs.List.{AllByRecursion, flat_map};
 ghost use Rattle.crs_base.specs.Symbols.{text_at};
 ghost use Rattle.crs_model.specs.Renaming as renamed;

@@ -3,7 +3,7 @@ use Rattle.std.specs.Vec.Iter.{into_iter_items}
 use Rattle.std.proofs.lemmas.Result.{err_from_is_err_and}
 use Rattle.crs_compile.specs.Compiled.{plans_in}
 use Rattle.crs_compile.proofs.Plans.{IsPlanned, planned_more, refused_within}
-use Rattle.crs_compile.proofs.compiling.plans_of.Goals as goal
+use Rattle.crs_compile.proofs.compilation.plans_of.Goals as goal
 
 pub returns-in_err-push_plan-clause-refused : goal.returns-in_err-push_plan-clause-refused
 returns-in_err-push_plan-clause-refused c =
@@ -13,9 +13,11 @@ returns-in_err-push_plan-clause-refused c =
 
 pub loop-chronicle-preserved : goal.loop-chronicle-preserved
 loop-chronicle-preserved c =
-    let left = subst (IsPlanned c.args.chronicles (plans_in c.loop-chronicle.plans)) c.in-Some.ensures.steps.0 c.loop-chronicle.invariant.2 in (
+    let left = subst (IsPlanned c.args.chronicles
+    (plans_in c.loop-chronicle.plans)) c.in-Some.ensures.steps.0 c.loop-chronicle.invariant.2 in (
       tt,
       tt,
-      planned_more c.args.chronicles (plans_in c.loop-chronicle.plans) c.in-Some.chronicle (into_iter_items c.next.new.self) (plans_in c.push_plan.new.plans) (c.in_ok-push_plan.ensures {u = tt}).plan left,
+      planned_more c.args.chronicles (plans_in c.loop-chronicle.plans) c.in-Some.chronicle (into_iter_items c.next.new.self)
+          (plans_in c.push_plan.new.plans) (c.in_ok-push_plan.ensures {u = tt}).plan left,
       search rules,
     )

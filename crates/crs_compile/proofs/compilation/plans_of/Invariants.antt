@@ -2,7 +2,7 @@ use Rattle.std.proofs.Common.{◌≡◌, length}
 use Rattle.std.specs.Vec.Iter.{into_iter_items, into_iter_len}
 use Rattle.crs_compile.specs.Compiled.{plans_in}
 use Rattle.crs_compile.proofs.Plans.{IsPlanned}
-use Rattle.crs_compile.proofs.compiling.plans_of.Given as goal
+use Rattle.crs_compile.proofs.compilation.plans_of.Given as goal
 
 abbrev pub invariant-loop-chronicle : goal.invariant-loop-chronicle
 invariant-loop-chronicle l =
