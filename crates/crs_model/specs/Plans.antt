@@ -17,7 +17,7 @@ use Rattle.crs_model.specs.Seen.{chronicle_of}
 abbrev pub chronicle : Plan → Chronicle Sym
 chronicle p = chronicle_of p.chronicle
 
--- the chronicle is that of an accepted models text, and the network and the reach are the chronicle's
+-- the chronicle is proper for some declared names, whole dates meet its bounds, and the network and the reach are its own
 pub record IsProper (p : Plan) : Type 0 where
   pub points : p.network.points ≡ length p.chronicle.events + length p.chronicle.free
   pub few : p.network.points ≤ POINT_LIMIT
