@@ -12,7 +12,7 @@ use Rattle.crs_top.specs.Inputs.{bytes_of}
 use Rattle.crs_top.specs.Logs.{Tail}
 use Rattle.crs_top.specs.Run.{Most, Runs, Completes}
 use Rattle.crs_top.specs.Texts.{Frame}
-use Rattle.crs_top.specs.declared.words.Listing.{Listing}
+use Rattle.crs_words.specs.declared.command.Listing.{Listing}
 use Rattle.crs_top.specs.Listings.{IsListed, Prints, CompletesPrint}
 
 none_inconsistent : (cs : List (Chronicle (List ℕ))) (line : ℕ) → AllByRecursion (λ c. IsConsistent c.bounds) cs → ClosesInconsistent cs line → ⊥

@@ -9,6 +9,7 @@ pub mod Taken
 pub mod LogReading
 pub mod Follows
 pub mod Runs
+pub mod Wanting
 pub mod Completes
 pub mod Preparing
 pub mod OneText

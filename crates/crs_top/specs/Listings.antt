@@ -9,8 +9,8 @@ use Rattle.crs_print.specs.Printed.{models_text}
 use Rattle.crs_compile.specs.Minimal.{IsMinimalText}
 use Rattle.crs_top.specs.declared.status.Status.{Status}
 use Rattle.crs_top.specs.declared.status.Status.TheVariants.{Done, Rejected, Memory}
-use Rattle.crs_top.specs.declared.words.Listing.{Listing}
-use Rattle.crs_top.specs.declared.words.Listing.TheVariants.{Canonical, Minimal}
+use Rattle.crs_words.specs.declared.command.Listing.{Listing}
+use Rattle.crs_words.specs.declared.command.Listing.TheVariants.{Canonical, Minimal}
 use Rattle.crs_top.specs.Inputs.{bytes_of}
 use Rattle.crs_top.specs.Loads.{EndsWithModels}
 use Rattle.crs_top.specs.Models.{AreModelsIn, IsFaulty}

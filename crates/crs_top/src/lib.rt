@@ -15,7 +15,6 @@ mod status;
 mod step;
 #[cfg(test)]
 mod tests;
-mod words;
 
 pub use laws::{log_text_is_one, recognised_stays};
 pub use limits::{Limits, STANDARD};

@@ -1,10 +1,10 @@
 // The top call.
-ghost use Rattle.std.specs.Prelude.{◌≡◌, ◌<◌, ◌≤◌, ◌+◌, ◌-◌, ◌^◌, ◌⊎◌, true, false, None};
+ghost use Rattle.std.specs.Prelude.{◌≡◌, ◌<◌, ◌≤◌, ◌+◌, ◌-◌, ◌^◌, ◌⊎◌, true, false, None, map, string_bytes};
 ghost use Rattle.crs_desk.specs.Desk.{Rose};
 ghost use Rattle.crs_log.specs.Run.{at_start};
 ghost use Rattle.crs_top.specs.Session.{IsReady, Represents};
 ghost use Rattle.crs_top.specs.Texts.{Frame};
-ghost use Rattle.crs_top.specs.Words.{command_of};
+ghost use Rattle.crs_words.specs.Commands.{command_of};
 ghost use Rattle.crs_top.specs.Logs.{no_tail};
 ghost use Rattle.crs_top.specs.Run.{Runs, Follows, most_of, standard};
 ghost use Rattle.crs_top.specs.Status.{HasCauses};
@@ -17,20 +17,20 @@ use crate::models::prepare;
 use crate::printing::print;
 use crate::session::Session;
 use crate::status::Status;
-use crate::words::{Command, USAGE, read_words};
 use crs_desk::{Desk, DeskError};
+use crs_words::{Command, read_words, usage_text};
 use std::alloc::Global;
 
 /// Runs the command that the words ask for, at the program's limits.
 pub fn run_program<D: Desk>(alloc: Global, words: &[String], desk: &mut D) -> Status
     requires { D.inputs desk.old < 2 ^ 31 }
-    ensures words { result ≡ Status.Words → command_of words.now ≡ None }
-    ensures no_command { command_of words.now ≡ None → (result ≡ Status.Words) ⊎ (result ≡ Status.WriteFault) ⊎ (result ≡ Status.Memory) }
+    ensures words { result ≡ Status.Words → command_of (map string_bytes words.now) ≡ None }
+    ensures no_command { command_of (map string_bytes words.now) ≡ None → (result ≡ Status.Words) ⊎ (result ≡ Status.WriteFault) ⊎ (result ≡ Status.Memory) }
     ensures causes { HasCauses (D.in_faults desk.old) (D.in_faults desk.new) (D.out_faults desk.old) (D.out_faults desk.new) result }
     ensures least { D.inputs desk.old ≤ D.inputs desk.new }
     ensures most { D.inputs desk.new ≤ D.inputs desk.old + 2 }
-    ensures told { D.tells ≡ true → Does (D.inputs desk.old) (D.inputs desk.new) standard (D.told desk.old) (command_of words.now) result (D.told desk.new) }
-    ensures complete { D.tells ≡ true → CompletesCommand standard (D.told desk.old) (command_of words.now)
+    ensures told { D.tells ≡ true → Does (D.inputs desk.old) (D.inputs desk.new) standard (D.told desk.old) (command_of (map string_bytes words.now)) result (D.told desk.new) }
+    ensures complete { D.tells ≡ true → CompletesCommand standard (D.told desk.old) (command_of (map string_bytes words.now))
         (Rose (D.in_faults desk.old) (D.in_faults desk.new) ⊎ Rose (D.out_faults desk.old) (D.out_faults desk.new)) result }
 {
     run_with(alloc, words, STANDARD, desk)
@@ -39,19 +39,20 @@ pub fn run_program<D: Desk>(alloc: Global, words: &[String], desk: &mut D) -> St
 /// Runs the command that the words ask for.
 pub fn run_with<D: Desk>(alloc: Global, words: &[String], limits: Limits, desk: &mut D) -> Status
     requires { D.inputs desk.old < 2 ^ 31 }
-    ensures words { result ≡ Status.Words → command_of words.now ≡ None }
-    ensures no_command { command_of words.now ≡ None → (result ≡ Status.Words) ⊎ (result ≡ Status.WriteFault) ⊎ (result ≡ Status.Memory) }
+    ensures words { result ≡ Status.Words → command_of (map string_bytes words.now) ≡ None }
+    ensures no_command { command_of (map string_bytes words.now) ≡ None → (result ≡ Status.Words) ⊎ (result ≡ Status.WriteFault) ⊎ (result ≡ Status.Memory) }
     ensures causes { HasCauses (D.in_faults desk.old) (D.in_faults desk.new) (D.out_faults desk.old) (D.out_faults desk.new) result }
     ensures least { D.inputs desk.old ≤ D.inputs desk.new }
     ensures most { D.inputs desk.new ≤ D.inputs desk.old + 2 }
-    ensures told { D.tells ≡ true → Does (D.inputs desk.old) (D.inputs desk.new) (most_of limits) (D.told desk.old) (command_of words.now) result (D.told desk.new) }
-    ensures complete { D.tells ≡ true → CompletesCommand (most_of limits) (D.told desk.old) (command_of words.now)
+    ensures told { D.tells ≡ true → Does (D.inputs desk.old) (D.inputs desk.new) (most_of limits) (D.told desk.old) (command_of (map string_bytes words.now)) result (D.told desk.new) }
+    ensures complete { D.tells ≡ true → CompletesCommand (most_of limits) (D.told desk.old) (command_of (map string_bytes words.now))
         (Rose (D.in_faults desk.old) (D.in_faults desk.new) ⊎ Rose (D.out_faults desk.old) (D.out_faults desk.new)) result }
 {
-    match read_words(words) {
-        None => write_text(desk, USAGE.as_bytes(), Status::Words),
-        Some(Command::Run { models, log }) => recognise(alloc, desk, models, log, limits),
-        Some(Command::Print { listing, models }) => {
+    match read_words(alloc, words) {
+        Err(_) => Status::Memory,
+        Ok(None) => write_text(desk, usage_text(), Status::Words),
+        Ok(Some(Command::Run { models, log })) => recognise(alloc, desk, models, log, limits),
+        Ok(Some(Command::Print { listing, models })) => {
             print(alloc, desk, models, listing, limits.symbols)
         }
     }

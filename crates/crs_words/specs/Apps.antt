@@ -16,19 +16,10 @@ plain_app name =
     let a = new_app name in
     record a { top = record a.top { disable_help_flag = true; disable_version_flag = true } }
 
--- `run [--summary] MODELS LOG`
+-- `run MODELS LOG`
 abbrev pub run_app : App
-run_app =
-    with_rule (with_rule (with_rule (plain_app (codes "run")) (flag (codes "summary"))) (position (codes "models"))) (position (codes "log"))
+run_app = with_rule (with_rule (plain_app (codes "run")) (position (codes "models"))) (position (codes "log"))
 
 -- `model [--minimal] MODELS`
 abbrev pub model_app : App
 model_app = with_rule (with_rule (plain_app (codes "model")) (flag (codes "minimal"))) (position (codes "models"))
-
--- `drill SEED N`
-abbrev pub drill_app : App
-drill_app = with_rule (with_rule (plain_app (codes "drill")) (position (codes "seed"))) (position (codes "lines"))
-
--- `import CSV`
-abbrev pub import_app : App
-import_app = with_rule (plain_app (codes "import")) (position (codes "table"))

@@ -1,30 +1,24 @@
 -- What words ask for: the command by its first word, and the rest as clap defines it for that one command.
-use Rattle.std.specs.Prelude.{ℕ, Bool, false, List, [], ◌∷◌, Option, Some, None, codes, if◌then◌else◌, ◌&&◌, nat_le}
+use Rattle.std.specs.Prelude.{ℕ, Bool, false, List, [], ◌∷◌, Option, Some, None, codes, if◌then◌else◌, ◌++◌}
 use Rattle.std.specs.Option.{option_and_then}
 use Rattle.std.specs.Str.{bytes_eq}
 use Rattle.clap.specs.Walk.{is_empty}
 use Rattle.clap.specs.Words.{App, Row, first_of, fault_of, matches_of}
-use Rattle.crs_base.specs.Numbers.{number_of}
-use Rattle.crs_words.specs.Apps.{run_app, model_app, drill_app, import_app}
+use Rattle.crs_words.specs.Apps.{run_app, model_app}
 use Rattle.crs_words.specs.declared.command.Listing.{Listing}
 use Rattle.crs_words.specs.declared.command.Listing.TheVariants.{Canonical, Minimal}
 use Rattle.crs_words.specs.declared.command.Command.{Command as CodeCommand}
 use Rattle.crs_words.specs.declared.command.Command.TheVariants as code
 
--- To recognise the models of the first name in the log of the second, with a summary line or without; to print the models of a name; to
--- recognise the made models in the made log of a seed and so many lines; to write the table of a name as a log.
+-- to recognise the models of the first name in the log of the second; to print the models of a name
 pub data Command : Type 0 where
-  Run : (summary : Bool) → (models log : List ℕ) → Command
+  Run : (models log : List ℕ) → Command
   Print : (listing : Listing) → (models : List ℕ) → Command
-  Drill : (seed lines : ℕ) → Command
-  Import : (table : List ℕ) → Command
 
 -- a command of the program
 abbrev pub command_seen : CodeCommand → Command
-command_seen (code.Run summary models log) = Run summary models.now log.now
+command_seen (code.Run models log) = Run models.now log.now
 command_seen (code.Print listing models) = Print listing models.now
-command_seen (code.Drill seed lines) = Drill seed lines
-command_seen (code.Import table) = Import table.now
 
 abbrev pub is_true : Option (List ℕ) → Bool
 is_true None = false
@@ -41,13 +35,13 @@ rows_in app words = if is_empty (fault_of app words) then Some (matches_of app w
 abbrev pub read_by : App → (List Row → Option Command) → List (List ℕ) → Option Command
 read_by app command words = option_and_then command (rows_in app words)
 
-abbrev pub run_of : Bool → Option (List ℕ) → Option (List ℕ) → Option Command
-run_of summary (Some models) (Some log) = Some (Run summary models log)
-run_of summary (Some models) None = None
-run_of summary None log = None
+abbrev pub run_of : Option (List ℕ) → Option (List ℕ) → Option Command
+run_of (Some models) (Some log) = Some (Run models log)
+run_of (Some models) None = None
+run_of None log = None
 
 abbrev pub run_in : List Row → Option Command
-run_in rows = run_of (is_given (codes "summary") rows) (first_of (codes "models") rows) (first_of (codes "log") rows)
+run_in rows = run_of (first_of (codes "models") rows) (first_of (codes "log") rows)
 
 abbrev pub listing_of : Bool → Listing
 listing_of minimal = if minimal then Minimal else Canonical
@@ -59,36 +53,14 @@ print_of listing None = None
 abbrev pub model_in : List Row → Option Command
 model_in rows = print_of (listing_of (is_given (codes "minimal") rows)) (first_of (codes "models") rows)
 
--- a number of 1 to 19 digits, from the least to the most
-abbrev pub in_range : ℕ → ℕ → ℕ → Option ℕ
-in_range least most n = if nat_le least n && nat_le n most then Some n else None
-
-abbrev pub number_within : ℕ → ℕ → List ℕ → Option ℕ
-number_within least most word = option_and_then (in_range least most) (number_of word)
-
-abbrev pub drill_of : Option ℕ → Option ℕ → Option Command
-drill_of (Some seed) (Some lines) = Some (Drill seed lines)
-drill_of (Some seed) None = None
-drill_of None lines = None
-
-abbrev pub drill_in : List Row → Option Command
-drill_in rows =
-    drill_of (option_and_then (number_within 1 2147483646) (first_of (codes "seed") rows))
-    (option_and_then (number_within 0 1000000) (first_of (codes "lines") rows))
-
-abbrev pub import_of : Option (List ℕ) → Option Command
-import_of (Some table) = Some (Import table)
-import_of None = None
-
-abbrev pub import_in : List Row → Option Command
-import_in rows = import_of (first_of (codes "table") rows)
-
 -- the words behind the program's name; none is no command
 abbrev pub command_of : List (List ℕ) → Option Command
 command_of [] = None
 command_of (name ∷ rest) =
     if bytes_eq name (codes "run") then read_by run_app run_in (name ∷ rest)
     else (if bytes_eq name (codes "model") then read_by model_app model_in (name ∷ rest)
-    else (if bytes_eq name (codes "drill") then read_by drill_app drill_in (name ∷ rest)
-    else (if bytes_eq name (codes "import") then read_by import_app import_in (name ∷ rest)
-    else None)))
+    else None)
+
+-- what is written where the words are no command
+abbrev pub usage_text : List ℕ
+usage_text = codes "usage: crs run MODELS LOG\n" ++ codes "       crs model [--minimal] MODELS\n"

@@ -1,7 +1,7 @@
 // The commands as clap is told of them.
 ghost use Rattle.std.specs.Prelude.{◌≡◌, IfOk, false};
 ghost use Rattle.clap.specs.Words.{app_of, rule_of};
-ghost use Rattle.crs_words.specs.Apps.{plain_app, flag, position, run_app, model_app, drill_app, import_app};
+ghost use Rattle.crs_words.specs.Apps.{plain_app, flag, position, run_app, model_app};
 
 use clap::{Arg, ArgAction, Command};
 use std::alloc::{AllocError, Global};
@@ -31,12 +31,11 @@ fn plain_command<'a>(alloc: Global, name: &'a str) -> Command<'a>
         .disable_version_flag(true)
 }
 
-/// `run [--summary] MODELS LOG`
+/// `run MODELS LOG`
 pub(crate) fn run_command<'a>(alloc: Global) -> Result<Command<'a>, AllocError>
     ensures { IfOk result (λ c. app_of c ≡ run_app) }
 {
     let command = plain_command(alloc, "run")
-        .arg(flag_of(alloc, "summary"))?
         .arg(position_of(alloc, "models"))?
         .arg(position_of(alloc, "log"))?;
     Ok(command)
@@ -49,23 +48,5 @@ pub(crate) fn model_command<'a>(alloc: Global) -> Result<Command<'a>, AllocError
     let command = plain_command(alloc, "model")
         .arg(flag_of(alloc, "minimal"))?
         .arg(position_of(alloc, "models"))?;
-    Ok(command)
-}
-
-/// `drill SEED N`
-pub(crate) fn drill_command<'a>(alloc: Global) -> Result<Command<'a>, AllocError>
-    ensures { IfOk result (λ c. app_of c ≡ drill_app) }
-{
-    let command = plain_command(alloc, "drill")
-        .arg(position_of(alloc, "seed"))?
-        .arg(position_of(alloc, "lines"))?;
-    Ok(command)
-}
-
-/// `import CSV`
-pub(crate) fn import_command<'a>(alloc: Global) -> Result<Command<'a>, AllocError>
-    ensures { IfOk result (λ c. app_of c ≡ import_app) }
-{
-    let command = plain_command(alloc, "import").arg(position_of(alloc, "table"))?;
     Ok(command)
 }

@@ -10,24 +10,8 @@ pub enum Listing {
 /// What the program was asked for. Names are those of files.
 #[derive(Clone, Copy, Debug)]
 pub enum Command<'a> {
-    /// To recognise the models in the log, and to write a summary line at its end where that is asked for.
-    Run {
-        summary: bool,
-        models: &'a str,
-        log: &'a str,
-    },
+    /// To recognise the models in the log.
+    Run { models: &'a str, log: &'a str },
     /// To print the models.
-    Print {
-        listing: Listing,
-        models: &'a str,
-    },
-    /// To recognise the made models in the made log of this seed and so many lines.
-    Drill {
-        seed: u32,
-        lines: u32,
-    },
-    /// To write the table as a log.
-    Import {
-        table: &'a str,
-    },
+    Print { listing: Listing, models: &'a str },
 }

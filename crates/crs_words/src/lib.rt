@@ -6,6 +6,8 @@ mod command;
 mod reading;
 #[cfg(test)]
 mod tests;
+mod usage;
 
 pub use command::{Command, Listing};
 pub use reading::read_words;
+pub use usage::usage_text;

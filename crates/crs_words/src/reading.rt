@@ -1,14 +1,13 @@
 // What words ask for.
 ghost use Rattle.std.specs.Prelude.{◌≡◌, IfOk, true, map, option_map, string_bytes};
 ghost use Rattle.clap.specs.Words.{app_of, found_of, rows_of, first_of, is_simple_and_free};
-ghost use Rattle.crs_words.specs.Apps.{run_app, model_app, drill_app, import_app};
-ghost use Rattle.crs_words.specs.Commands.{command_of, command_seen, rows_in, read_by, run_in, model_in, drill_in, import_in, is_given, number_within};
+ghost use Rattle.crs_words.specs.Apps.{run_app, model_app};
+ghost use Rattle.crs_words.specs.Commands.{command_of, command_seen, rows_in, read_by, run_in, model_in, is_given};
 
-use crate::apps::{drill_command, import_command, model_command, run_command};
+use crate::apps::{model_command, run_command};
 use crate::command::{Command, Listing};
 use clap::ArgMatches;
 use clap::error::ErrorKind;
-use crs_base::number;
 use std::alloc::{AllocError, Global};
 
 /// The command of the words behind the program's name. None exactly where they are no command.
@@ -22,10 +21,6 @@ pub fn read_words<'a>(alloc: Global, words: &'a [String]) -> Result<Option<Comma
         read_run(alloc, words)
     } else if name.as_str() == "model" {
         read_model(alloc, words)
-    } else if name.as_str() == "drill" {
-        read_drill(alloc, words)
-    } else if name.as_str() == "import" {
-        read_import(alloc, words)
     } else {
         Ok(None)
     }
@@ -63,16 +58,6 @@ fn is_given(matches: &ArgMatches<'_>, id: &str) -> bool
     }
 }
 
-/// A number of 1 to 19 digits from `least` to `most`.
-fn number_within(word: &str, least: u32, most: u32) -> Option<u32>
-    ensures { result ≡ number_within least most word.now }
-{
-    match number(word.as_bytes()) {
-        Some(n) if least as u64 <= n && n <= most as u64 => Some(n as u32),
-        _ => None,
-    }
-}
-
 /// Reads the words of `run`, the first of which is its name.
 fn read_run<'a>(alloc: Global, words: &'a [String]) -> Result<Option<Command<'a>>, AllocError>
     ensures { IfOk result (λ r. option_map command_seen r ≡ read_by run_app run_in (map string_bytes words.entry.now)) }
@@ -88,14 +73,9 @@ fn read_run<'a>(alloc: Global, words: &'a [String]) -> Result<Option<Command<'a>
 fn run_of<'a>(matches: &ArgMatches<'a>) -> Option<Command<'a>>
     ensures { option_map command_seen result ≡ run_in (rows_of (found_of matches.now)) }
 {
-    let summary = is_given(matches, "summary");
     let models = word_of(matches, "models")?;
     let log = word_of(matches, "log")?;
-    Some(Command::Run {
-        summary,
-        models,
-        log,
-    })
+    Some(Command::Run { models, log })
 }
 
 /// Reads the words of `model`, the first of which is its name.
@@ -120,45 +100,4 @@ fn model_of<'a>(matches: &ArgMatches<'a>) -> Option<Command<'a>>
     };
     let models = word_of(matches, "models")?;
     Some(Command::Print { listing, models })
-}
-
-/// Reads the words of `drill`, the first of which is its name.
-fn read_drill<'a>(alloc: Global, words: &'a [String]) -> Result<Option<Command<'a>>, AllocError>
-    ensures { IfOk result (λ r. option_map command_seen r ≡ read_by drill_app drill_in (map string_bytes words.entry.now)) }
-{
-    let command = drill_command(alloc)?;
-    let Some(matches) = matches_of(command, words)? else {
-        return Ok(None);
-    };
-    Ok(drill_of(&matches))
-}
-
-/// What is asked of `drill`.
-fn drill_of<'a>(matches: &ArgMatches<'a>) -> Option<Command<'a>>
-    ensures { option_map command_seen result ≡ drill_in (rows_of (found_of matches.now)) }
-{
-    let seed = word_of(matches, "seed")?;
-    let lines = word_of(matches, "lines")?;
-    let seed = number_within(seed, 1, 2_147_483_646)?;
-    let lines = number_within(lines, 0, 1_000_000)?;
-    Some(Command::Drill { seed, lines })
-}
-
-/// Reads the words of `import`, the first of which is its name.
-fn read_import<'a>(alloc: Global, words: &'a [String]) -> Result<Option<Command<'a>>, AllocError>
-    ensures { IfOk result (λ r. option_map command_seen r ≡ read_by import_app import_in (map string_bytes words.entry.now)) }
-{
-    let command = import_command(alloc)?;
-    let Some(matches) = matches_of(command, words)? else {
-        return Ok(None);
-    };
-    Ok(import_of(&matches))
-}
-
-/// What is asked of `import`.
-fn import_of<'a>(matches: &ArgMatches<'a>) -> Option<Command<'a>>
-    ensures { option_map command_seen result ≡ import_in (rows_of (found_of matches.now)) }
-{
-    let table = word_of(matches, "table")?;
-    Some(Command::Import { table })
 }

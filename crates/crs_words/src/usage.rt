@@ -1,0 +1,9 @@
+ghost use Rattle.std.specs.Prelude.{◌≡◌};
+ghost use Rattle.crs_words.specs.Commands.{usage_text};
+
+/// The text that is written where the words are no command.
+pub fn usage_text() -> &'static [u8]
+    ensures { result.now ≡ usage_text }
+{
+    b"usage: crs run MODELS LOG\n       crs model [--minimal] MODELS\n"
+}
