@@ -13,3 +13,6 @@ pub mod Seen
 pub mod Bindings
 pub mod Plans
 pub mod Renaming
+pub mod HasProgress
+pub mod Reaches
+pub mod Ready
