@@ -12,3 +12,4 @@ pub mod Values
 pub mod LineSteps
 pub mod Feeds
 pub mod TokenSteps
+pub mod Deciding

@@ -3,7 +3,6 @@ use Rattle.std.proofs.Common.{◌≡◌, ℕ, zero, suc, ◌<◌, ◌≤◌, ◌
 use Rattle.std.specs.List.{AllByRecursion}
 use Rattle.std.specs.declared.rc.Rc.{Rc}
 use Rattle.std.proofs.lemmas.List.{map-append, take_more}
-use Rattle.std.proofs.Math.Seq.{take-length}
 use Rattle.crs_model.specs.declared.plan.Plan.{Plan}
 use Rattle.crs_history.specs.Histories.{HistoryState, lowest, IsFarBack}
 use Rattle.crs_store.specs.Stores.{StoreState, Stands}
@@ -22,9 +21,6 @@ planned rs = map (λ r. r.value) rs
 pub record AreStartedBelow (k : ℕ) (plans : List (Rc Plan Global)) (stores : List StoreState) : Type 0 where
   pub of : AreStoresOf (planned (take k plans)) 0 stores
   pub stand : AllByRecursion (λ s. Stands s [] [] [] 0 0) stores
-
-pub started_none : (plans : List (Rc Plan Global)) → AreStartedBelow 0 plans []
-started_none plans = record { of = tt; stand = tt }
 
 stores_more : (ps : List Plan) (n : ℕ) (ss : List StoreState) (p : Plan) (s : StoreState) → AreStoresOf ps n ss → s.plan ≡ p → s.number ≡ n + length ps → AreStoresOf (ps ++ p ∷ []) n (ss ++ s ∷ [])
 stores_more [] n [] p s h a b = (a, omega (arith, b), tt)
@@ -46,10 +42,6 @@ started_more k plans out new r s l at_k q h a b stands =
       of = subst (λ (t : List Plan). AreStoresOf t 0 (out ++ s ∷ [])) (sym cut) (stores_more (planned (take k plans)) 0 out r.value s h.of a (omega (arith, b)));
       stand = all_put (λ t. Stands t [] [] [] 0 0) out s h.stand stands;
     })
-
-pub started_all : (plans : List (Rc Plan Global)) (n : ℕ) (stores : List StoreState) → n ≡ length plans → AreStartedBelow n plans stores → AreStoresOf (planned plans) 0 stores × AllByRecursion (λ s. Stands s [] [] [] 0 0) stores
-started_all plans n stores e h =
-    (subst (λ (t : List (Rc Plan Global)). AreStoresOf (planned t) 0 stores) (ap (λ (m : ℕ). take m plans) e ∙ take-length plans) h.of, h.stand)
 
 all_far : {floor : ℤ} → floor ≡ lowest → (ps : List Plan) → AllByRecursion (λ p. IsFarBack p.reach 0 floor) ps
 all_far e [] = tt

@@ -1,5 +1,5 @@
 -- The entries that are settled one after another, and all stores' part in it.
-use Rattle.std.proofs.Common.{◌≡◌, ℕ, ◌<◌, ◌≤◌, ◌^◌, List, [], ◌∷◌, ◌++◌, length, refl, sym, ap, subst, ◌∙◌, inl, arith, append_assoc, append-nil, cond, nat_lt, Bool, true, false}
+use Rattle.std.proofs.Common.{◌≡◌, ℕ, ◌<◌, ◌^◌, List, [], ◌∷◌, ◌++◌, refl, sym, ap, subst, ◌∙◌, inl, append_assoc, append-nil, cond, nat_lt, Bool, true, false}
 use Rattle.std.specs.Prelude.{Some, None}
 use Rattle.std.specs.List.{AllByRecursion}
 use Rattle.std.proofs.lemmas.Bool.{ltb-true}
@@ -14,7 +14,7 @@ use Rattle.crs_buffer.specs.Entries.{released, left}
 use Rattle.crs_history.specs.Histories.{HistoryState, EndsWith, IsAfterAll, StandsFor}
 use Rattle.crs_store.specs.Stores.{StoreState, IsSameStore}
 use Rattle.crs_store.specs.Answers.{IsAdvanced}
-use Rattle.crs_engine.specs.Moves.{AreSameStores, AreOffered, HasPut, AreOfferedAll, AreSettled, IsRestOf, AreAdvanced}
+use Rattle.crs_engine.specs.Moves.{AreSameStores, AreOffered, HasPut, AreOfferedAll, IsRestOf, AreAdvanced}
 use Rattle.crs_engine.proofs.Order.{ordered_cross, ordered_without}
 
 pub same_all : (ss : List StoreState) → AreSameStores ss ss
@@ -85,12 +85,6 @@ none_out (y ∷ es) h e = by (nat_lt y.date h) e
     by true e = absurd cc
     by false e = refl
 
-pub out_small : (es : List (Entry Sym)) (h : ℕ) (x : Entry Sym) → released es h ≡ Some x → AllByRecursion IsSmall es → IsSmall x
-out_small es h x e small = (subst (AllByRecursion IsSmall) (came_out es h x e).0 small).0
-
-pub out_shorter : (es rest : List (Entry Sym)) (h : ℕ) (x : Entry Sym) → released es h ≡ Some x → rest ≡ left es h → length rest < length es
-out_shorter es rest h x e r = let a = ap length (came_out es h x e).0 in let b = ap length r in omega arith
-
 module _ (olds : List StoreState) (past : HistoryState) (held : List (Entry Sym)) (h : ℕ) (news : List StoreState) (now : HistoryState) (rest : List (Entry Sym)) (so : AreSettledSoFar olds past held h news now rest) (x : Entry Sym) (after : List (Entry Sym)) (e : released rest h ≡ Some x) (r : after ≡ left rest h) where
   cut : rest ≡ x ∷ after
   cut = (came_out rest h x e).0 ∙ ap (λ (t : List (Entry Sym)). x ∷ t) (sym r)
@@ -148,17 +142,6 @@ module _ (olds : List StoreState) (past : HistoryState) (held : List (Entry Sym)
 module _ (olds : List StoreState) (past : HistoryState) (held : List (Entry Sym)) (h : ℕ) (news : List StoreState) (now : HistoryState) (rest after : List (Entry Sym)) (so : AreSettledSoFar olds past held h news now rest) (e : released rest h ≡ None) (r : after ≡ left rest h) where
   all_left : after ≡ rest
   all_left = r ∙ none_out rest h e
-
-  pub settled_all : AllByRecursion (λ x. h ≤ x.date) rest → AreSettled olds past held h news now after
-  settled_all late =
-      subst (λ (t : List (Entry Sym)). AreSettled olds past held h news now t) (sym all_left)
-      (record { same = so.same; done = so.done; parted = so.parted; done_before = so.done_before; rest_after = late; kept = so.kept; offered = so.offered })
-
-  pub rest_after_none : IsRestOf held after
-  rest_after_none = (so.done, so.parted ∙ ap (λ (t : List (Entry Sym)). so.done ++ t) (sym all_left))
-
-  pub order_after_none : IsInKeyOrder (now.entries ++ after)
-  order_after_none = subst (λ (t : List (Entry Sym)). IsInKeyOrder (now.entries ++ t)) (sym all_left) so.order
 
 -- ---- lists of stores
 

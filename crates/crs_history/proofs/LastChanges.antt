@@ -6,7 +6,7 @@ use Rattle.crs_base.specs.declared.symbols.Sym.{Sym}
 use Rattle.crs_base.specs.Words.{IsIn}
 use Rattle.crs_base.specs.Entry.{Entry}
 use Rattle.crs_base.specs.Values.{Attribute, IsChange, IsLastChange}
-use Rattle.crs_history.proofs.Changes.{change_told}
+use Rattle.crs_history.proofs.Telling.{change_told}
 
 -- there is a last change at a date, or there is no change until then
 pub last_told : (a : Attribute Sym) (xs : List (Entry Sym)) (t : ℤ)

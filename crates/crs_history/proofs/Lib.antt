@@ -1,7 +1,10 @@
 pub mod Places
 pub mod Dates
-pub mod Changes
+pub mod Telling
 pub mod LastChanges
 pub mod Order
 pub mod Kept
 pub mod KeptFrom
+pub mod Split
+pub mod Over
+pub mod Holding

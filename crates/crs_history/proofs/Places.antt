@@ -39,6 +39,12 @@ module _ {X : Type 0} where
         let p = place_of xs m.0 m.0 m.1 in
         subst P (sym (m.2 ∙ ap f p.2)) (h p.0 m.0 p.1)
 
+    pub at_places_of : (P : Y → Type 0) (xs : List X) (d : X) → ((k : ℕ) → k < length xs → P (f (get_or xs k d))) → (y : Y) → IsIn y (map f xs) → P y
+    at_places_of P xs d h y i =
+        let m = in_map_back f xs y i in
+        let p = place_of xs m.0 d m.1 in
+        subst P (sym (m.2 ∙ ap f p.2)) (h p.0 p.1)
+
     pub place_in : (xs : List X) (k : ℕ) (d : X) → k < length xs → IsIn (f (get_or xs k d)) (map f xs)
     place_in xs k d h = in_map f xs (get_or xs k d) (in_place xs k d h)
 

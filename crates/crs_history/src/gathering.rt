@@ -1,6 +1,6 @@
 ghost use Rattle.std.specs.Prelude.{◌≡◌, ◌≤◌, ◌<◌, ℤ, length, drop, slice_index_or, true, false};
 ghost use Rattle.crs_base.specs.Seen.{entry_of};
-ghost use Rattle.crs_base.specs.Values.{IsChange};
+ghost use Rattle.crs_base.specs.Values.{IsChange, NewIs};
 ghost use Rattle.crs_history.specs.Histories.{Shared, entries_of};
 ghost use Rattle.crs_history.specs.Gathering.{IsByDate, Overtakes, IsNotOvertaken, IsKeptBefore, KeepsFrom, nat_of};
 
@@ -8,7 +8,7 @@ use crs_base::{Entry, Sym, SymList};
 use std::rc::Rc;
 
 /// The least date of an entry at or after this one.
-pub(crate) fn to_date(t: i64) -> u64
+pub fn to_date(t: i64) -> u64
     ensures { result ≡ nat_of t }
 {
     if t < 0 { 0 } else { t as u64 }
@@ -22,7 +22,7 @@ fn same_symbols(a: &[Sym], b: &[Sym]) -> bool
 }
 
 /// Whether the entry changes the attribute.
-fn changes(entry: &Entry, name: Sym, args: &SymList) -> bool
+pub fn changes(entry: &Entry, name: Sym, args: &SymList) -> bool
     ensures yes { result ≡ true → IsChange (record { name = name; args = args.now }) (entry_of entry.now) }
     ensures no { result ≡ false → IsChange (record { name = name; args = args.now }) (entry_of entry.now) → ⊥ }
 {
@@ -33,6 +33,17 @@ fn changes(entry: &Entry, name: Sym, args: &SymList) -> bool
         return false;
     }
     entry.change.is_some()
+}
+
+/// Whether the entry's new value is this one.
+pub fn brings(entry: &Entry, value: Sym) -> bool
+    ensures yes { result ≡ true → NewIs value (entry_of entry.now) }
+    ensures no { result ≡ false → NewIs value (entry_of entry.now) → ⊥ }
+{
+    match &entry.change {
+        Some((_, new)) => *new == value,
+        None => false,
+    }
 }
 
 /// Whether the other entry changes the same attribute, at a greater date before this one.

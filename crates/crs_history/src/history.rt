@@ -1,13 +1,16 @@
-ghost use Rattle.std.specs.Prelude.{◌≡◌, ◌≤◌, ◌≤ℤ◌, ◌<ℤ◌, ◌^◌, pos, neg_ℤ, [], ◌∷◌, ◌++◌, length, drop, vec_len, OnOk, OnErr, List as Items};
+ghost use Rattle.std.specs.Prelude.{◌≡◌, ◌≤◌, ◌≤ℤ◌, ◌<ℤ◌, ◌^◌, pos, neg_ℤ, [], ◌∷◌, ◌++◌, length, drop, vec_len, true, false, OnOk, OnErr, List as Items};
 ghost use Rattle.std.specs.Int.{int_max};
 ghost use Rattle.crs_base.specs.declared.symbols.Sym.{Sym};
 ghost use Rattle.crs_base.specs.Entry.{Entry as LogEntry, IsInKeyOrder};
 ghost use Rattle.crs_base.specs.Seen.{entry_of};
 ghost use Rattle.crs_base.specs.Sifted.{Sifts};
 ghost use Rattle.crs_history.specs.Histories.{IsAfterAll, IsKept, StandsFor};
+ghost use Rattle.crs_history.specs.Looking.{IsNamedIn, HasValueOver};
 
 use crate::gathering::{gather, to_date};
-use crs_base::Entry;
+use crate::looking::{holds_over, split_by_date};
+use crate::range::Range;
+use crs_base::{Entry, Sym, SymList};
 use std::alloc::{AllocError, Global};
 use std::marker::Model;
 use std::rc::Rc;
@@ -72,6 +75,25 @@ impl History {
     {
         self.items.push(entry)?;
         Ok(())
+    }
+
+    /// The held entries of the name dated from the one date on and before the other, in key order.
+    pub fn range(&self, name: Sym, from: i64, to: i64) -> Range<'_>
+        ensures held { Sifts (IsNamedIn name from to) self.now.entries result }
+        ensures stands { self.now.floor ≤ℤ from → (settled : Items (LogEntry Sym)) → StandsFor settled self.now → Sifts (IsNamedIn name from to) settled result }
+    {
+        let (_, since) = split_by_date(self.items.as_slice(), to_date(from));
+        let (items, _) = split_by_date(since, to_date(to));
+        Range { items, name }
+    }
+
+    /// Whether the attribute has the value at each date from the one on and before the other, where
+    /// the first isn't before the floor.
+    pub fn value_over(&self, name: Sym, args: &SymList, value: Sym, from: i64, to: i64) -> bool
+        ensures yes { result ≡ true → self.now.floor ≤ℤ from → (settled : Items (LogEntry Sym)) → StandsFor settled self.now → HasValueOver (record { name = name; args = args.now }) settled value from to }
+        ensures no { result ≡ false → self.now.floor ≤ℤ from → (settled : Items (LogEntry Sym)) → StandsFor settled self.now → HasValueOver (record { name = name; args = args.now }) settled value from to → ⊥ }
+    {
+        holds_over(self.items.as_slice(), name, args, value, from, to)
     }
 
     /// Raises the floor to the date, if it is lower, and drops the entries dated before the floor

@@ -3,8 +3,12 @@
 
 mod gathering;
 mod history;
+mod looking;
+mod range;
 
+pub use gathering::{brings, changes, to_date};
 pub use history::History;
+pub use range::Range;
 
 #[cfg(test)]
 mod tests;

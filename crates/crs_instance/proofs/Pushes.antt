@@ -29,9 +29,6 @@ use Rattle.crs_base.specs.Seen.{entry_of}
 use Rattle.crs_model.specs.Partial.{Partial}
 use Rattle.crs_instance.specs.Instances.{seen_entry}
 
-pub narrowed_none : (most : ℕ → ℕ → Option ℤ) (e : ℕ) (d : ℤ) (old : List DateWindow) → IsNarrowed 0 most e d old []
-narrowed_none most e d old = record { len = refl; most_at = λ r l. absurd (omega arith); least_at = λ r l. absurd (omega arith) }
-
 pub narrowed_more : (n : ℕ) (most : ℕ → ℕ → Option ℤ) (e : ℕ) (d : ℤ) (old new new2 : List DateWindow) (v w : DateWindow) → v ≡ window_at old n → IsNarrowed n most e d old new → new2 ≡ new ++ w ∷ [] →
     w.most ≡ lesser v.most (after (Some d) (most e n)) → w.least ≡ greater_of v.least (before (Some d) (most n e)) → IsNarrowed (n + 1) most e d old new2
 narrowed_more n most e d old new new2 v w is h s a b =

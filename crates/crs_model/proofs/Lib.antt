@@ -21,3 +21,8 @@ pub mod InOrder
 pub mod Settled
 pub mod Parted
 pub mod Stays
+pub mod Progressing
+pub mod Opened
+pub mod WindowLaws
+pub mod Beginning
+pub mod Reaching

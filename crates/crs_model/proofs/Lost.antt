@@ -65,7 +65,7 @@ module _ {S : Type 0} (entries more : List (Entry S)) (h g : ℕ) (later : h ≤
   above_most None P Q n m s p l i = s
   above_most (Some k) P Q n m s p l i = let r = s m p in omega arith
 
-  spoilt_not_so : (look : Binding S) (body : Body S) (from to : ℤ) → IsSpoilt entries look body from to (pos h) → IsSo (entries ++ more) look body from to → ⊥
+  pub spoilt_not_so : (look : Binding S) (body : Body S) (from to : ℤ) → IsSpoilt entries look body from to (pos h) → IsSo (entries ++ more) look body from to → ⊥
   spoilt_not_so look (NoEvent p) from to spoilt so =
       let r = count_front _ entries more 0 so in
       let z : r.0 ≡ 0 = let l = r.2 in omega arith in
@@ -81,7 +81,7 @@ module _ {S : Type 0} (entries more : List (Entry S)) (h g : ℕ) (later : h ≤
   over_still None P Q f s = s
   over_still (Some k) P Q f s = λ n q. let r = f n q in let l = s r.0 r.1 in let m = r.2 in omega arith
 
-  spoilt_grows : (look : Binding S) (body : Body S) (from to : ℤ) → IsSpoilt entries look body from to (pos h) → IsSpoilt (entries ++ more) look body from to (pos g)
+  pub spoilt_grows : (look : Binding S) (body : Body S) (from to : ℤ) → IsSpoilt entries look body from to (pos h) → IsSpoilt (entries ++ more) look body from to (pos g)
   spoilt_grows look (NoEvent p) from to spoilt = λ so. spoilt_not_so look (NoEvent p) from to spoilt so
   spoilt_grows look (Occurs least most p) from to spoilt = over_still most _ _ (λ n q. count_front _ entries more n q) spoilt
   spoilt_grows look (Hold name terms value) from to (a, v, is, inl u) = (a, v, is, inl (u.0, u.1, u.2, let k = u.3 in omega (arith, ints), λ val. u.4 (held_back a u.0 v u.3 val)))
@@ -163,7 +163,7 @@ module _ {S : Type 0} (small look : Binding S) (looser : Looser small look) wher
   body_bound_up (Hold name terms value) b = (all_bound_up terms b.0, bound_up value b.1)
 
   module _ (entries : List (Entry S)) (from to : ℤ) where
-    count_up : (p : Pattern S) (n : ℕ) → PatternIsBound small p → IsCount entries small p from to n → IsCount entries look p from to n
+    pub count_up : (p : Pattern S) (n : ℕ) → PatternIsBound small p → IsCount entries small p from to n → IsCount entries look p from to n
     count_up p n b k = count_same _ _ (λ e d. (d.0, pattern_up p e d.1)) (λ e d. (d.0, pattern_down p e b d.1)) entries n k
 
     count_down : (p : Pattern S) (n : ℕ) → PatternIsBound small p → IsCount entries look p from to n → IsCount entries small p from to n
@@ -172,7 +172,7 @@ module _ {S : Type 0} (small look : Binding S) (looser : Looser small look) wher
     held_up : (name : S) (terms : List (Term S)) (value : Term S) (a : Attribute S) (v : S) → IsHeld small name terms value a v → IsHeld look name terms value a v
     held_up name terms value a v k = record { name_is = k.name_is; args_are = terms_up terms a.args k.args_are; value_is = term_up value v k.value_is }
 
-    held_down : (name : S) (terms : List (Term S)) (value : Term S) (a : Attribute S) (v : S) → AllByRecursion (TermIsBound small) terms → TermIsBound small value → IsHeld look name terms value a v → IsHeld small name terms value a v
+    pub held_down : (name : S) (terms : List (Term S)) (value : Term S) (a : Attribute S) (v : S) → AllByRecursion (TermIsBound small) terms → TermIsBound small value → IsHeld look name terms value a v → IsHeld small name terms value a v
     held_down name terms value a v b c k = record { name_is = k.name_is; args_are = terms_down terms a.args b k.args_are; value_is = term_down value v c k.value_is }
 
     pub so_up : (body : Body S) → BodyIsBound small body → IsSo entries small body from to → IsSo entries look body from to

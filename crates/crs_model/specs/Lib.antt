@@ -14,3 +14,6 @@ pub mod Bindings
 pub mod Reach
 pub mod Plans
 pub mod Renaming
+pub mod HasProgress
+pub mod Reaches
+pub mod Ready

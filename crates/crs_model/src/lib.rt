@@ -11,6 +11,7 @@ mod matching;
 mod models;
 mod pattern;
 mod plan;
+mod progress;
 mod recognition;
 
 pub use allowing::allowed;
@@ -22,6 +23,7 @@ pub use matching::{accepts, bind_vars, fits};
 pub use models::{Kind, ModelRefused, ModelWord, Models, Name};
 pub use pattern::{Pattern, Term};
 pub use plan::{Plan, Plans};
+pub use progress::{Progress, Stretch, Verdict};
 pub use recognition::{Mark, Recognition};
 
 #[cfg(test)]

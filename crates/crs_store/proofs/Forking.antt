@@ -23,7 +23,7 @@ use Rattle.crs_model.proofs.Images.{image_more}
 use Rattle.crs_model.proofs.Parts.{put_same, put_other, clear, clear_put}
 use Rattle.crs_instance.specs.Instances.{InstanceState, IsOf, CanBe, IsAnswered, seen_entry}
 use Rattle.crs_instance.specs.declared.fit.Fit.{Fit}
-use Rattle.crs_instance.specs.declared.fit.Fit.TheVariants.{Yes, No}
+use Rattle.crs_instance.specs.declared.fit.Fit.TheVariants.{Yes}
 use Rattle.crs_instance.proofs.BindSteps.{not_matched}
 use Rattle.crs_instance.proofs.Pushes.{not_fitting}
 use Rattle.crs_store.specs.Stores.{parts, AllOf}
@@ -134,9 +134,6 @@ module _ (plan : Plan) (d : ℕ) (x : Entry Sym) where
 -- ---- one fork
 
 module _ (plan : Plan) (proper : IsProper plan) (d : ℕ) (x : Entry Sym) (i : InstanceState) (e : ℕ) where
-  never_so : (Forks plan d x i.partial e (put i.partial e x) → ⊥) → IsFork plan d x i e None
-  never_so h = h
-
   pub fork_bound : (o : Option (Rc CodeEntry Global)) (b : Bool) → seen_entry o ≡ at i.partial e → b ≡ is_some o → b ≡ true → IsFork plan d x i e None
   fork_bound None b s t u h = absurd cc
   fork_bound (Some r) b s t u h = let f : seen_entry (Some r) ≡ None = s ∙ h.0 in absurd cc
@@ -144,11 +141,6 @@ module _ (plan : Plan) (proper : IsProper plan) (d : ℕ) (x : Entry Sym) (i : I
   pub fork_unfit : IsOf plan i → e < length plan.chronicle.events → (def : EventDef Sym) → slice_get (chronicle plan).events e ≡ Some def → (b : Bool) → (IsTrue b ↔ IsFit def.pattern i.binding x) → b ≡ false → IsFork plan d x i e None
   fork_unfit of inside def is b says f h =
       not_matched plan proper i of e x inside h.0 def is (not_fitting (chronicle plan) def.pattern i.binding x (λ fit. let t = says.1 fit in absurd cc)) (h.2).0
-
-  pub fork_no : (old f : InstanceState) (y : Entry Sym) (fit : Fit) → old ≡ i → y ≡ x → fit ≡ No → IsAnswered plan old e y f fit → IsFork plan d x i e None
-  fork_no old f y fit so sy sf h k =
-      let a : IsAnswered plan old e y f No = subst (λ (t : Fit). IsAnswered plan old e y f t) sf h in
-      a.0 (subst (λ (t : InstanceState). CanBe plan (put t.partial e y)) (sym so) (subst (λ (t : Entry Sym). CanBe plan (put i.partial e t)) (sym sy) (k.2).0))
 
   module _ (old f : InstanceState) (y : Entry Sym) (fit : Fit) (so : old ≡ i) (sy : y ≡ x) (sf : fit ≡ Yes) (h : IsAnswered plan old e y f fit) where
     bound : IsOf plan f × (f.partial ≡ put i.partial e x)

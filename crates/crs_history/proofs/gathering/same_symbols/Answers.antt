@@ -1,6 +1,6 @@
 use Rattle.std.proofs.Common.{sym, ◌∙◌, true≢false}
 use Rattle.std.proofs.lemmas.Slice.Eq.{slice_eq-Decides}
-use Rattle.crs_history.proofs.Changes.{same_decides}
+use Rattle.crs_history.proofs.Telling.{same_decides}
 use Rattle.crs_history.proofs.gathering.same_symbols.Goals as goal
 
 pub returns-clause-yes : goal.returns-clause-yes

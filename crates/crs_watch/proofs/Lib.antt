@@ -1,0 +1,5 @@
+mod Terms
+mod Verdicts
+mod Counting
+mod Holds
+mod Starts

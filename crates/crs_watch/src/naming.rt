@@ -1,0 +1,40 @@
+ghost use Rattle.std.specs.Prelude.{◌≤◌, length, map};
+ghost use Rattle.std.specs.List.{AllZip, AllByRecursion};
+ghost use Rattle.crs_model.specs.Bindings.{look_of};
+ghost use Rattle.crs_model.specs.Matching.{TermIs};
+ghost use Rattle.crs_model.specs.Seen.{term_of};
+ghost use Rattle.crs_model.specs.Verdicts.{TermIsBound};
+ghost use Rattle.crs_model.specs.Ready.{NamesOne};
+
+use crs_base::{Sym, SymList};
+use crs_model::{Binding, Term};
+
+/// The symbol that a term names.
+pub(crate) fn value_of(term: Term, binding: &Binding) -> Sym
+    requires bound { TermIsBound (look_of binding.now) (term_of term) }
+    requires one { NamesOne (term_of term) }
+    ensures { TermIs (look_of binding.now) (term_of term) result }
+{
+    match term {
+        Term::Value(symbol) => symbol,
+        Term::Var(v) => match binding.get(v) {
+            Some(symbol) => symbol,
+            None => unreachable!(),
+        },
+        Term::Any => unreachable!(),
+    }
+}
+
+/// The symbols that terms name.
+pub(crate) fn args_of(terms: &[Term], binding: &Binding) -> SymList
+    requires few { length terms.now ≤ 8 }
+    requires bound { AllByRecursion (TermIsBound (look_of binding.now)) (map term_of terms.now) }
+    requires one { AllByRecursion NamesOne (map term_of terms.now) }
+    ensures { AllZip (TermIs (look_of binding.now)) (map term_of terms.now) result }
+{
+    let mut all = [Sym(0); 8];
+    for (i, term) in terms.iter().enumerate() {
+        all[i] = value_of(*term, binding);
+    }
+    SymList::from_slice(&all[..terms.len()])
+}

@@ -1,0 +1,101 @@
+ghost use Rattle.std.specs.Prelude.{◌≡◌, ◌≤◌, ◌<◌, ◌^◌, ◌≤ℤ◌, pos, [], length, IfOk, OnOk};
+
+use crate::{begin, judge, pass, settle};
+use crs_base::{Entry, List, Sym, SymList, Text};
+use crs_history::History;
+use crs_model::{Anchor, Binding, Body, Pattern, Progress, Stretch, Term, Verdict, Window};
+use std::alloc::{AllocError, Global};
+use std::rc::Rc;
+use std::test::Fail;
+
+const NEW: Progress = Progress {
+    count: 0,
+    broken: false,
+};
+
+/// An entry without arguments.
+fn entry(
+    alloc: Global,
+    date: u64,
+    name: u32,
+    change: Option<(Sym, Sym)>,
+) -> Result<Rc<Entry>, AllocError>
+    ensures { IfOk result (λ r. r.value.date ≡ date) }
+{
+    Ok(Rc::new(
+        alloc,
+        Entry {
+            arrival: 0,
+            date,
+            name: Sym(name),
+            args: SymList::from_slice(&[]),
+            change,
+            text: Text::new(alloc, b"")?,
+        },
+    )?)
+}
+
+/// A window of the body, between the dates of one event.
+fn window(body: Body) -> Window
+    ensures { result.body ≡ body }
+{
+    Window {
+        body,
+        from: Anchor {
+            event: 0,
+            offset: 1,
+        },
+        to: Anchor {
+            event: 0,
+            offset: 9,
+        },
+    }
+}
+
+#[test]
+fn no_event_is_wanted_before_the_end(rt: HostRuntime) -> Result<(), Fail> {
+    let alloc = rt.alloc();
+    let pattern = Pattern {
+        name: Sym(1),
+        terms: List::new(alloc),
+        change: None,
+    };
+    let absent = window(Body::NoEvent(pattern));
+    let binding = Binding::new(0);
+    let stretch = Stretch { from: 4, to: 12 };
+    let others = [
+        (3, 1, Verdict::Met),
+        (4, 1, Verdict::Lost),
+        (11, 1, Verdict::Lost),
+        (11, 2, Verdict::Met),
+        (12, 1, Verdict::Met),
+    ];
+    for (date, name, verdict) in others {
+        let other = entry(alloc, date, name, None)?;
+        let p = settle(&absent, &binding, stretch, NEW, &other);
+        assert!(rt; judge(&absent, stretch, p, 12) == verdict);
+    }
+    assert!(rt; judge(&absent, stretch, NEW, 11) == Verdict::Waiting);
+    Ok(())
+}
+
+#[test]
+fn a_value_holds_from_its_change_on(rt: HostRuntime) -> Result<(), Fail> {
+    let alloc = rt.alloc();
+    let held = window(Body::Hold {
+        name: Sym(0),
+        terms: List::new(alloc),
+        value: Term::Value(Sym(9)),
+    });
+    let binding = Binding::new(0);
+    let stretch = Stretch { from: 10, to: 15 };
+    let mut history = History::new(alloc);
+    let p = begin(&held, &binding, stretch, &history, 5);
+    assert!(rt; p == NEW);
+    assert!(rt; begin(&held, &binding, stretch, &history, 11).broken);
+    history.push(entry(alloc, 8, 0, Some((Sym(8), Sym(9))))?)?;
+    assert!(rt; begin(&held, &binding, stretch, &history, 20) == NEW);
+    let q = pass(&held, &binding, stretch, p, &history, 5, 20);
+    assert!(rt; judge(&held, stretch, q, 20) == Verdict::Met);
+    Ok(())
+}
