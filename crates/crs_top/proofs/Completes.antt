@@ -1,5 +1,5 @@
 -- A run that meets no fault ends well.
-use Rattle.std.proofs.Common.{◌≡◌, ◌∙◌, sym, refl, subst, ap, inl, inr, ℕ, ◌<◌, ◌≤◌, List, [], ◌∷◌, length, arith}
+use Rattle.std.proofs.Common.{◌≡◌, ◌∙◌, sym, refl, subst, ap, inl, inr, ℕ, List, [], ◌∷◌, arith}
 use Rattle.std.specs.List.{AllByRecursion}
 use Rattle.crs_desk.specs.Desk.{Told}
 use Rattle.crs_stn.specs.Bound.{IsConsistent}
@@ -13,7 +13,7 @@ use Rattle.crs_top.specs.Logs.{Tail}
 use Rattle.crs_top.specs.Run.{Most, Runs, Completes}
 use Rattle.crs_top.specs.Texts.{Frame}
 use Rattle.crs_words.specs.declared.command.Listing.{Listing}
-use Rattle.crs_top.specs.Listings.{IsListed, Prints, CompletesPrint}
+use Rattle.crs_top.specs.Listings.{Prints, CompletesPrint}
 
 none_inconsistent : (cs : List (Chronicle (List ℕ))) (line : ℕ) → AllByRecursion (λ c. IsConsistent c.bounds) cs → ClosesInconsistent cs line → ⊥
 none_inconsistent [] line h k = k

@@ -1,9 +1,9 @@
 -- A models text that is read, and then printed or refused.
-use Rattle.std.proofs.Common.{◌≡◌, ◌⊎◌, ◌∙◌, ap, sym, refl, inl, inr, ℕ, ◌+◌, ◌<◌, ◌≤◌, ◌^◌, min, List, [], ◌∷◌, ◌++◌, length, arith, append-nil, Ok, Err, Vec, cond, lt-ltb}
+use Rattle.std.proofs.Common.{◌≡◌, ◌∙◌, ap, sym, refl, inl, inr, ℕ, ◌+◌, ◌<◌, ◌≤◌, ◌^◌, List, [], ◌∷◌, ◌++◌, length, arith, append-nil, Ok, Err, Vec, cond, lt-ltb}
 use Rattle.std.proofs.Math.Seq.{take-length, get_or-append_seam, set-append_seam}
 use Rattle.std.specs.declared.alloc.Global.{Global}
 use Rattle.crs_base.specs.Lines.{lines_of}
-use Rattle.crs_desk.specs.Desk.{Told, Stream, stream_at, advanced, Opens, Wrote, Rises}
+use Rattle.crs_desk.specs.Desk.{Told, Stream, stream_at, advanced, Opens, Wrote}
 use Rattle.crs_desk.specs.ReadAll.{ReadsAll}
 use Rattle.crs_desk.specs.declared.turn.Turn.{Turn}
 use Rattle.crs_desk.specs.declared.desk.DeskError.TheVariants as errors
@@ -18,7 +18,8 @@ use Rattle.crs_report.specs.Lines.{model_line}
 use Rattle.crs_top.specs.declared.status.Status.{Status}
 use Rattle.crs_top.specs.declared.status.Status.TheVariants.{Done, Refusals, Words, Rejected, ReadFault, WriteFault, Memory, TooLong}
 use Rattle.crs_top.specs.Inputs.{bytes_of, after, Opened, IsRead}
-use Rattle.crs_top.specs.Loads.{AreTaken, IsTooLong, ModelsOutcome, EndsWithModels, Loaded, LoadsModels, Says, Refuses}
+use Rattle.crs_top.specs.Loads.{AreTaken, IsTooLong, ModelsOutcome, EndsWithModels, Loaded, LoadsModels, Refuses}
+use Rattle.crs_top.specs.Logs.{Says}
 use Rattle.crs_top.specs.Models.{IsFaulty}
 
 -- a text of more than 2^20 bytes is refused by its size

@@ -1,5 +1,5 @@
 -- A log, read by read.
-use Rattle.std.proofs.Common.{◌≡◌, ◌⊎◌, ◌∙◌, ap, sym, refl, subst, inl, inr, ℕ, ◌+◌, ◌-◌, ◌<◌, ◌≤◌, min, Bool, false, List, [], ◌∷◌, ◌++◌, length, take, drop, arith, add-zero, append-nil, append_assoc, length-append, length-take-le, Ok, Err, Result}
+use Rattle.std.proofs.Common.{◌≡◌, ◌⊎◌, ◌∙◌, ap, sym, refl, subst, inl, inr, ℕ, ◌+◌, ◌-◌, ◌<◌, ◌≤◌, min, Bool, true, false, List, [], ◌∷◌, ◌++◌, length, take, drop, arith, add-zero, append-nil, append_assoc, length-append, length-take-le, Ok, Err}
 use Rattle.std.proofs.lemmas.List.{length-drop, take-append-le}
 use Rattle.std.proofs.Math.Seq.{take-add, take-length, take-append-add}
 use Rattle.std.specs.List.{AllByRecursion}
@@ -12,13 +12,13 @@ use Rattle.crs_desk.proofs.Calls.{took_none, stream_after, advanced_twice, rises
 use Rattle.crs_log.specs.Reading.{Reader, Given, HasGiven, HasNoLine, given, given_lines, ahead, whole_lines}
 use Rattle.crs_log.specs.Run.{at_start}
 use Rattle.crs_log.proofs.Prompt.{told_whole}
-use Rattle.crs_top.specs.declared.log.Stop.TheVariants as stops
-use Rattle.crs_top.specs.declared.log.Stop.{Stop}
+use Rattle.crs_top.specs.declared.status.Status.TheVariants as stops
+use Rattle.crs_top.specs.declared.status.Status.{Status}
 use Rattle.crs_top.specs.declared.session.Session.{Session}
 use Rattle.crs_top.specs.Session.{Represents}
 use Rattle.crs_top.specs.Taking.{after_all, refuses_some, Takes, IsGivenText}
 use Rattle.crs_top.specs.Texts.{Frame, setting_of, IsWholeText, IsLogText, some_refused}
-use Rattle.crs_top.specs.Logs.{no_tail, IsEndedText, Appends, IsPrompt, IsPromptAt, IsCutShort, Ended, HasReadLog, TakesPiece, TakesRest, Finishes}
+use Rattle.crs_top.specs.Logs.{no_tail, IsEndedText, Appends, IsPrompt, IsPromptAt, IsCutShort, LogOutcome, HasReadLog, TakesPiece, TakesRest, ended_as, Finishes}
 use Rattle.crs_top.proofs.Taken.{takes_none, takes_append, given_text, given_refused}
 
 -- the lines of the first t bytes were given, and the reader stands behind them
@@ -170,10 +170,10 @@ module _ (f : Frame) (old : Told) (i : ℕ) (lt : i < length old.left) (z : (str
       }
 
   -- the stops
-  reads_log : (new : Told) (limit t : ℕ) (more : List Turn) (e : _) → Base f old i t more new → Rises i 0 (t + 1) more → AllByRecursion (HasRoom limit) more → t ≤ limit → Ended no_tail f old.written log limit t (Err e) new.written → HasReadLog no_tail f old i limit (Err e) new
-  reads_log new limit t more e b r rooms most end = (t, more, record { files = b.files; opened = b.opened; left = b.left; within = b.within; turns = b.turns; rises = r; rooms = rooms; most = most; prompt = b.prompt; ended = end })
+  reads_log : (new : Told) (limit t : ℕ) (more : List Turn) (e : Status) → Base f old i t more new → Rises i 0 (t + 1) more → AllByRecursion (HasRoom limit) more → t ≤ limit → LogOutcome no_tail f log limit t old.written e new.written → HasReadLog no_tail f old i limit e new
+  reads_log new limit t more e b r rooms most end = (t, more, record { files = b.files; opened = b.opened; left = b.left; within = b.within; turns = b.turns; rises = r; rooms = rooms; most = most; prompt = b.prompt; outcome = end })
 
-  pub stop_failed : (mid new : Told) (limit t : ℕ) (x : Session) (lines : Reader) (buf : List ℕ) → Reading f old i limit t x lines mid → Reads mid i (Err errors.Failed) buf new → length buf ≡ min 4096 (limit - t) → t < limit → HasReadLog no_tail f old i limit (Err stops.ReadFault) new
+  pub stop_failed : (mid new : Told) (limit t : ℕ) (x : Session) (lines : Reader) (buf : List ℕ) → Reading f old i limit t x lines mid → Reads mid i (Err errors.Failed) buf new → length buf ≡ min 4096 (limit - t) → t < limit → HasReadLog no_tail f old i limit stops.ReadFault new
   stop_failed mid new limit t x lines buf h r room below =
       let a = appends f old i limit t x lines mid h in
       reads_log new limit t (h.more ++ turn_of mid i (length buf) ∷ []) stops.ReadFault
@@ -190,7 +190,7 @@ module _ (f : Frame) (old : Told) (i : ℕ) (lt : i < length old.left) (z : (str
       h.most
       (below, (a.0, a.1, r.written ∙ a.2))
 
-  pub stop_refused : (mid new : Told) (limit t : ℕ) (x : Session) (lines : Reader) (buf : List ℕ) → Reading f old i limit t x lines mid → Reads mid i (Err errors.Memory) buf new → HasReadLog no_tail f old i limit (Err stops.Memory) new
+  pub stop_refused : (mid new : Told) (limit t : ℕ) (x : Session) (lines : Reader) (buf : List ℕ) → Reading f old i limit t x lines mid → Reads mid i (Err errors.Memory) buf new → HasReadLog no_tail f old i limit stops.Memory new
   stop_refused mid new limit t x lines buf h r =
       let a = appends f old i limit t x lines mid h in
       reads_log new limit t h.more stops.Memory
@@ -207,13 +207,13 @@ module _ (f : Frame) (old : Told) (i : ℕ) (lt : i < length old.left) (z : (str
       h.most
       (inl (t, omega arith, (a.0, length a.0, a.1, r.written ∙ a.2 ∙ rw take-length refl)))
 
-  pub stop_long : (now : Told) (limit t : ℕ) (x : Session) (lines : Reader) → Reading f old i limit t x lines now → t ≡ limit → HasReadLog no_tail f old i limit (Err stops.TooLong) now
+  pub stop_long : (now : Told) (limit t : ℕ) (x : Session) (lines : Reader) → Reading f old i limit t x lines now → t ≡ limit → HasReadLog no_tail f old i limit stops.TooLong now
   stop_long now limit t x lines h e =
       reads_log now limit t h.more stops.TooLong h.base (rises_weaker _ _ _ _ _ h.rises (omega arith)) h.rooms h.most (e, appends f old i limit t x lines now h)
 
   -- the write or the memory failed, with k bytes of the piece's text written
-  cut_short : (mid new last : Told) (limit t n : ℕ) (x y : Session) (lines : Reader) (buf text : List ℕ) (stop : Stop) → (stop ≡ stops.WriteFault) ⊎ (stop ≡ stops.Memory)
-      → (h : Reading f old i limit t x lines mid) → Reads mid i (Ok n) buf new → length buf ≡ min 4096 (limit - t) → n ≤ length buf → 0 < n → (k : ℕ) → Wrote new text k last → IsCutShort no_tail f log (t + n) old.written last.written → HasReadLog no_tail f old i limit (Err stop) last
+  cut_short : (mid new last : Told) (limit t n : ℕ) (x y : Session) (lines : Reader) (buf text : List ℕ) (stop : Status) → (stop ≡ stops.WriteFault) ⊎ (stop ≡ stops.Memory)
+      → (h : Reading f old i limit t x lines mid) → Reads mid i (Ok n) buf new → length buf ≡ min 4096 (limit - t) → n ≤ length buf → 0 < n → (k : ℕ) → Wrote new text k last → IsCutShort no_tail f log (t + n) old.written last.written → HasReadLog no_tail f old i limit stop last
   cut_short mid new last limit t n x y lines buf text stop either h r room few pos k w cut =
       let b = base_write new last (t + n) k (h.more ++ turn_of mid i (length buf) ∷ []) text (base_read mid new limit t n x lines buf h r) w in
       let up : Rises i 0 (t + n + 1) (h.more ++ turn_of mid i (length buf) ∷ []) = rises_weaker _ _ _ _ _ (rises_turn mid limit t (length buf) x lines h) (omega arith) in
@@ -224,8 +224,8 @@ module _ (f : Frame) (old : Told) (i : ℕ) (lt : i < length old.left) (z : (str
         | inr e ↦ rw e (reads_log last limit (t + n) (h.more ++ turn_of mid i (length buf) ∷ []) stops.Memory b up rooms few_all cut)
       ]
 
-  pub stop_write : (mid new last : Told) (limit t n : ℕ) (x y : Session) (lines now : Reader) (buf text : List ℕ) (stop : Stop) → (stop ≡ stops.WriteFault) ⊎ (stop ≡ stops.Memory)
-      → (h : Reading f old i limit t x lines mid) → Reads mid i (Ok n) buf new → length buf ≡ min 4096 (limit - t) → n ≤ length buf → 0 < n → (p : TakesPiece lines now x y (take n buf) text) → (k : ℕ) → Wrote new text k last → HasReadLog no_tail f old i limit (Err stop) last
+  pub stop_write : (mid new last : Told) (limit t n : ℕ) (x y : Session) (lines now : Reader) (buf text : List ℕ) (stop : Status) → (stop ≡ stops.WriteFault) ⊎ (stop ≡ stops.Memory)
+      → (h : Reading f old i limit t x lines mid) → Reads mid i (Ok n) buf new → length buf ≡ min 4096 (limit - t) → n ≤ length buf → 0 < n → (p : TakesPiece lines now x y (take n buf) text) → (k : ℕ) → Wrote new text k last → HasReadLog no_tail f old i limit stop last
   stop_write mid new last limit t n x y lines now buf text stop either h r room few pos p k w =
       let piece = piece_is mid new limit t n x lines buf h r in
       let at : IsAt (t + n) (take (t + n) log) now (h.told ++ p.told) =
@@ -244,7 +244,7 @@ module _ (f : Frame) (old : Told) (i : ℕ) (lt : i < length old.left) (z : (str
       ))
 
   -- memory was wanting before the piece's text was made
-  pub stop_piece : (mid new : Told) (limit t n : ℕ) (x : Session) (lines : Reader) (buf : List ℕ) → (h : Reading f old i limit t x lines mid) → Reads mid i (Ok n) buf new → length buf ≡ min 4096 (limit - t) → n ≤ length buf → 0 < n → HasReadLog no_tail f old i limit (Err stops.Memory) new
+  pub stop_piece : (mid new : Told) (limit t n : ℕ) (x : Session) (lines : Reader) (buf : List ℕ) → (h : Reading f old i limit t x lines mid) → Reads mid i (Ok n) buf new → length buf ≡ min 4096 (limit - t) → n ≤ length buf → 0 < n → HasReadLog no_tail f old i limit stops.Memory new
   stop_piece mid new limit t n x lines buf h r room few pos =
       let a = appends f old i limit t x lines mid h in
       cut_short mid new new limit t n x x lines buf [] stops.Memory (inr refl) h r room few pos 0
@@ -262,8 +262,8 @@ module _ (f : Frame) (old : Told) (i : ℕ) (lt : i < length old.left) (z : (str
     all_is : take t log ≡ log
     all_is = rw all_read (take-length log)
 
-    at_end : (last : Told) (k : ℕ) (text : List ℕ) (result : Result Bool Stop) → Wrote new text k last → Ended no_tail f old.written log limit t result last.written → HasReadLog no_tail f old i limit result last
-    at_end last k text result w ended =
+    at_end : (last : Told) (k : ℕ) (text : List ℕ) (status : Status) → Wrote new text k last → LogOutcome no_tail f log limit t old.written status last.written → HasReadLog no_tail f old i limit status last
+    at_end last k text status w outcome =
         let b : Base f old i t (h.more ++ turn_of mid i (length buf) ∷ []) new = rw add-zero at (base_read mid new limit t 0 x lines buf h r) in
         let c = base_write new last t k (h.more ++ turn_of mid i (length buf) ∷ []) text b w in (
           t,
@@ -278,7 +278,7 @@ module _ (f : Frame) (old : Told) (i : ℕ) (lt : i < length old.left) (z : (str
             rooms = rooms_turn mid limit t (length buf) x lines h room;
             most = h.most;
             prompt = c.prompt;
-            ended = ended;
+            outcome = outcome;
           },
         )
 
@@ -305,27 +305,32 @@ module _ (f : Frame) (old : Told) (i : ℕ) (lt : i < length old.left) (z : (str
       written_front : (last : Told) (k : ℕ) → Wrote new text k last → last.written ≡ old.written ++ take (length h.text + k) (h.text ++ text)
       written_front last k w = w.written ∙ rw (r.written, h.written, append_assoc) (ap (λ (y : List ℕ). old.written ++ y) (sym (take-append-add h.text text k)))
 
-      pub end_done : (last : Told) → t < limit → Wrote new text (length text) last → HasReadLog no_tail f old i limit (Ok y.refused) last
-      end_done last below w = at_end last (length text) text (Ok y.refused) w
-          (all_read, below, (h.text ++ text, ended_text, w.written ∙ rw (r.written, h.written, append_assoc) (ap (λ (y : List ℕ). old.written ++ (h.text ++ y)) (take-length text))), log_refused)
+      done_outcome : (refused : Bool) → refused ≡ some_refused f log → (last : List ℕ) → t < limit → Appends (IsEndedText no_tail f log) old.written last → LogOutcome no_tail f log limit t old.written (ended_as refused) last
+      done_outcome true e last below a = (all_read, below, a, sym e)
+      done_outcome false e last below a = (all_read, below, a, sym e)
 
-      pub end_stopped : (last : Told) (k : ℕ) (stop : Stop) → (stop ≡ stops.WriteFault) ⊎ (stop ≡ stops.Memory) → Wrote new text k last → HasReadLog no_tail f old i limit (Err stop) last
+      pub end_done : (last : Told) → t < limit → Wrote new text (length text) last → HasReadLog no_tail f old i limit (ended_as y.refused) last
+      end_done last below w = at_end last (length text) text (ended_as y.refused) w
+          (done_outcome y.refused log_refused last.written below
+          (h.text ++ text, ended_text, w.written ∙ rw (r.written, h.written, append_assoc) (ap (λ (y : List ℕ). old.written ++ (h.text ++ y)) (take-length text))))
+
+      pub end_stopped : (last : Told) (k : ℕ) (stop : Status) → (stop ≡ stops.WriteFault) ⊎ (stop ≡ stops.Memory) → Wrote new text k last → HasReadLog no_tail f old i limit stop last
       end_stopped last k stop either w =
           let cut : IsCutShort no_tail f log t old.written last.written = inr (all_read, (h.text ++ text, length h.text + k, ended_text, written_front last k w)) in
           elim either [
-            | inl e ↦ rw e (at_end last k text (Err stops.WriteFault) w cut)
-            | inr e ↦ rw e (at_end last k text (Err stops.Memory) w cut)
+            | inl e ↦ rw e (at_end last k text stops.WriteFault w cut)
+            | inr e ↦ rw e (at_end last k text stops.Memory w cut)
           ]
 
     -- memory was wanting before the last line's text was made
-    pub end_refused : HasReadLog no_tail f old i limit (Err stops.Memory) new
+    pub end_refused : HasReadLog no_tail f old i limit stops.Memory new
     end_refused =
         let a = appends f old i limit t x lines mid h in
-        at_end new 0 [] (Err stops.Memory) (record { files = refl; opened = refl; left = refl; turns = refl; within = omega arith; written = sym (append-nil new.written) })
+        at_end new 0 [] stops.Memory (record { files = refl; opened = refl; left = refl; turns = refl; within = omega arith; written = sym (append-nil new.written) })
         (inl (t, omega arith, (a.0, length a.0, a.1, r.written ∙ a.2 ∙ rw take-length refl)))
 
 -- nothing was read
-pub stop_before : (f : Frame) (t : Told) (i limit : ℕ) → HasReadLog no_tail f t i limit (Err stops.Memory) t
+pub stop_before : (f : Frame) (t : Told) (i limit : ℕ) → HasReadLog no_tail f t i limit stops.Memory t
 stop_before f t i limit = (
   0,
   [],
@@ -339,24 +344,19 @@ stop_before f t i limit = (
     rooms = tt;
     most = omega arith;
     prompt = tt;
-    ended = inl (0, omega arith, ([], 0, refl, sym (append-nil t.written)));
+    outcome = inl (0, omega arith, ([], 0, refl, sym (append-nil t.written)));
   },
 )
 
 -- where the rest was taken and written, or the write or the memory failed
-pub end_by : (f : Frame) (old mid new last : Told) (i limit t n : ℕ) (x : Session) (lines : Reader) (buf : List ℕ) (result : Result Bool Stop) → i < length old.left → (stream_at old.left i).taken ≡ 0 → Reading f old i limit t x lines mid
-    → Reads mid i (Ok n) buf new → length buf ≡ min 4096 (limit - t) → n ≡ 0 → t < limit → Finishes new x lines result last → HasReadLog no_tail f old i limit result last
-end_by f old mid new last i limit t n x lines buf (Ok refused) lt z h r room zero below e =
+pub end_by : (f : Frame) (old mid new last : Told) (i limit t n : ℕ) (x : Session) (lines : Reader) (buf : List ℕ) (status : Status) → i < length old.left → (stream_at old.left i).taken ≡ 0 → Reading f old i limit t x lines mid
+    → Reads mid i (Ok n) buf new → length buf ≡ min 4096 (limit - t) → n ≡ 0 → t < limit → Finishes new x lines status last → HasReadLog no_tail f old i limit status last
+end_by f old mid new last i limit t n x lines buf status lt z h r room zero below (inl e) =
     let r0 : Reads mid i (Ok 0) buf new = subst (λ (k : ℕ). Reads mid i (Ok k) buf new) zero r in
-    subst (λ (b : Bool). HasReadLog no_tail f old i limit (Ok b) last) (sym e.4) (end_done f old i lt z mid new limit t x lines buf h r0 room e.0 e.1 e.2 last below e.3)
-end_by f old mid new last i limit t n x lines buf (Err stops.TooLong) lt z h r room zero below e = absurd e
-end_by f old mid new last i limit t n x lines buf (Err stops.ReadFault) lt z h r room zero below e = absurd e
-end_by f old mid new last i limit t n x lines buf (Err stops.WriteFault) lt z h r room zero below e =
+    rw (e.0, e.1) (end_refused f old i lt z mid new limit t x lines buf h r0 room)
+end_by f old mid new last i limit t n x lines buf status lt z h r room zero below (inr e) =
     let r0 : Reads mid i (Ok 0) buf new = subst (λ (k : ℕ). Reads mid i (Ok k) buf new) zero r in
-    end_stopped f old i lt z mid new limit t x lines buf h r0 room e.0 e.1 e.3 last e.2 stops.WriteFault (inl refl) e.4
-end_by f old mid new last i limit t n x lines buf (Err stops.Memory) lt z h r room zero below (inl same) =
-    let r0 : Reads mid i (Ok 0) buf new = subst (λ (k : ℕ). Reads mid i (Ok k) buf new) zero r in
-    subst (λ (d : Told). HasReadLog no_tail f old i limit (Err stops.Memory) d) (sym same) (end_refused f old i lt z mid new limit t x lines buf h r0 room)
-end_by f old mid new last i limit t n x lines buf (Err stops.Memory) lt z h r room zero below (inr e) =
-    let r0 : Reads mid i (Ok 0) buf new = subst (λ (k : ℕ). Reads mid i (Ok k) buf new) zero r in
-    end_stopped f old i lt z mid new limit t x lines buf h r0 room e.0 e.1 e.3 last e.2 stops.Memory (inr refl) e.4
+    elim e.3 [
+      | inl s ↦ rw s.0 (end_done f old i lt z mid new limit t x lines buf h r0 room e.0 e.1 e.2 last below s.1)
+      | inr s ↦ end_stopped f old i lt z mid new limit t x lines buf h r0 room e.0 e.1 e.2 last s.1.0 status s.0 s.1.1
+    ]

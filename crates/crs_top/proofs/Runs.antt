@@ -1,17 +1,16 @@
 -- The whole of a run, by its parts.
-use Rattle.std.proofs.Common.{◌≡◌, ◌⊎◌, ◌∙◌, ap, sym, refl, inl, inr, ℕ, ◌+◌, ◌<◌, ◌≤◌, List, [], ◌∷◌, ◌++◌, length, take, arith, append-nil, append_assoc, add-one}
+use Rattle.std.proofs.Common.{◌≡◌, ◌∙◌, ap, sym, refl, inl, inr, ℕ, ◌+◌, ◌<◌, ◌≤◌, List, [], ◌∷◌, ◌++◌, length, arith, append-nil, append_assoc, add-one}
 use Rattle.std.specs.Option.{unwrap_or}
 use Rattle.std.proofs.lemmas.List.{take-append-le}
 use Rattle.crs_desk.specs.Desk.{Told, Stream, file_of}
 use Rattle.crs_desk.specs.declared.turn.Turn.{Turn}
-use Rattle.crs_model.specs.declared.models.ModelWord.{ModelWord}
 use Rattle.crs_top.specs.declared.status.Status.{Status}
 use Rattle.crs_top.specs.declared.status.Status.TheVariants.{Done, Refusals, Words, Rejected, ReadFault, WriteFault, Memory, TooLong}
 use Rattle.crs_top.specs.Inputs.{bytes_of, after}
 use Rattle.crs_top.specs.Loads.{ModelsOutcome, EndsWithModels, Loaded}
-use Rattle.crs_top.specs.Logs.{Tail}
+use Rattle.crs_top.specs.Logs.{Tail, LogOutcome}
 use Rattle.crs_top.specs.Models.{IsAccepted, IsRejected}
-use Rattle.crs_top.specs.Run.{Most, Outcome, Runs, LogOutcome, Followed}
+use Rattle.crs_top.specs.Run.{Most, Outcome, Runs, FollowOutcome, Followed}
 use Rattle.crs_top.specs.Texts.{Frame}
 use Rattle.crs_top.proofs.Loads.{nothing_read_of}
 
@@ -71,17 +70,23 @@ run_ended base now tail most old new models log status h =
       },
     )
 
+read_outcome : (tail : Tail) (most : Most) (f : Frame) (models log : List ℕ) (n i k t : ℕ) (old new : List ℕ) (status : Status) → n ≡ 2 → IsAccepted most.symbols most.entries models f → k ≡ length models
+    → LogOutcome tail f log most.bytes t old status new → Outcome tail most models log n i k t old status new
+read_outcome tail most f models log n i k t old new Done two a e o = (two, o.0, o.1, (f, a, e, (o.2, o.3)))
+read_outcome tail most f models log n i k t old new Refusals two a e o = (two, o.0, o.1, (f, a, e, (o.2, o.3)))
+read_outcome tail most f models log n i k t old new Words two a e o = absurd o
+read_outcome tail most f models log n i k t old new Rejected two a e o = absurd o
+read_outcome tail most f models log n i k t old new ReadFault two a e o = inr (two, (λ _. o.0), (f, a, e, o.1))
+read_outcome tail most f models log n i k t old new TooLong two a e o = (two, o.0, (f, a, e, o.1))
+read_outcome tail most f models log n i k t old new WriteFault two a e o = inl (two, (f, a, e, o))
+read_outcome tail most f models log n i k t old new Memory two a e o = inr (inl (two, (f, a, e, o)))
+
 followed_outcome : (tail : Tail) (most : Most) (f : Frame) (models log : List ℕ) (n i k t : ℕ) (old new : List ℕ) (status : Status) → IsAccepted most.symbols most.entries models f → k ≡ length models
-    → LogOutcome tail f log most.bytes n i t old status new → Outcome tail most models log (n + 1) (i + 1) k t old status new
-followed_outcome tail most f models log n i k t old new Done a e o = (omega (arith, o.0), o.1, o.2, (f, a, e, (o.3, o.4)))
-followed_outcome tail most f models log n i k t old new Refusals a e o = (omega (arith, o.0), o.1, o.2, (f, a, e, (o.3, o.4)))
-followed_outcome tail most f models log n i k t old new Words a e o = absurd o
-followed_outcome tail most f models log n i k t old new Rejected a e o = absurd o
-followed_outcome tail most f models log n i k t old new ReadFault a e o = inr (omega (arith, o.0), (λ h. o.1 (omega (arith, h))), (f, a, e, o.2))
-followed_outcome tail most f models log n i k t old new TooLong a e o = (omega (arith, o.0), o.1, (f, a, e, o.2))
-followed_outcome tail most f models log n i k t old new WriteFault a e o = inl (omega (arith, o.0), (f, a, e, o.1))
-followed_outcome tail most f models log n i k t old new Memory a e (inl o) = inl o
-followed_outcome tail most f models log n i k t old new Memory a e (inr o) = inr (inl (omega (arith, o.0), (f, a, e, o.1)))
+    → FollowOutcome tail f log most.bytes n i t old status new → Outcome tail most models log (n + 1) (i + 1) k t old status new
+followed_outcome tail most f models log n i k t old new status a e (inl o) = read_outcome tail most f models log (n + 1) (i + 1) k t old new status (omega (arith, o.0)) a e o.2
+followed_outcome tail most f models log n i k t old new status a e (inr (inl o)) =
+    rw (o.3) (inr (omega (arith, o.0), (λ h. absurd (omega (arith, o.1, h))), (f, a, e, ([], rw (o.2) refl, o.4 ∙ sym (append-nil old)))))
+followed_outcome tail most f models log n i k t old new status a e (inr (inr o)) = rw (o.1) (inl o.2)
 
 pub run_followed : (base now mid_count : ℕ) (tail : Tail) (most : Most) (f : Frame) (old mid new : Told) (models log : List ℕ) (k n i t : ℕ) (more turns : List Turn) (status : Status) → Loaded base mid_count old models 1 1 k more mid
     → k ≡ length (bytes_of old models) → IsAccepted most.symbols most.entries (bytes_of old models) f → Followed mid_count now tail f most.bytes mid log n i t turns status new → Runs base now tail most old models log status new

@@ -3,9 +3,8 @@ use Rattle.std.specs.Prelude.{◌≡◌, ◌⊎◌, ℕ, Option, Some, None}
 use Rattle.crs_desk.specs.Desk.{Told}
 use Rattle.crs_top.specs.declared.status.Status.{Status}
 use Rattle.crs_top.specs.declared.status.Status.TheVariants.{Words, Memory}
-use Rattle.crs_top.specs.Loads.{Says}
 use Rattle.crs_words.specs.Commands.{Command, Run, Print, usage_text}
-use Rattle.crs_top.specs.Logs.{no_tail}
+use Rattle.crs_top.specs.Logs.{no_tail, Says}
 use Rattle.crs_top.specs.Run.{Most, Runs, Completes}
 use Rattle.crs_top.specs.Listings.{Prints, CompletesPrint}
 

@@ -1,7 +1,7 @@
 -- A models text that is read, and then printed or refused.
 use Rattle.std.specs.Prelude.{◌≡◌, ◌⊎◌, ℕ, ◌+◌, ◌<◌, ◌≤◌, ◌^◌, min, List, [], ◌∷◌, ◌++◌, length, take, Result, Ok, Err, Vec}
 use Rattle.std.specs.declared.alloc.Global.{Global}
-use Rattle.crs_desk.specs.Desk.{Told, Wrote}
+use Rattle.crs_desk.specs.Desk.{Told}
 use Rattle.crs_desk.specs.declared.turn.Turn.{Turn}
 use Rattle.crs_model.specs.declared.models.ModelWord.{ModelWord}
 use Rattle.crs_model.specs.declared.models.ModelWord.TheVariants.{Size}
@@ -11,7 +11,7 @@ use Rattle.crs_report.specs.Lines.{model_line}
 use Rattle.crs_top.specs.declared.status.Status.{Status}
 use Rattle.crs_top.specs.declared.status.Status.TheVariants.{Done, Refusals, Words, Rejected, ReadFault, WriteFault, Memory, TooLong}
 use Rattle.crs_top.specs.Inputs.{bytes_of, after, Opened, IsRead}
-use Rattle.crs_top.specs.Logs.{Appends, AppendsFront}
+use Rattle.crs_top.specs.Logs.{Appends, AppendsFront, Says}
 
 -- all bytes of the models were taken, or one more than a models text may have
 abbrev pub AreTaken : List ℕ → ℕ → Type 0
@@ -64,11 +64,6 @@ abbrev pub LoadsModels : ℕ → ℕ → Told → List ℕ → Result (Vec ℕ G
 LoadsModels base now old models (Ok v) new =
     (more : List Turn) × Loaded base now old models 1 1 (length v.items) more new × (v.items ≡ bytes_of old models) × (length v.items ≤ 2 ^ 20)
 LoadsModels base now old models (Err status) new = EndsWithModels base now (λ text. ⊥) (IsTooLong (bytes_of old models)) old models status new
-
--- the text is written, and the status is this one; or a front of it is, after a write fault or for want of memory
-abbrev pub Says : Status → Told → List ℕ → Status → Told → Type 0
-Says done old text status new =
-    ((status ≡ done) × Wrote old text (length text) new) ⊎ (((status ≡ WriteFault) ⊎ (status ≡ Memory)) × ((k : ℕ) × Wrote old text k new))
 
 -- the line of the refused models is written so, and for want of memory nothing
 abbrev pub Refuses : Told → ModelRefused → Status → Told → Type 0

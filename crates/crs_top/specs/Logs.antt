@@ -1,12 +1,12 @@
 -- Reading a log to its end, and writing as it comes.
-use Rattle.std.specs.Prelude.{◌≡◌, ◌⊎◌, ℕ, ◌+◌, ◌<◌, ◌≤◌, Bool, List, [], ◌∷◌, ◌++◌, length, take, Result, Ok, Err}
+use Rattle.std.specs.Prelude.{◌≡◌, ◌⊎◌, ℕ, ◌+◌, ◌<◌, ◌≤◌, Bool, true, false, List, [], ◌∷◌, ◌++◌, length, take}
 use Rattle.std.specs.List.{AllByRecursion}
 use Rattle.crs_desk.specs.Desk.{Told, stream_at, advanced, Rises, HasRoom, Wrote}
 use Rattle.crs_desk.specs.declared.turn.Turn.{Turn}
 use Rattle.crs_log.specs.Reading.{Reader, Given, HasNoLine, ahead}
 use Rattle.crs_log.specs.Run.{State}
-use Rattle.crs_top.specs.declared.log.Stop.{Stop}
-use Rattle.crs_top.specs.declared.log.Stop.TheVariants.{ReadFault, WriteFault, Memory, TooLong}
+use Rattle.crs_top.specs.declared.status.Status.{Status}
+use Rattle.crs_top.specs.declared.status.Status.TheVariants.{Done, Refusals, Words, Rejected, ReadFault, WriteFault, Memory, TooLong}
 use Rattle.crs_top.specs.declared.session.Session.{Session}
 use Rattle.crs_top.specs.Session.{Represents}
 use Rattle.crs_top.specs.Taking.{Takes}
@@ -45,16 +45,19 @@ abbrev pub IsCutShort : Tail → Frame → List ℕ → ℕ → List ℕ → Lis
 IsCutShort tail f log t old new =
     ((u : ℕ) × (u ≤ t) × AppendsFront (IsWholeText f (take u log)) old new) ⊎ ((t ≡ length log) × AppendsFront (IsEndedText tail f log) old new)
 
--- what was written when t bytes of the log were read, and how it ended; Ok tells whether some line was refused
-abbrev pub Ended : Tail → Frame → List ℕ → List ℕ → ℕ → ℕ → Result Bool Stop → List ℕ → Type 0
-Ended tail f old log limit t (Ok refused) new = (t ≡ length log) × (t < limit) × Appends (IsEndedText tail f log) old new × (refused ≡ some_refused f log)
-Ended tail f old log limit t (Err ReadFault) new = (t < limit) × Appends (IsWholeText f (take t log)) old new
-Ended tail f old log limit t (Err TooLong) new = (t ≡ limit) × Appends (IsWholeText f (take t log)) old new
-Ended tail f old log limit t (Err WriteFault) new = IsCutShort tail f log t old new
-Ended tail f old log limit t (Err Memory) new = IsCutShort tail f log t old new
+-- What holds at each status of a log that was opened, of which t bytes were read, and what was written.
+abbrev pub LogOutcome : Tail → Frame → List ℕ → ℕ → ℕ → List ℕ → Status → List ℕ → Type 0
+LogOutcome tail f log limit t old Done new = (t ≡ length log) × (t < limit) × Appends (IsEndedText tail f log) old new × (some_refused f log ≡ false)
+LogOutcome tail f log limit t old Refusals new = (t ≡ length log) × (t < limit) × Appends (IsEndedText tail f log) old new × (some_refused f log ≡ true)
+LogOutcome tail f log limit t old Words new = ⊥
+LogOutcome tail f log limit t old Rejected new = ⊥
+LogOutcome tail f log limit t old ReadFault new = (t < limit) × Appends (IsWholeText f (take t log)) old new
+LogOutcome tail f log limit t old TooLong new = (t ≡ limit) × Appends (IsWholeText f (take t log)) old new
+LogOutcome tail f log limit t old WriteFault new = IsCutShort tail f log t old new
+LogOutcome tail f log limit t old Memory new = IsCutShort tail f log t old new
 
 -- t bytes of a log that was just opened were read, in rising and prompt turns, each with the room that is left to the limit
-pub record ReadsLog (tail : Tail) (f : Frame) (old : Told) (input limit t : ℕ) (more : List Turn) (result : Result Bool Stop) (new : Told) : Type 0 where
+pub record ReadsLog (tail : Tail) (f : Frame) (old : Told) (input limit t : ℕ) (more : List Turn) (status : Status) (new : Told) : Type 0 where
   pub files : new.files ≡ old.files
   pub opened : new.opened ≡ old.opened
   pub left : new.left ≡ advanced old.left input t
@@ -64,10 +67,10 @@ pub record ReadsLog (tail : Tail) (f : Frame) (old : Told) (input limit t : ℕ)
   pub rooms : AllByRecursion (HasRoom limit) more
   pub most : t ≤ limit
   pub prompt : IsPrompt f old.written (stream_at old.left input).rest new.written more
-  pub ended : Ended tail f old.written (stream_at old.left input).rest limit t result new.written
+  pub outcome : LogOutcome tail f (stream_at old.left input).rest limit t old.written status new.written
 
-abbrev pub HasReadLog : Tail → Frame → Told → ℕ → ℕ → Result Bool Stop → Told → Type 0
-HasReadLog tail f old input limit result new = (t : ℕ) × (more : List Turn) × ReadsLog tail f old input limit t more result new
+abbrev pub HasReadLog : Tail → Frame → Told → ℕ → ℕ → Status → Told → Type 0
+HasReadLog tail f old input limit status new = (t : ℕ) × (more : List Turn) × ReadsLog tail f old input limit t more status new
 
 -- the lines that a piece completes are taken, and their text is made
 pub record TakesPiece (old_lines new_lines : Reader) (old new : Session) (piece text : List ℕ) : Type 0 where
@@ -85,10 +88,18 @@ pub record TakesRest (lines : Reader) (old new : Session) (text : List ℕ) : Ty
   pub ahead_is : ahead lines [] ≡ told
   pub takes : (f : Frame) (s : State) → Represents f old s → Takes f old.refused new s told [] text
 
+-- the status of a log that was read to its end
+abbrev pub ended_as : Bool → Status
+ended_as true = Refusals
+ended_as false = Done
+
+-- the text is written, and the status is this one; or a front of it is, after a write fault or for want of memory
+abbrev pub Says : Status → Told → List ℕ → Status → Told → Type 0
+Says done old text status new =
+    ((status ≡ done) × Wrote old text (length text) new) ⊎ (((status ≡ WriteFault) ⊎ (status ≡ Memory)) × ((k : ℕ) × Wrote old text k new))
+
 -- the rest is taken, and its text written, or a front of it, or none of it
-abbrev pub Finishes : Told → Session → Reader → Result Bool Stop → Told → Type 0
-Finishes old x lines (Ok refused) new = (y : Session) × (text : List ℕ) × TakesRest lines x y text × Wrote old text (length text) new × (refused ≡ y.refused)
-Finishes old x lines (Err TooLong) new = ⊥
-Finishes old x lines (Err ReadFault) new = ⊥
-Finishes old x lines (Err WriteFault) new = (y : Session) × (text : List ℕ) × (k : ℕ) × TakesRest lines x y text × Wrote old text k new
-Finishes old x lines (Err Memory) new = (new ≡ old) ⊎ ((y : Session) × (text : List ℕ) × (k : ℕ) × TakesRest lines x y text × Wrote old text k new)
+abbrev pub Finishes : Told → Session → Reader → Status → Told → Type 0
+Finishes old x lines status new =
+    ((status ≡ Memory) × (new ≡ old))
+    ⊎ ((y : Session) × (text : List ℕ) × TakesRest lines x y text × Says (ended_as y.refused) old text status new)

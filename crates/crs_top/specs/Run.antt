@@ -8,7 +8,7 @@ use Rattle.crs_top.specs.declared.status.Status.{Status}
 use Rattle.crs_top.specs.declared.status.Status.TheVariants.{Done, Refusals, Words, Rejected, ReadFault, WriteFault, Memory, TooLong}
 use Rattle.crs_top.specs.Inputs.{bytes_of, after, Opened, IsRead}
 use Rattle.crs_top.specs.Loads.{AreTaken, IsRefusal, IsRefusalFront}
-use Rattle.crs_top.specs.Logs.{Tail, IsEndedText, Appends, IsPrompt, IsCutShort}
+use Rattle.crs_top.specs.Logs.{Tail, IsEndedText, Appends, IsPrompt, IsCutShort, LogOutcome}
 use Rattle.crs_top.specs.Models.{IsAccepted, IsRejected}
 use Rattle.crs_top.specs.Texts.{Frame, IsWholeText, some_refused}
 
@@ -65,23 +65,19 @@ abbrev pub Runs : ℕ → ℕ → Tail → Most → Told → List ℕ → List �
 Runs base now tail most old models log status new =
     (n : ℕ) × (i : ℕ) × (k : ℕ) × (t : ℕ) × (of_models : List Turn) × (of_log : List Turn) × DidRun base now tail most old models log n i k t of_models of_log status new
 
--- what a log's reading leaves
-abbrev pub LogOutcome : Tail → Frame → List ℕ → ℕ → ℕ → ℕ → ℕ → List ℕ → Status → List ℕ → Type 0
-LogOutcome tail f log limit n i t old Done new = (n ≡ 1) × (t ≡ length log) × (t < limit) × Appends (IsEndedText tail f log) old new × (some_refused f log ≡ false)
-LogOutcome tail f log limit n i t old Refusals new = (n ≡ 1) × (t ≡ length log) × (t < limit) × Appends (IsEndedText tail f log) old new × (some_refused f log ≡ true)
-LogOutcome tail f log limit n i t old Words new = ⊥
-LogOutcome tail f log limit n i t old Rejected new = ⊥
-LogOutcome tail f log limit n i t old ReadFault new = (n ≡ 1) × (i ≡ 1 → t < limit) × Appends (IsWholeText f (take t log)) old new
-LogOutcome tail f log limit n i t old TooLong new = (n ≡ 1) × (t ≡ limit) × Appends (IsWholeText f (take t log)) old new
-LogOutcome tail f log limit n i t old WriteFault new = (n ≡ 1) × IsCutShort tail f log t old new
-LogOutcome tail f log limit n i t old Memory new = (new ≡ old) ⊎ ((n ≡ 1) × IsCutShort tail f log t old new)
+-- What holds where the log was opened; and where it wasn't, which is a read fault or want of memory, and its name is handed over at the fault alone.
+abbrev pub FollowOutcome : Tail → Frame → List ℕ → ℕ → ℕ → ℕ → ℕ → List ℕ → Status → List ℕ → Type 0
+FollowOutcome tail f log limit n i t old status new =
+    ((n ≡ 1) × (i ≡ 1) × LogOutcome tail f log limit t old status new)
+    ⊎ ((n ≡ 1) × (i ≡ 0) × (t ≡ 0) × (status ≡ ReadFault) × (new ≡ old))
+    ⊎ ((n ≡ 0) × (status ≡ Memory) × (new ≡ old))
 
 pub record Followed (base now : ℕ) (tail : Tail) (f : Frame) (limit : ℕ) (old : Told) (log : List ℕ) (n i t : ℕ) (more : List Turn) (status : Status) (new : Told) : Type 0 where
   pub did : Opened base now old (log ∷ []) (after (bytes_of old log) t ∷ []) n i more new
   pub read : IsRead base limit (i < 1) (bytes_of old log) t more
   pub failed : i < n → status ≡ ReadFault
   pub prompt : IsPrompt f old.written (bytes_of old log) new.written more
-  pub outcome : LogOutcome tail f (bytes_of old log) limit n i t old.written status new.written
+  pub outcome : FollowOutcome tail f (bytes_of old log) limit n i t old.written status new.written
 
 abbrev pub Follows : ℕ → ℕ → Tail → Frame → ℕ → Told → List ℕ → Status → Told → Type 0
 Follows base now tail f limit old log status new = (n : ℕ) × (i : ℕ) × (t : ℕ) × (more : List Turn) × Followed base now tail f limit old log n i t more status new

@@ -12,7 +12,7 @@ ghost use Rattle.crs_top.specs.Commands.{Does, CompletesCommand};
 
 use crate::limits::{Limits, STANDARD};
 use crate::loading::{load_models, refuse, write_text};
-use crate::log::{Stop, read_log};
+use crate::log::read_log;
 use crate::models::prepare;
 use crate::printing::print;
 use crate::session::Session;
@@ -100,12 +100,5 @@ fn follow<D: Desk>(alloc: Global, desk: &mut D, log: &str, limit: u64, session: 
         Err(DeskError::Failed) => return Status::ReadFault,
         Err(DeskError::Memory) => return Status::Memory,
     };
-    match read_log(alloc, desk, input, limit, session) {
-        Ok(false) => Status::Done,
-        Ok(true) => Status::Refusals,
-        Err(Stop::ReadFault) => Status::ReadFault,
-        Err(Stop::WriteFault) => Status::WriteFault,
-        Err(Stop::Memory) => Status::Memory,
-        Err(Stop::TooLong) => Status::TooLong,
-    }
+    read_log(alloc, desk, input, limit, session)
 }

@@ -1,14 +1,9 @@
-use Rattle.std.proofs.Common.{rules, ◌+◌, refl, ◌∙◌, ap, arith, length-take-le}
+use Rattle.std.proofs.Common.{rules, ◌+◌, refl, ◌∙◌, ap, arith, length-take-le, inl, inr}
 use Rattle.std.proofs.lemmas.Grind.{common_steps}
 use Rattle.std.proofs.lemmas.List.{take-append-le}
-use Rattle.std.proofs.lemmas.Result.{err_from_is_err_and}
+use Rattle.crs_top.specs.declared.status.Status.TheVariants.{WriteFault, Memory}
 use Rattle.crs_top.proofs.LogReading.{reading_none, reading_more, stop_before, stop_failed, stop_refused, stop_long, stop_write, stop_piece, end_by}
 use Rattle.crs_top.proofs.log.read_log.Goals as goal
-
-pub returns-in_err-lines-clause-told : goal.returns-in_err-lines-clause-told
-returns-in_err-lines-clause-told g c = λ t f r.
-    let p = err_from_is_err_and c.from_residual.result c.from_residual.ensures.1 in
-    rw (p.1, p.2) (stop_before f _ c.args.log c.args.limit)
 
 pub loop-taken-init : goal.loop-taken-init
 loop-taken-init g c = record {
@@ -17,10 +12,10 @@ loop-taken-init g c = record {
   writing = omega arith;
   within = omega arith;
   ready = c.requires.ready;
-  short = ap (λ l. l.limit) c.in_ok-lines.ensures;
-  open_still = ap (λ l. l.finished) c.in_ok-lines.ensures;
-  fed = ap (λ l. l.fed) c.in_ok-lines.ensures;
-  told = λ t f r. reading_none f _ c.args.log c.args.limit c.args.session c.in_ok-lines.lines r c.requires.unrefused c.in_ok-lines.ensures;
+  short = ap (λ l. l.limit) c.in-Ok.ensures;
+  open_still = ap (λ l. l.finished) c.in-Ok.ensures;
+  fed = ap (λ l. l.fed) c.in-Ok.ensures;
+  told = λ t f r. reading_none f _ c.args.log c.args.limit c.args.session c.in-Ok.lines r c.requires.unrefused c.in-Ok.ensures;
 }
 
 pub returns-in-Err-Failed-clause-told : goal.returns-in-Err-Failed-clause-told
@@ -36,25 +31,26 @@ returns-in-Err-Memory-clause-told g c = λ t f r.
 pub returns-then-count-eq0-clause-told : goal.returns-then-count-eq0-clause-told
 returns-then-count-eq0-clause-told g c = λ t f r.
     end_by f _ (g.D.Desk.told c.loop-taken.desk) (g.D.Desk.told c.read.new.self) _ c.args.log c.args.limit _ _ c.loop-taken.session c.loop-taken.lines _ c.finish.result
-    (omega (arith, g.met.D.Desk.places c.args.desk.now t)) (c.requires.fresh t) (c.loop-taken.invariant.told t f r) (c.in-Ok.ensures.told t) (grind (arith, common_steps)) c.if-count-eq0.true (omega arith) (c.finish.ensures.told t)
+    (omega (arith, g.met.D.Desk.places c.args.desk.now t)) (c.requires.fresh t) (c.loop-taken.invariant.told t f r) (c.in-Ok-read.ensures.told t) (grind (arith, common_steps)) c.if-count-eq0.true c.loop-taken-test.true (c.finish.ensures.told t)
 
-pub returns-in_err-text-clause-told : goal.returns-in_err-text-clause-told
-returns-in_err-text-clause-told g c = λ t f r.
-    let p = err_from_is_err_and c.from_residual-in_err-text.result c.from_residual-in_err-text.ensures.1 in
-    rw (p.1, p.2) (stop_piece f _ c.args.log (omega (arith, g.met.D.Desk.places c.args.desk.now t)) (c.requires.fresh t) (g.D.Desk.told c.loop-taken.desk) (g.D.Desk.told c.read.new.self) c.args.limit _ _ c.loop-taken.session c.loop-taken.lines _
-    (c.loop-taken.invariant.told t f r) (c.in-Ok.ensures.told t) (grind (arith, common_steps)) c.in-Ok.ensures.count (omega arith))
+pub returns-in-Err-Failed-write_all-clause-told : goal.returns-in-Err-Failed-write_all-clause-told
+returns-in-Err-Failed-write_all-clause-told g c = λ t f r.
+    let few = c.in-Ok-read.ensures.count in
+    let w = rw c.as_slice.ensures.value at (c.in-Err-Failed-write_all.ensures.told t) in
+    stop_write f _ c.args.log (omega (arith, g.met.D.Desk.places c.args.desk.now t)) (c.requires.fresh t) (g.D.Desk.told c.loop-taken.desk) (g.D.Desk.told c.read.new.self) _ c.args.limit _ _ c.loop-taken.session c.take_piece.new.session c.loop-taken.lines c.take_piece.new.lines _ _ WriteFault
+    (inl refl) (c.loop-taken.invariant.told t f r) (c.in-Ok-read.ensures.told t) (grind (arith, common_steps)) few (omega arith) (rw take-append-le at c.in-Ok-take_piece.ensures) w.0 w.1
 
-pub returns-in-Err-clause-told : goal.returns-in-Err-clause-told
-returns-in-Err-clause-told g c = λ t f r.
-    let few = c.in-Ok.ensures.count in
-    let w = rw c.as_slice.ensures.value at (c.in-Err.ensures.told t) in
-    stop_write f _ c.args.log (omega (arith, g.met.D.Desk.places c.args.desk.now t)) (c.requires.fresh t) (g.D.Desk.told c.loop-taken.desk) (g.D.Desk.told c.read.new.self) _ c.args.limit _ _ c.loop-taken.session c.take_piece.new.session c.loop-taken.lines c.take_piece.new.lines _ _ _
-    c.write_stop.ensures.either (c.loop-taken.invariant.told t f r) (c.in-Ok.ensures.told t) (grind (arith, common_steps)) few (omega arith) (rw take-append-le at c.in_ok-text.ensures) w.0 w.1
+pub returns-in-Err-Memory-write_all-clause-told : goal.returns-in-Err-Memory-write_all-clause-told
+returns-in-Err-Memory-write_all-clause-told g c = λ t f r.
+    let few = c.in-Ok-read.ensures.count in
+    let w = rw c.as_slice.ensures.value at (c.in-Err-Memory-write_all.ensures.told t) in
+    stop_write f _ c.args.log (omega (arith, g.met.D.Desk.places c.args.desk.now t)) (c.requires.fresh t) (g.D.Desk.told c.loop-taken.desk) (g.D.Desk.told c.read.new.self) _ c.args.limit _ _ c.loop-taken.session c.take_piece.new.session c.loop-taken.lines c.take_piece.new.lines _ _ Memory
+    (inr refl) (c.loop-taken.invariant.told t f r) (c.in-Ok-read.ensures.told t) (grind (arith, common_steps)) few (omega arith) (rw take-append-le at c.in-Ok-take_piece.ensures) w.0 w.1
 
 pub loop-taken-preserved : goal.loop-taken-preserved
 loop-taken-preserved g c =
-    let few = c.in-Ok.ensures.count in
-    let p = rw take-append-le at c.in_ok-text.ensures in
+    let few = c.in-Ok-read.ensures.count in
+    let p = rw take-append-le at c.in-Ok-take_piece.ensures in
     let i = c.loop-taken.invariant in
     record {
       inputs = search rules;
@@ -64,10 +60,18 @@ loop-taken-preserved g c =
       ready = (i.ready.0, _, (p.takes i.ready.0 i.ready.1 i.ready.2).state);
       short = p.limit ∙ i.short;
       open_still = p.finished ∙ i.open_still;
-      fed = p.fed ∙ (λ j. i.fed j + length-take-le c.in-Ok.count c.read.new.buf few j);
+      fed = p.fed ∙ (λ j. i.fed j + length-take-le c.in-Ok-read.count c.read.new.buf few j);
       told = λ t f r. reading_more f _ c.args.log (omega (arith, g.met.D.Desk.places c.args.desk.now t)) (c.requires.fresh t) (g.D.Desk.told c.loop-taken.desk) (g.D.Desk.told c.read.new.self) _ c.args.limit _ _ c.loop-taken.session c.take_piece.new.session c.loop-taken.lines c.take_piece.new.lines _ _
-          (i.told t f r) (c.in-Ok.ensures.told t) (grind (arith, common_steps)) few (omega arith) p (rw c.as_slice.ensures.value at (c.in_default.ensures.told t));
+          (i.told t f r) (c.in-Ok-read.ensures.told t) (grind (arith, common_steps)) few (omega arith) p (rw c.as_slice.ensures.value at (c.in-Ok-write_all.ensures.told t));
     }
 
 pub returns-clause-told : goal.returns-clause-told
 returns-clause-told g c = λ t f r. stop_long f _ c.args.log (omega (arith, g.met.D.Desk.places c.args.desk.now t)) (c.requires.fresh t) _ c.args.limit _ c.loop-taken.session c.loop-taken.lines (c.loop-taken.invariant.told t f r) (omega arith)
+
+pub returns-in_default-clause-told : goal.returns-in_default-clause-told
+returns-in_default-clause-told g c = λ t f r. stop_before f _ c.args.log c.args.limit
+
+pub returns-in_default-take_piece-clause-told : goal.returns-in_default-take_piece-clause-told
+returns-in_default-take_piece-clause-told g c = λ t f r.
+    stop_piece f _ c.args.log (omega (arith, g.met.D.Desk.places c.args.desk.now t)) (c.requires.fresh t) (g.D.Desk.told c.loop-taken.desk) (g.D.Desk.told c.read.new.self) c.args.limit _ _ c.loop-taken.session c.loop-taken.lines _
+    (c.loop-taken.invariant.told t f r) (c.in-Ok-read.ensures.told t) (grind (arith, common_steps)) c.in-Ok-read.ensures.count (omega arith)
