@@ -57,7 +57,7 @@ module _ (base now : ℕ) (tail : Tail) (most : Most) (old new : Told) (models l
   completes Memory r rf wf = record { accepted = λ f a l n. inr (inr refl); too_long = λ f a l n. inr refl; refused = λ line word h n. inr refl }
   completes Words r rf wf = record { accepted = λ f a l n. absurd r.6.outcome; too_long = λ f a l n. absurd r.6.outcome; refused = λ line word h n. absurd r.6.outcome }
   completes Rejected r rf wf =
-      let o = r.6.outcome.2 in
+      let o = r.6.outcome.2.1 in
       let no : (f : Frame) → IsAccepted most.symbols most.entries Text f → ⊥ = λ f a. not_both most.symbols most.entries Text f o.0 o.1 a o.2 in
       record { accepted = λ f a l n. absurd (no f a); too_long = λ f a l n. absurd (no f a); refused = λ line word h n. inl refl }
   completes ReadFault r rf wf = record { accepted = λ f a l n. absurd (n (rf refl)); too_long = λ f a l n. absurd (n (rf refl)); refused = λ line word h n. absurd (n (rf refl)) }
@@ -76,7 +76,7 @@ module _ (base now symbols : ℕ) (listing : Listing) (old new : Told) (models :
   }
   completes_print Memory p rf wf = record { accepted = λ m a n. inr refl; refused = λ line word h n. inr refl }
   completes_print Rejected p rf wf = record {
-    accepted = λ m a n. absurd (not_faulty symbols (bytes_of old models) m p.4.outcome.2.0 p.4.outcome.2.1 a p.4.outcome.2.2);
+    accepted = λ m a n. absurd (not_faulty symbols (bytes_of old models) m p.4.outcome.2.1.0 p.4.outcome.2.1.1 a p.4.outcome.2.1.2);
     refused = λ line word h n. inl refl;
   }
   completes_print ReadFault p rf wf = record { accepted = λ m a n. absurd (n (rf refl)); refused = λ line word h n. absurd (n (rf refl)) }

@@ -1,5 +1,5 @@
 -- The whole of a run, by its parts.
-use Rattle.std.proofs.Common.{◌≡◌, ◌∙◌, ap, sym, refl, inl, inr, ℕ, ◌+◌, ◌<◌, ◌≤◌, List, [], ◌∷◌, ◌++◌, length, arith, append-nil, append_assoc, add-one}
+use Rattle.std.proofs.Common.{◌≡◌, ◌∙◌, ap, sym, refl, inl, inr, ℕ, ◌+◌, ◌<◌, ◌≤◌, ◌^◌, List, [], ◌∷◌, ◌++◌, length, arith, append-nil, append_assoc, add-one}
 use Rattle.std.specs.Option.{unwrap_or}
 use Rattle.std.proofs.lemmas.List.{take-append-le}
 use Rattle.crs_desk.specs.Desk.{Told, Stream, file_of}
@@ -7,7 +7,7 @@ use Rattle.crs_desk.specs.declared.turn.Turn.{Turn}
 use Rattle.crs_top.specs.declared.status.Status.{Status}
 use Rattle.crs_top.specs.declared.status.Status.TheVariants.{Done, Refusals, Words, Rejected, ReadFault, WriteFault, Memory, TooLong}
 use Rattle.crs_top.specs.Inputs.{bytes_of, after}
-use Rattle.crs_top.specs.Loads.{ModelsOutcome, EndsWithModels, Loaded}
+use Rattle.crs_top.specs.Loads.{IsModelLine, LoadOutcome, EndsWithInput, Loaded}
 use Rattle.crs_top.specs.Logs.{Tail, LogOutcome}
 use Rattle.crs_top.specs.Models.{IsAccepted, IsRejected}
 use Rattle.crs_top.specs.Run.{Most, Outcome, Runs, FollowOutcome, Followed}
@@ -15,7 +15,7 @@ use Rattle.crs_top.specs.Texts.{Frame}
 use Rattle.crs_top.proofs.Loads.{nothing_read_of}
 
 -- a run that ended with the models printed nothing
-ended_outcome : (tail : Tail) (most : Most) (models log : List ℕ) (n i k : ℕ) (old : List ℕ) (status : Status) (new : List ℕ) → n ≤ 1 → ModelsOutcome (λ text. ⊥) (IsRejected most.symbols models) models n k old status new
+ended_outcome : (tail : Tail) (most : Most) (models log : List ℕ) (n i k : ℕ) (old : List ℕ) (status : Status) (new : List ℕ) → n ≤ 1 → LoadOutcome (2 ^ 20) (λ text. ⊥) (IsModelLine (IsRejected most.symbols models)) models n k old status new
     → Outcome tail most models log n i k 0 old status new
 ended_outcome tail most models log n i k old Done new le h = absurd h.2.1
 ended_outcome tail most models log n i k old Refusals new le h = absurd h
@@ -41,7 +41,7 @@ ended_outcome tail most models log n i k old Memory new le (inr h) = inr (inr (
 ))
 ended_outcome tail most models log n i k old TooLong new le h = absurd h
 
-pub run_ended : (base now : ℕ) (tail : Tail) (most : Most) (old new : Told) (models log : List ℕ) (status : Status) → EndsWithModels base now (λ text. ⊥) (IsRejected most.symbols (bytes_of old models)) old models status new
+pub run_ended : (base now : ℕ) (tail : Tail) (most : Most) (old new : Told) (models log : List ℕ) (status : Status) → EndsWithInput base now (2 ^ 20) (λ text. ⊥) (IsModelLine (IsRejected most.symbols (bytes_of old models))) old models status new
     → Runs base now tail most old models log status new
 run_ended base now tail most old new models log status h =
     let d = h.4.did in (
@@ -88,7 +88,7 @@ followed_outcome tail most f models log n i k t old new status a e (inr (inl o))
     rw (o.3) (inr (omega (arith, o.0), (λ h. absurd (omega (arith, o.1, h))), (f, a, e, ([], rw (o.2) refl, o.4 ∙ sym (append-nil old)))))
 followed_outcome tail most f models log n i k t old new status a e (inr (inr o)) = rw (o.1) (inl o.2)
 
-pub run_followed : (base now mid_count : ℕ) (tail : Tail) (most : Most) (f : Frame) (old mid new : Told) (models log : List ℕ) (k n i t : ℕ) (more turns : List Turn) (status : Status) → Loaded base mid_count old models 1 1 k more mid
+pub run_followed : (base now mid_count : ℕ) (tail : Tail) (most : Most) (f : Frame) (old mid new : Told) (models log : List ℕ) (k n i t : ℕ) (more turns : List Turn) (status : Status) → Loaded base mid_count (2 ^ 20) old models 1 1 k more mid
     → k ≡ length (bytes_of old models) → IsAccepted most.symbols most.entries (bytes_of old models) f → Followed mid_count now tail f most.bytes mid log n i t turns status new → Runs base now tail most old models log status new
 run_followed base now mid_count tail most f old mid new models log k n i t more turns status l e a h =
     let o = l.did in

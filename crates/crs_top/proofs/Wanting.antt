@@ -7,15 +7,15 @@ use Rattle.crs_top.specs.declared.status.Status.TheVariants.{Memory}
 use Rattle.crs_top.specs.Commands.{Does, CompletesCommand}
 use Rattle.crs_top.specs.Inputs.{bytes_of}
 use Rattle.crs_top.specs.Listings.{IsListed}
-use Rattle.crs_top.specs.Loads.{Loaded}
+use Rattle.crs_top.specs.Loads.{Loaded, IsModelLine}
 use Rattle.crs_top.specs.Logs.{no_tail}
 use Rattle.crs_top.specs.Models.{IsFaulty, IsRejected}
 use Rattle.crs_top.specs.Run.{Most}
 use Rattle.crs_top.proofs.Loads.{nothing_read_of, ends_wanting}
 use Rattle.crs_top.proofs.Runs.{run_ended}
 
-none_loaded : (base : ℕ) (old : Told) (name : List ℕ) → Loaded base base old name 0 0 0 [] old
-none_loaded base old name = record {
+none_loaded : (base limit : ℕ) (old : Told) (name : List ℕ) → Loaded base base limit old name 0 0 0 [] old
+none_loaded base limit old name = record {
   did = record {
     files = refl;
     few = omega arith;
@@ -26,7 +26,7 @@ none_loaded base old name = record {
     left = sym (append-nil old.left);
     turns = sym (append-nil old.turns);
   };
-  read = nothing_read_of base (2 ^ 20 + 1) (0 < 1) (bytes_of old name);
+  read = nothing_read_of base (limit + 1) (0 < 1) (bytes_of old name);
   written = refl;
 }
 
@@ -35,10 +35,11 @@ wants base most old None =
     (inr (inr refl, (0, record { files = refl; opened = refl; left = refl; turns = refl; within = omega arith; written = sym (append-nil old.written) })), refl)
 wants base most old (Some (Run models log)) =
     run_ended base base no_tail most old old models log Memory
-    (ends_wanting base base (λ text. ⊥) (IsRejected most.symbols (bytes_of old models)) old models 0 0 0 [] old (none_loaded base old models) (omega arith))
+    (ends_wanting base base (2 ^ 20) (λ text. ⊥) (IsModelLine (IsRejected most.symbols (bytes_of old models))) old models
+    0 0 0 [] old (none_loaded base (2 ^ 20) old models) (omega arith))
 wants base most old (Some (Print listing models)) =
-    ends_wanting base base (IsListed most.symbols listing (bytes_of old models)) (IsFaulty most.symbols (bytes_of old models)) old models
-    0 0 0 [] old (none_loaded base old models) (omega arith)
+    ends_wanting base base (2 ^ 20) (IsListed most.symbols listing (bytes_of old models)) (IsModelLine (IsFaulty most.symbols (bytes_of old models))) old models
+    0 0 0 [] old (none_loaded base (2 ^ 20) old models) (omega arith)
 
 pub wants_complete : (most : Most) (old : Told) (command : Option Command) (fault : Type 0) → CompletesCommand most old command fault Memory
 wants_complete most old None fault = λ f. inr refl

@@ -1,5 +1,5 @@
 -- What a command that prints models does to a desk that tells its contents.
-use Rattle.std.specs.Prelude.{◌≡◌, ◌⊎◌, ℕ, List}
+use Rattle.std.specs.Prelude.{◌≡◌, ◌⊎◌, ℕ, List, ◌^◌}
 use Rattle.crs_desk.specs.Desk.{Told}
 use Rattle.crs_model.specs.declared.models.ModelWord.{ModelWord}
 use Rattle.crs_model.specs.declared.models.ModelRefused.{ModelRefused}
@@ -12,7 +12,7 @@ use Rattle.crs_top.specs.declared.status.Status.TheVariants.{Done, Rejected, Mem
 use Rattle.crs_words.specs.declared.command.Listing.{Listing}
 use Rattle.crs_words.specs.declared.command.Listing.TheVariants.{Canonical, Minimal}
 use Rattle.crs_top.specs.Inputs.{bytes_of}
-use Rattle.crs_top.specs.Loads.{EndsWithModels}
+use Rattle.crs_top.specs.Loads.{EndsWithInput, IsModelLine}
 use Rattle.crs_top.specs.Models.{AreModelsIn, IsFaulty}
 
 -- what is printed of models
@@ -32,7 +32,7 @@ IsFaultyText symbols text NoMemory = Unit {0}
 -- a call that opened the models alone printed this listing, or refused them
 abbrev pub Prints : ℕ → ℕ → ℕ → Listing → Told → List ℕ → Status → Told → Type 0
 Prints base now symbols listing old models status new =
-    EndsWithModels base now (IsListed symbols listing (bytes_of old models)) (IsFaulty symbols (bytes_of old models)) old models status new
+    EndsWithInput base now (2 ^ 20) (IsListed symbols listing (bytes_of old models)) (IsModelLine (IsFaulty symbols (bytes_of old models))) old models status new
 
 -- Where no fault rose, models that are accepted are printed and others are refused, unless memory is wanting.
 pub record CompletesPrint (symbols : ℕ) (old : Told) (models : List ℕ) (fault : Type 0) (status : Status) : Type 0 where

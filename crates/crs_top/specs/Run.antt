@@ -7,8 +7,8 @@ use Rattle.crs_top.specs.declared.limits.Limits.{Limits}
 use Rattle.crs_top.specs.declared.status.Status.{Status}
 use Rattle.crs_top.specs.declared.status.Status.TheVariants.{Done, Refusals, Words, Rejected, ReadFault, WriteFault, Memory, TooLong}
 use Rattle.crs_top.specs.Inputs.{bytes_of, after, Opened, IsRead}
-use Rattle.crs_top.specs.Loads.{AreTaken, IsRefusal, IsRefusalFront}
-use Rattle.crs_top.specs.Logs.{Tail, IsEndedText, Appends, IsPrompt, IsCutShort, LogOutcome}
+use Rattle.crs_top.specs.Loads.{AreTaken, IsModelLine}
+use Rattle.crs_top.specs.Logs.{Tail, IsEndedText, Appends, IsPrompt, IsCutShort, LogOutcome, AppendsFront}
 use Rattle.crs_top.specs.Models.{IsAccepted, IsRejected}
 use Rattle.crs_top.specs.Texts.{Frame, IsWholeText, some_refused}
 
@@ -37,7 +37,7 @@ Outcome tail most models log n i k t old Done new =
 Outcome tail most models log n i k t old Refusals new =
     (n ≡ 2) × (t ≡ length log) × (t < most.bytes) × WithModels most models k (λ f. Appends (IsEndedText tail f log) old new × (some_refused f log ≡ true))
 Outcome tail most models log n i k t old Words new = ⊥
-Outcome tail most models log n i k t old Rejected new = (n ≡ 1) × AreTaken models k × IsRefusal (IsRejected most.symbols models) old new
+Outcome tail most models log n i k t old Rejected new = (n ≡ 1) × AreTaken (2 ^ 20) models k × Appends (IsModelLine (IsRejected most.symbols models)) old new
 Outcome tail most models log n i k t old ReadFault new =
     ((n < 2) × (new ≡ old))
     ⊎ ((n ≡ 2) × (i ≡ 2 → t < most.bytes) × WithModels most models k (λ f. Appends (IsWholeText f (take t log)) old new))
@@ -45,11 +45,11 @@ Outcome tail most models log n i k t old TooLong new =
     (n ≡ 2) × (t ≡ most.bytes) × WithModels most models k (λ f. Appends (IsWholeText f (take t log)) old new)
 Outcome tail most models log n i k t old WriteFault new =
     ((n ≡ 2) × WithModels most models k (λ f. IsCutShort tail f log t old new))
-    ⊎ ((n ≡ 1) × AreTaken models k × IsRefusalFront (IsRejected most.symbols models) old new)
+    ⊎ ((n ≡ 1) × AreTaken (2 ^ 20) models k × AppendsFront (IsModelLine (IsRejected most.symbols models)) old new)
 Outcome tail most models log n i k t old Memory new =
     (new ≡ old)
     ⊎ ((n ≡ 2) × WithModels most models k (λ f. IsCutShort tail f log t old new))
-    ⊎ ((n ≡ 1) × AreTaken models k × IsRefusalFront (IsRejected most.symbols models) old new)
+    ⊎ ((n ≡ 1) × AreTaken (2 ^ 20) models k × AppendsFront (IsModelLine (IsRejected most.symbols models)) old new)
 
 -- Of the two names n were handed to open, the log's only where the models are accepted, and i inputs were opened, all of these but where that was a read fault.
 -- k bytes of the models and t of the log were taken; the turns are first of the models' input and then of the log's, and the log's are prompt.

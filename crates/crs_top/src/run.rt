@@ -11,7 +11,7 @@ ghost use Rattle.crs_top.specs.Status.{HasCauses};
 ghost use Rattle.crs_top.specs.Commands.{Does, CompletesCommand};
 
 use crate::limits::{Limits, STANDARD};
-use crate::loading::{load_models, refuse, write_text};
+use crate::loading::{MODELS_LIMIT, MODELS_TOO_LONG, load, refuse, write_text};
 use crate::log::read_log;
 use crate::models::prepare;
 use crate::printing::print;
@@ -73,7 +73,7 @@ fn recognise<D: Desk>(
     ensures most { D.inputs desk.new ≤ D.inputs desk.old + 2 }
     ensures told { D.tells ≡ true → Runs (D.inputs desk.old) (D.inputs desk.new) no_tail (most_of limits) (D.told desk.old) models.now log.now result (D.told desk.new) }
 {
-    let text = match load_models(alloc, desk, models) {
+    let text = match load(alloc, desk, models, MODELS_LIMIT, MODELS_TOO_LONG) {
         Ok(text) => text,
         Err(status) => return status,
     };
