@@ -3,3 +3,4 @@ pub mod Records
 pub mod TakenRows
 pub mod Fields
 pub mod Logs
+pub mod Sizes

@@ -5,3 +5,4 @@ pub mod Tables
 pub mod Lengths
 pub mod Steps
 pub mod Laws
+pub mod Refusals

@@ -14,6 +14,9 @@ use Rattle.crs_top.specs.Run.{Most, Runs, Completes}
 use Rattle.crs_top.specs.Texts.{Frame}
 use Rattle.crs_words.specs.declared.command.Listing.{Listing}
 use Rattle.crs_top.specs.Listings.{Prints, CompletesPrint}
+use Rattle.crs_top.specs.Imports.{Imports, CompletesImport}
+use Rattle.crs_import.specs.Tables.{table_log}
+use Rattle.std.specs.Prelude.{Result, Ok, Err}
 
 none_inconsistent : (cs : List (Chronicle (List ℕ))) (line : ℕ) → AllByRecursion (λ c. IsConsistent c.bounds) cs → ClosesInconsistent cs line → ⊥
 none_inconsistent [] line h k = k
@@ -84,3 +87,23 @@ module _ (base now symbols : ℕ) (listing : Listing) (old new : Told) (models :
   completes_print Words p rf wf = record { accepted = λ m a n. absurd p.4.outcome; refused = λ line word h n. absurd p.4.outcome }
   completes_print Refusals p rf wf = record { accepted = λ m a n. absurd p.4.outcome; refused = λ line word h n. absurd p.4.outcome }
   completes_print TooLong p rf wf = record { accepted = λ m a n. absurd p.4.outcome; refused = λ line word h n. absurd p.4.outcome }
+
+one_log : {A E : Type 0} (r : Result A E) (log : A) (e : E) → r ≡ Ok log → r ≡ Err e → ⊥
+one_log r log e a b = let c : Ok log ≡ Err e = sym a ∙ b in cc
+
+module _ (base now : ℕ) (old new : Told) (table : List ℕ) (fault : Type 0) where
+  pub completes_import : (status : Status) → Imports base now old table status new → (status ≡ ReadFault → fault) → (status ≡ WriteFault → fault) → CompletesImport old table fault status
+  completes_import Done p rf wf = record {
+    written = λ log e n. inl refl;
+    refused = λ e h n. absurd (one_log (table_log (bytes_of old table)) p.4.outcome.2.0 e p.4.outcome.2.1 h);
+  }
+  completes_import Memory p rf wf = record { written = λ log e n. inr refl; refused = λ e h n. inr refl }
+  completes_import Rejected p rf wf = record {
+    written = λ log e n. absurd (one_log (table_log (bytes_of old table)) log p.4.outcome.2.1.0 e p.4.outcome.2.1.1);
+    refused = λ e h n. inl refl;
+  }
+  completes_import ReadFault p rf wf = record { written = λ log e n. absurd (n (rf refl)); refused = λ e h n. absurd (n (rf refl)) }
+  completes_import WriteFault p rf wf = record { written = λ log e n. absurd (n (wf refl)); refused = λ e h n. absurd (n (wf refl)) }
+  completes_import Words p rf wf = record { written = λ log e n. absurd p.4.outcome; refused = λ e h n. absurd p.4.outcome }
+  completes_import Refusals p rf wf = record { written = λ log e n. absurd p.4.outcome; refused = λ e h n. absurd p.4.outcome }
+  completes_import TooLong p rf wf = record { written = λ log e n. absurd p.4.outcome; refused = λ e h n. absurd p.4.outcome }

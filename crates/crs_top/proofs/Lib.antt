@@ -12,6 +12,7 @@ pub mod Runs
 pub mod Wanting
 pub mod Completes
 pub mod Preparing
+pub mod Tables
 pub mod OneText
 pub mod Loads
 pub mod Listed

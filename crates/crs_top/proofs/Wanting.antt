@@ -2,9 +2,10 @@
 use Rattle.std.proofs.Common.{◌≡◌, ◌⊎◌, refl, sym, inl, inr, ℕ, ◌+◌, ◌<◌, ◌^◌, List, [], arith, append-nil}
 use Rattle.std.specs.Prelude.{Option, Some, None}
 use Rattle.crs_desk.specs.Desk.{Told}
-use Rattle.crs_words.specs.Commands.{Command, Run, Print}
+use Rattle.crs_words.specs.Commands.{Command, Run, Print, Import}
 use Rattle.crs_top.specs.declared.status.Status.TheVariants.{Memory}
 use Rattle.crs_top.specs.Commands.{Does, CompletesCommand}
+use Rattle.crs_top.specs.Imports.{IsTableLog, IsTableLine}
 use Rattle.crs_top.specs.Inputs.{bytes_of}
 use Rattle.crs_top.specs.Listings.{IsListed}
 use Rattle.crs_top.specs.Loads.{Loaded, IsModelLine}
@@ -37,6 +38,9 @@ wants base most old (Some (Run models log)) =
     run_ended base base no_tail most old old models log Memory
     (ends_wanting base base (2 ^ 20) (λ text. ⊥) (IsModelLine (IsRejected most.symbols (bytes_of old models))) old models
     0 0 0 [] old (none_loaded base (2 ^ 20) old models) (omega arith))
+wants base most old (Some (Import table)) =
+    ends_wanting base base (2 ^ 26) (IsTableLog (bytes_of old table)) (IsTableLine (bytes_of old table)) old table
+    0 0 0 [] old (none_loaded base (2 ^ 26) old table) (omega arith)
 wants base most old (Some (Print listing models)) =
     ends_wanting base base (2 ^ 20) (IsListed most.symbols listing (bytes_of old models)) (IsModelLine (IsFaulty most.symbols (bytes_of old models))) old models
     0 0 0 [] old (none_loaded base (2 ^ 20) old models) (omega arith)
@@ -48,4 +52,5 @@ wants_complete most old (Some (Run models log)) fault = record {
   too_long = λ f a s n. inr refl;
   refused = λ line word r n. inr refl;
 }
+wants_complete most old (Some (Import table)) fault = record { written = λ log e n. inr refl; refused = λ e h n. inr refl }
 wants_complete most old (Some (Print listing models)) fault = record { accepted = λ m a n. inr refl; refused = λ line word r n. inr refl }

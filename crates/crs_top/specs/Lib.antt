@@ -9,4 +9,5 @@ pub mod Loads
 pub mod Prepared
 pub mod Run
 pub mod Listings
+pub mod Imports
 pub mod Commands

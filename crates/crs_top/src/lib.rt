@@ -13,6 +13,7 @@ mod run;
 mod session;
 mod status;
 mod step;
+mod table;
 #[cfg(test)]
 mod tests;
 

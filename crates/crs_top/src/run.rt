@@ -17,6 +17,7 @@ use crate::models::prepare;
 use crate::printing::print;
 use crate::session::Session;
 use crate::status::Status;
+use crate::table::import_table;
 use crs_desk::{Desk, DeskError};
 use crs_words::{Command, read_words, usage_text};
 use std::alloc::Global;
@@ -55,6 +56,7 @@ pub fn run_with<D: Desk>(alloc: Global, words: &[String], limits: Limits, desk: 
         Ok(Some(Command::Print { listing, models })) => {
             print(alloc, desk, models, listing, limits.symbols)
         }
+        Ok(Some(Command::Import { table })) => import_table(alloc, desk, table),
     }
 }
 

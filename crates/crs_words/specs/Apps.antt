@@ -23,3 +23,7 @@ run_app = with_rule (with_rule (plain_app (codes "run")) (position (codes "model
 -- `model [--minimal] MODELS`
 abbrev pub model_app : App
 model_app = with_rule (with_rule (plain_app (codes "model")) (flag (codes "minimal"))) (position (codes "models"))
+
+-- `import CSV`
+abbrev pub import_app : App
+import_app = with_rule (plain_app (codes "import")) (position (codes "table"))

@@ -4,21 +4,23 @@ use Rattle.std.specs.Option.{option_and_then}
 use Rattle.std.specs.Str.{bytes_eq}
 use Rattle.clap.specs.Walk.{is_empty}
 use Rattle.clap.specs.Words.{App, Row, first_of, fault_of, matches_of}
-use Rattle.crs_words.specs.Apps.{run_app, model_app}
+use Rattle.crs_words.specs.Apps.{run_app, model_app, import_app}
 use Rattle.crs_words.specs.declared.command.Listing.{Listing}
 use Rattle.crs_words.specs.declared.command.Listing.TheVariants.{Canonical, Minimal}
 use Rattle.crs_words.specs.declared.command.Command.{Command as CodeCommand}
 use Rattle.crs_words.specs.declared.command.Command.TheVariants as code
 
--- to recognise the models of the first name in the log of the second; to print the models of a name
+-- to recognise the models of the first name in the log of the second; to print the models of a name; to write the table of a name as a log
 pub data Command : Type 0 where
   Run : (models log : List ℕ) → Command
   Print : (listing : Listing) → (models : List ℕ) → Command
+  Import : (table : List ℕ) → Command
 
 -- a command of the program
 abbrev pub command_seen : CodeCommand → Command
 command_seen (code.Run models log) = Run models.now log.now
 command_seen (code.Print listing models) = Print listing models.now
+command_seen (code.Import table) = Import table.now
 
 abbrev pub is_true : Option (List ℕ) → Bool
 is_true None = false
@@ -53,14 +55,22 @@ print_of listing None = None
 abbrev pub model_in : List Row → Option Command
 model_in rows = print_of (listing_of (is_given (codes "minimal") rows)) (first_of (codes "models") rows)
 
+abbrev pub import_of : Option (List ℕ) → Option Command
+import_of (Some table) = Some (Import table)
+import_of None = None
+
+abbrev pub import_in : List Row → Option Command
+import_in rows = import_of (first_of (codes "table") rows)
+
 -- the words behind the program's name; none is no command
 abbrev pub command_of : List (List ℕ) → Option Command
 command_of [] = None
 command_of (name ∷ rest) =
     if bytes_eq name (codes "run") then read_by run_app run_in (name ∷ rest)
     else (if bytes_eq name (codes "model") then read_by model_app model_in (name ∷ rest)
-    else None)
+    else (if bytes_eq name (codes "import") then read_by import_app import_in (name ∷ rest)
+    else None))
 
 -- what is written where the words are no command
 abbrev pub usage_text : List ℕ
-usage_text = codes "usage: crs run MODELS LOG\n" ++ codes "       crs model [--minimal] MODELS\n"
+usage_text = codes "usage: crs run MODELS LOG\n" ++ codes "       crs model [--minimal] MODELS\n" ++ codes "       crs import CSV\n"

@@ -1,7 +1,7 @@
 // The commands as clap is told of them.
 ghost use Rattle.std.specs.Prelude.{◌≡◌, IfOk, false};
 ghost use Rattle.clap.specs.Words.{app_of, rule_of};
-ghost use Rattle.crs_words.specs.Apps.{plain_app, flag, position, run_app, model_app};
+ghost use Rattle.crs_words.specs.Apps.{plain_app, flag, position, run_app, model_app, import_app};
 
 use clap::{Arg, ArgAction, Command};
 use std::alloc::{AllocError, Global};
@@ -48,5 +48,13 @@ pub(crate) fn model_command<'a>(alloc: Global) -> Result<Command<'a>, AllocError
     let command = plain_command(alloc, "model")
         .arg(flag_of(alloc, "minimal"))?
         .arg(position_of(alloc, "models"))?;
+    Ok(command)
+}
+
+/// `import CSV`
+pub(crate) fn import_command<'a>(alloc: Global) -> Result<Command<'a>, AllocError>
+    ensures { IfOk result (λ c. app_of c ≡ import_app) }
+{
+    let command = plain_command(alloc, "import").arg(position_of(alloc, "table"))?;
     Ok(command)
 }

@@ -14,4 +14,6 @@ pub enum Command<'a> {
     Run { models: &'a str, log: &'a str },
     /// To print the models.
     Print { listing: Listing, models: &'a str },
+    /// To write the table as a log.
+    Import { table: &'a str },
 }

@@ -1,10 +1,10 @@
 // What words ask for.
 ghost use Rattle.std.specs.Prelude.{◌≡◌, IfOk, true, map, option_map, string_bytes};
 ghost use Rattle.clap.specs.Words.{app_of, found_of, rows_of, first_of, is_simple_and_free};
-ghost use Rattle.crs_words.specs.Apps.{run_app, model_app};
-ghost use Rattle.crs_words.specs.Commands.{command_of, command_seen, rows_in, read_by, run_in, model_in, is_given};
+ghost use Rattle.crs_words.specs.Apps.{run_app, model_app, import_app};
+ghost use Rattle.crs_words.specs.Commands.{command_of, command_seen, rows_in, read_by, run_in, model_in, import_in, is_given};
 
-use crate::apps::{model_command, run_command};
+use crate::apps::{import_command, model_command, run_command};
 use crate::command::{Command, Listing};
 use clap::ArgMatches;
 use clap::error::ErrorKind;
@@ -21,6 +21,8 @@ pub fn read_words<'a>(alloc: Global, words: &'a [String]) -> Result<Option<Comma
         read_run(alloc, words)
     } else if name.as_str() == "model" {
         read_model(alloc, words)
+    } else if name.as_str() == "import" {
+        read_import(alloc, words)
     } else {
         Ok(None)
     }
@@ -100,4 +102,23 @@ fn model_of<'a>(matches: &ArgMatches<'a>) -> Option<Command<'a>>
     };
     let models = word_of(matches, "models")?;
     Some(Command::Print { listing, models })
+}
+
+/// Reads the words of `import`, the first of which is its name.
+fn read_import<'a>(alloc: Global, words: &'a [String]) -> Result<Option<Command<'a>>, AllocError>
+    ensures { IfOk result (λ r. option_map command_seen r ≡ read_by import_app import_in (map string_bytes words.entry.now)) }
+{
+    let command = import_command(alloc)?;
+    let Some(matches) = matches_of(command, words)? else {
+        return Ok(None);
+    };
+    Ok(import_of(&matches))
+}
+
+/// What is asked of `import`.
+fn import_of<'a>(matches: &ArgMatches<'a>) -> Option<Command<'a>>
+    ensures { option_map command_seen result ≡ import_in (rows_of (found_of matches.now)) }
+{
+    let table = word_of(matches, "table")?;
+    Some(Command::Import { table })
 }

@@ -12,6 +12,7 @@ fn shown(alloc: Global, text: &str) -> Result<String, AllocError> {
         None => String::from_str(alloc, "none"),
         Some(Command::Run { models, log }) => format!(in alloc; "run {models} {log}"),
         Some(Command::Print { listing, models }) => format!(in alloc; "{listing:?} {models}"),
+        Some(Command::Import { table }) => format!(in alloc; "import {table}"),
     }
 }
 
@@ -46,7 +47,10 @@ fn words_are_commands(rt: HostRuntime) -> Result<(), Fail> {
         ("model", "none"),
         ("model m l", "none"),
         ("drill 7 2", "none"),
-        ("import t", "none"),
+        ("import t", "import t"),
+        ("import", "none"),
+        ("import a b", "none"),
+        ("import --minimal t", "none"),
     ];
     for (words, want) in rows {
         let shown = shown(rt.alloc(), words)?;
@@ -57,6 +61,9 @@ fn words_are_commands(rt: HostRuntime) -> Result<(), Fail> {
 
 #[test]
 fn the_usage_text_has_a_line_for_each_command(rt: HostRuntime) {
-    let text = b"usage: crs run MODELS LOG\n       crs model [--minimal] MODELS\n".as_slice();
-    assert!(rt; usage_text() == text);
+    let text = b"usage: crs run MODELS LOG\n\
+        \x20      crs model [--minimal] MODELS\n\
+        \x20      crs import CSV\n\
+        ";
+    assert!(rt; usage_text() == text.as_slice());
 }

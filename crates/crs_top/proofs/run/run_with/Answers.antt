@@ -3,7 +3,7 @@ use Rattle.crs_desk.specs.Desk.{Rose}
 use Rattle.crs_words.specs.Commands.{command_of}
 use Rattle.crs_top.specs.Logs.{no_tail}
 use Rattle.crs_top.specs.Run.{most_of}
-use Rattle.crs_top.proofs.Completes.{completes, completes_print}
+use Rattle.crs_top.proofs.Completes.{completes, completes_print, completes_import}
 use Rattle.crs_top.proofs.Wanting.{wants}
 use Rattle.crs_top.proofs.run.run_with.Goals as goal
 
@@ -33,3 +33,12 @@ returns-in-Ok-Some-Print-clause-complete g c = λ t.
     (Rose (g.D.Desk.in_faults c.args.desk.now) (g.D.Desk.in_faults c.print.new.desk)
     ⊎ Rose (g.D.Desk.out_faults c.args.desk.now) (g.D.Desk.out_faults c.print.new.desk)) c.print.result
     (c.print.ensures.told t) (λ e. inl (c.print.ensures.causes.read_fault e)) (λ e. inr (c.print.ensures.causes.write_fault e)))
+
+pub returns-in-Ok-Some-Import-clause-complete : goal.returns-in-Ok-Some-Import-clause-complete
+returns-in-Ok-Some-Import-clause-complete g c = λ t.
+    let asked = rw (c.in-Ok-Some-Import.field-0-is, c.in-Ok-Some-Import.field-0-0-is) at c.in-Ok-Some-Import.ensures in
+    rw (sym asked) (completes_import (g.D.Desk.inputs c.args.desk.now) (g.D.Desk.inputs c.import_table.new.desk)
+    (g.D.Desk.told c.args.desk.now) (g.D.Desk.told c.import_table.new.desk) c.in-Ok-Some-Import.table.now
+    (Rose (g.D.Desk.in_faults c.args.desk.now) (g.D.Desk.in_faults c.import_table.new.desk)
+    ⊎ Rose (g.D.Desk.out_faults c.args.desk.now) (g.D.Desk.out_faults c.import_table.new.desk)) c.import_table.result
+    (c.import_table.ensures.told t) (λ e. inl (c.import_table.ensures.causes.read_fault e)) (λ e. inr (c.import_table.ensures.causes.write_fault e)))
