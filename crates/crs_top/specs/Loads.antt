@@ -27,7 +27,8 @@ IsRefusal Refused old new = (line : ℕ) × (word : ModelWord) × Refused line w
 
 -- or a front of it
 abbrev pub IsRefusalFront : (ℕ → ModelWord → Type 0) → List ℕ → List ℕ → Type 0
-IsRefusalFront Refused old new = (line : ℕ) × (word : ModelWord) × (k : ℕ) × Refused line word × (new ≡ old ++ take k (model_line line word))
+IsRefusalFront Refused old new =
+    (line : ℕ) × (word : ModelWord) × (k : ℕ) × Refused line word × (new ≡ old ++ take k (model_line line word))
 
 -- What holds at each status of the models, whether their name was handed to open (n), how many bytes were taken (k), and what was written.
 abbrev pub ModelsOutcome : (List ℕ → Type 0) → (ℕ → ModelWord → Type 0) → List ℕ → ℕ → ℕ → List ℕ → Status → List ℕ → Type 0
@@ -36,7 +37,8 @@ ModelsOutcome Printed Refused models n k old Refusals new = ⊥
 ModelsOutcome Printed Refused models n k old Words new = ⊥
 ModelsOutcome Printed Refused models n k old Rejected new = (n ≡ 1) × AreTaken models k × IsRefusal Refused old new
 ModelsOutcome Printed Refused models n k old ReadFault new = new ≡ old
-ModelsOutcome Printed Refused models n k old WriteFault new = (n ≡ 1) × AreTaken models k × (AppendsFront Printed old new ⊎ IsRefusalFront Refused old new)
+ModelsOutcome Printed Refused models n k old WriteFault new =
+    (n ≡ 1) × AreTaken models k × (AppendsFront Printed old new ⊎ IsRefusalFront Refused old new)
 ModelsOutcome Printed Refused models n k old Memory new =
     (new ≡ old) ⊎ ((n ≡ 1) × AreTaken models k × (AppendsFront Printed old new ⊎ IsRefusalFront Refused old new))
 ModelsOutcome Printed Refused models n k old TooLong new = ⊥
@@ -62,8 +64,10 @@ pub record Loaded (base now : ℕ) (old : Told) (models : List ℕ) (n i k : ℕ
 -- the models were read whole; or the call ends, where they are too long by their refusal
 abbrev pub LoadsModels : ℕ → ℕ → Told → List ℕ → Result (Vec ℕ Global) Status → Told → Type 0
 LoadsModels base now old models (Ok v) new =
-    (more : List Turn) × Loaded base now old models 1 1 (length v.items) more new × (v.items ≡ bytes_of old models) × (length v.items ≤ 2 ^ 20)
-LoadsModels base now old models (Err status) new = EndsWithModels base now (λ text. ⊥) (IsTooLong (bytes_of old models)) old models status new
+    (more : List Turn) × Loaded base now old models 1 1 (length v.items) more new × (v.items ≡ bytes_of old models)
+    × (length v.items ≤ 2 ^ 20)
+LoadsModels base now old models (Err status) new =
+    EndsWithModels base now (λ text. ⊥) (IsTooLong (bytes_of old models)) old models status new
 
 -- the line of the refused models is written so, and for want of memory nothing
 abbrev pub Refuses : Told → ModelRefused → Status → Told → Type 0
