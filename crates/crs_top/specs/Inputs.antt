@@ -15,7 +15,8 @@ after bytes k = record { taken = k; rest = drop k bytes }
 
 -- The first n of these names were handed to open, and the first i of these inputs were opened and are left so.
 -- More are the turns; the count of inputs was base and is now.
-pub record Opened (base now : ℕ) (old : Told) (names : List (List ℕ)) (inputs : List Stream) (n i : ℕ) (more : List Turn) (new : Told) : Type 0 where
+pub record Opened (base now : ℕ) (old : Told) (names : List (List ℕ)) (inputs : List Stream) (n i : ℕ) (more : List Turn)
+    (new : Told) : Type 0 where
   pub files : new.files ≡ old.files
   pub few : n ≤ length names
   pub opened : new.opened ≡ old.opened ++ take n names
@@ -25,7 +26,8 @@ pub record Opened (base now : ℕ) (old : Told) (names : List (List ℕ)) (input
   pub left : new.left ≡ old.left ++ take i inputs
   pub turns : new.turns ≡ old.turns ++ more
 
--- k bytes of an input were taken, at most up to the limit, in turns that rise and have the room that is left to it; and none where it wasn't opened
+-- k bytes of an input were taken, at most up to the limit, in turns that rise and have the room that is left to it; and none where it
+-- wasn't opened
 pub record IsRead (input limit : ℕ) (unopened : Type 0) (bytes : List ℕ) (k : ℕ) (more : List Turn) : Type 0 where
   pub unread : unopened → (k ≡ 0) × (more ≡ [])
   pub within : k ≤ length bytes

@@ -37,4 +37,5 @@ Prints base now symbols listing old models status new =
 -- Where no fault rose, models that are accepted are printed and others are refused, unless memory is wanting.
 pub record CompletesPrint (symbols : ℕ) (old : Told) (models : List ℕ) (fault : Type 0) (status : Status) : Type 0 where
   pub accepted : (m : Models (List ℕ)) → AreModelsIn symbols (bytes_of old models) m → (fault → ⊥) → (status ≡ Done) ⊎ (status ≡ Memory)
-  pub refused : (line : ℕ) (word : ModelWord) → IsFaulty symbols (bytes_of old models) line word → (fault → ⊥) → (status ≡ Rejected) ⊎ (status ≡ Memory)
+  pub refused : (line : ℕ) (word : ModelWord) → IsFaulty symbols (bytes_of old models) line word → (fault → ⊥) → (status ≡ Rejected)
+      ⊎ (status ≡ Memory)

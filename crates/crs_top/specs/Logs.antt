@@ -40,15 +40,19 @@ abbrev pub IsPrompt : Frame → List ℕ → List ℕ → List ℕ → List Turn
 IsPrompt f old log written [] = Unit {0}
 IsPrompt f old log written (t ∷ ts) = IsPromptAt f old log written t × IsPrompt f old log written ts
 
--- a front of the text of the whole lines among the first bytes, of which at most t were read; or, where the end was met, of the whole log's text and the tail
+-- a front of the text of the whole lines among the first bytes, of which at most t were read; or, where the end was met, of the whole
+-- log's text and the tail
 abbrev pub IsCutShort : Tail → Frame → List ℕ → ℕ → List ℕ → List ℕ → Type 0
 IsCutShort tail f log t old new =
-    ((u : ℕ) × (u ≤ t) × AppendsFront (IsWholeText f (take u log)) old new) ⊎ ((t ≡ length log) × AppendsFront (IsEndedText tail f log) old new)
+    ((u : ℕ) × (u ≤ t) × AppendsFront (IsWholeText f (take u log)) old new)
+    ⊎ ((t ≡ length log) × AppendsFront (IsEndedText tail f log) old new)
 
 -- What holds at each status of a log that was opened, of which t bytes were read, and what was written.
 abbrev pub LogOutcome : Tail → Frame → List ℕ → ℕ → ℕ → List ℕ → Status → List ℕ → Type 0
-LogOutcome tail f log limit t old Done new = (t ≡ length log) × (t < limit) × Appends (IsEndedText tail f log) old new × (some_refused f log ≡ false)
-LogOutcome tail f log limit t old Refusals new = (t ≡ length log) × (t < limit) × Appends (IsEndedText tail f log) old new × (some_refused f log ≡ true)
+LogOutcome tail f log limit t old Done new =
+    (t ≡ length log) × (t < limit) × Appends (IsEndedText tail f log) old new × (some_refused f log ≡ false)
+LogOutcome tail f log limit t old Refusals new =
+    (t ≡ length log) × (t < limit) × Appends (IsEndedText tail f log) old new × (some_refused f log ≡ true)
 LogOutcome tail f log limit t old Words new = ⊥
 LogOutcome tail f log limit t old Rejected new = ⊥
 LogOutcome tail f log limit t old ReadFault new = (t < limit) × Appends (IsWholeText f (take t log)) old new
@@ -57,7 +61,8 @@ LogOutcome tail f log limit t old WriteFault new = IsCutShort tail f log t old n
 LogOutcome tail f log limit t old Memory new = IsCutShort tail f log t old new
 
 -- t bytes of a log that was just opened were read, in rising and prompt turns, each with the room that is left to the limit
-pub record ReadsLog (tail : Tail) (f : Frame) (old : Told) (input limit t : ℕ) (more : List Turn) (status : Status) (new : Told) : Type 0 where
+pub record ReadsLog (tail : Tail) (f : Frame) (old : Told) (input limit t : ℕ) (more : List Turn) (status : Status)
+    (new : Told) : Type 0 where
   pub files : new.files ≡ old.files
   pub opened : new.opened ≡ old.opened
   pub left : new.left ≡ advanced old.left input t

@@ -33,9 +33,11 @@ WithModels most models k P = (f : Frame) × IsAccepted most.symbols most.entries
 -- how many bytes of the models (k) and of the log (t) were taken, and what was written.
 abbrev pub Outcome : Tail → Most → List ℕ → List ℕ → ℕ → ℕ → ℕ → ℕ → List ℕ → Status → List ℕ → Type 0
 Outcome tail most models log n i k t old Done new =
-    (n ≡ 2) × (t ≡ length log) × (t < most.bytes) × WithModels most models k (λ f. Appends (IsEndedText tail f log) old new × (some_refused f log ≡ false))
+    (n ≡ 2) × (t ≡ length log) × (t < most.bytes)
+    × WithModels most models k (λ f. Appends (IsEndedText tail f log) old new × (some_refused f log ≡ false))
 Outcome tail most models log n i k t old Refusals new =
-    (n ≡ 2) × (t ≡ length log) × (t < most.bytes) × WithModels most models k (λ f. Appends (IsEndedText tail f log) old new × (some_refused f log ≡ true))
+    (n ≡ 2) × (t ≡ length log) × (t < most.bytes)
+    × WithModels most models k (λ f. Appends (IsEndedText tail f log) old new × (some_refused f log ≡ true))
 Outcome tail most models log n i k t old Words new = ⊥
 Outcome tail most models log n i k t old Rejected new = (n ≡ 1) × AreTaken (2 ^ 20) models k × Appends (IsModelLine (IsRejected most.symbols models)) old new
 Outcome tail most models log n i k t old ReadFault new =
@@ -51,9 +53,12 @@ Outcome tail most models log n i k t old Memory new =
     ⊎ ((n ≡ 2) × WithModels most models k (λ f. IsCutShort tail f log t old new))
     ⊎ ((n ≡ 1) × AreTaken (2 ^ 20) models k × AppendsFront (IsModelLine (IsRejected most.symbols models)) old new)
 
--- Of the two names n were handed to open, the log's only where the models are accepted, and i inputs were opened, all of these but where that was a read fault.
--- k bytes of the models and t of the log were taken; the turns are first of the models' input and then of the log's, and the log's are prompt.
-pub record DidRun (base now : ℕ) (tail : Tail) (most : Most) (old : Told) (models log : List ℕ) (n i k t : ℕ) (of_models of_log : List Turn) (status : Status) (new : Told) : Type 0 where
+-- Of the two names n were handed to open, the log's only where the models are accepted, and i inputs were opened, all of these but where
+-- that was a read fault.
+-- k bytes of the models and t of the log were taken; the turns are first of the models' input and then of the log's, and the log's are
+-- prompt.
+pub record DidRun (base now : ℕ) (tail : Tail) (most : Most) (old : Told) (models log : List ℕ) (n i k t : ℕ)
+    (of_models of_log : List Turn) (status : Status) (new : Told) : Type 0 where
   pub did : Opened base now old (models ∷ log ∷ []) (after (bytes_of old models) k ∷ after (bytes_of old log) t ∷ []) n i (of_models ++ of_log) new
   pub models_read : IsRead base (2 ^ 20 + 1) (i < 1) (bytes_of old models) k of_models
   pub log_read : IsRead (base + 1) most.bytes (i < 2) (bytes_of old log) t of_log
@@ -63,16 +68,19 @@ pub record DidRun (base now : ℕ) (tail : Tail) (most : Most) (old : Told) (mod
 
 abbrev pub Runs : ℕ → ℕ → Tail → Most → Told → List ℕ → List ℕ → Status → Told → Type 0
 Runs base now tail most old models log status new =
-    (n : ℕ) × (i : ℕ) × (k : ℕ) × (t : ℕ) × (of_models : List Turn) × (of_log : List Turn) × DidRun base now tail most old models log n i k t of_models of_log status new
+    (n : ℕ) × (i : ℕ) × (k : ℕ) × (t : ℕ) × (of_models : List Turn) × (of_log : List Turn)
+    × DidRun base now tail most old models log n i k t of_models of_log status new
 
--- What holds where the log was opened; and where it wasn't, which is a read fault or want of memory, and its name is handed over at the fault alone.
+-- What holds where the log was opened; and where it wasn't, which is a read fault or want of memory, and its name is handed over at the
+-- fault alone.
 abbrev pub FollowOutcome : Tail → Frame → List ℕ → ℕ → ℕ → ℕ → ℕ → List ℕ → Status → List ℕ → Type 0
 FollowOutcome tail f log limit n i t old status new =
     ((n ≡ 1) × (i ≡ 1) × LogOutcome tail f log limit t old status new)
     ⊎ ((n ≡ 1) × (i ≡ 0) × (t ≡ 0) × (status ≡ ReadFault) × (new ≡ old))
     ⊎ ((n ≡ 0) × (status ≡ Memory) × (new ≡ old))
 
-pub record Followed (base now : ℕ) (tail : Tail) (f : Frame) (limit : ℕ) (old : Told) (log : List ℕ) (n i t : ℕ) (more : List Turn) (status : Status) (new : Told) : Type 0 where
+pub record Followed (base now : ℕ) (tail : Tail) (f : Frame) (limit : ℕ) (old : Told) (log : List ℕ) (n i t : ℕ) (more : List Turn)
+    (status : Status) (new : Told) : Type 0 where
   pub did : Opened base now old (log ∷ []) (after (bytes_of old log) t ∷ []) n i more new
   pub read : IsRead base limit (i < 1) (bytes_of old log) t more
   pub failed : i < n → status ≡ ReadFault
@@ -80,13 +88,18 @@ pub record Followed (base now : ℕ) (tail : Tail) (f : Frame) (limit : ℕ) (ol
   pub outcome : FollowOutcome tail f (bytes_of old log) limit n i t old.written status new.written
 
 abbrev pub Follows : ℕ → ℕ → Tail → Frame → ℕ → Told → List ℕ → Status → Told → Type 0
-Follows base now tail f limit old log status new = (n : ℕ) × (i : ℕ) × (t : ℕ) × (more : List Turn) × Followed base now tail f limit old log n i t more status new
+Follows base now tail f limit old log status new =
+    (n : ℕ) × (i : ℕ) × (t : ℕ) × (more : List Turn) × Followed base now tail f limit old log n i t more status new
 
--- Where no fault rose, the status is, unless memory is wanting: by the lines of the log, where the models are accepted and the log is short enough;
+-- Where no fault rose, the status is, unless memory is wanting: by the lines of the log, where the models are accepted and the log is
+-- short enough;
 -- TooLong, where it is not; Rejected, where the models are refused.
 pub record Completes (most : Most) (old : Told) (models log : List ℕ) (fault : Type 0) (status : Status) : Type 0 where
-  pub accepted : (f : Frame) → IsAccepted most.symbols most.entries (bytes_of old models) f → length (bytes_of old log) < most.bytes → (fault → ⊥)
+  pub accepted : (f : Frame) → IsAccepted most.symbols most.entries (bytes_of old models) f → length (bytes_of old log) < most.bytes
+      → (fault → ⊥)
       → (status ≡ Done) ⊎ (status ≡ Refusals) ⊎ (status ≡ Memory)
-  pub too_long : (f : Frame) → IsAccepted most.symbols most.entries (bytes_of old models) f → most.bytes ≤ length (bytes_of old log) → (fault → ⊥)
+  pub too_long : (f : Frame) → IsAccepted most.symbols most.entries (bytes_of old models) f → most.bytes ≤ length (bytes_of old log)
+      → (fault → ⊥)
       → (status ≡ TooLong) ⊎ (status ≡ Memory)
-  pub refused : (line : ℕ) (word : ModelWord) → IsRejected most.symbols (bytes_of old models) line word → (fault → ⊥) → (status ≡ Rejected) ⊎ (status ≡ Memory)
+  pub refused : (line : ℕ) (word : ModelWord) → IsRejected most.symbols (bytes_of old models) line word → (fault → ⊥)
+      → (status ≡ Rejected) ⊎ (status ≡ Memory)

@@ -1,7 +1,6 @@
 //! The top call: the words, the desk and a status.
 #![tactic(auto)]
 
-mod answer;
 mod laws;
 mod limits;
 mod listing;

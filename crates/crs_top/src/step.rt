@@ -1,5 +1,5 @@
 // One line of a log.
-ghost use Rattle.std.specs.Prelude.{◌≡◌, ◌≤◌, ◌<◌, ◌^◌, ◌||◌, ◌&&◌, ◌++◌, ℕ, List as Items, OnOk, true};
+ghost use Rattle.std.specs.Prelude.{◌≡◌, ◌≤◌, ◌<◌, ◌^◌, ◌||◌, ◌&&◌, ◌++◌, ℕ, List as Items, OnOk, flat_map, true};
 ghost use Rattle.crs_log.specs.Given.{seen};
 ghost use Rattle.crs_log.specs.Items.{Clock, Finish as LogEnd, Happens, IsItem};
 ghost use Rattle.crs_log.specs.Known.{known_of};
@@ -9,17 +9,17 @@ ghost use Rattle.crs_log.specs.SeenNames.{name_seen, IsTextAt};
 ghost use Rattle.crs_log.specs.Known.{Named};
 ghost use Rattle.std.specs.Prelude.{map};
 ghost use Rattle.crs_log.specs.Run.{after_given, after_what};
-ghost use Rattle.crs_top.specs.Session.{IsReady, IsOpen, IsUnused, BringsAll, IsShort, number_of, ordered_what, is_blank_what, is_delay_what};
+ghost use Rattle.crs_top.specs.Session.{IsReady, IsOpen, IsUnused, BringsAll, IsShort, ArePrintable, line_in, number_of, ordered_what, is_blank_what, is_delay_what};
 ghost use Rattle.crs_top.specs.Texts.{setting_of};
 ghost use Rattle.crs_report.specs.Lines.{refusal_line};
 
-use crate::answer::push_answer;
 use crate::session::Session;
-use crs_base::{Steps, Sym, Token};
+use crs_base::{Steps, Sym, Symbols, Token};
 use crs_engine::Refused;
 use crs_log::naming::{NameRefused, known};
 use crs_log::{EntryRefused, Item, ItemRefused, Known, Line, Raw, make_named, read_item};
-use crs_report::{Fault, push_refusal_line};
+use crs_model::{Plans, Recognition};
+use crs_report::{Fault, push_line_of, push_refusal_line};
 use std::alloc::{AllocError, Global};
 use std::marker::Brand;
 use std::sync::ledger::{Blank, Ledger};
@@ -260,4 +260,20 @@ pub fn take_line(
             Err(ItemRefused::Memory) => Err(AllocError),
         },
     }
+}
+
+/// Writes the lines of recognitions, in order.
+fn push_answer(
+    plans: &Plans,
+    symbols: &Symbols,
+    answer: &[Recognition],
+    out: &mut Vec<u8>,
+) -> Result<(), AllocError>
+    requires { ArePrintable plans.now symbols.now.texts answer.now }
+    ensures { OnOk result (out.new.items ≡ out.old.items ++ flat_map (line_in plans.now symbols.now.texts) answer.now) }
+{
+    for r in answer {
+        push_line_of(out, plans, symbols, r)?;
+    }
+    Ok(())
 }

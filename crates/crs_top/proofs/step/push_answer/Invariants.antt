@@ -1,7 +1,7 @@
 use Rattle.std.proofs.Common.{◌≡◌, ◌++◌, drop}
 use Rattle.std.specs.Prelude.{flat_map}
 use Rattle.crs_top.specs.Session.{line_in, ArePrintable}
-use Rattle.crs_top.proofs.answer.push_answer.Given as goal
+use Rattle.crs_top.proofs.step.push_answer.Given as goal
 
 -- what is written and the lines of what is left are the lines of all
 abbrev pub invariant-loop-r : goal.invariant-loop-r
