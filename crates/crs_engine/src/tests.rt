@@ -31,7 +31,8 @@ fn event(alloc: Global, name: u32) -> EventDef
 
 /// That b comes 1 to 5 ticks after a.
 fn bounds(alloc: Global) -> Result<List<Bound>, AllocError>
-    ensures { IfOk result (IsWithin 2) }
+    ensures within { IfOk result (IsWithin 2) }
+    ensures few { IfOk result (λ bounds. length bounds ≤ 512) }
 {
     let mut bounds = List::new(alloc);
     bounds.push(Bound {
@@ -79,7 +80,7 @@ fn plan(alloc: Global) -> Result<Rc<Plan>, AllocError>
             Plan {
                 chronicle,
                 network,
-                reach: Some(5),
+                reach: None,
             },
         )?),
         Err(_) => Err(AllocError),

@@ -7,3 +7,4 @@ pub mod Deadline
 pub mod GoesOn
 pub mod Pushes
 pub mod Fixture
+pub mod Stretches

@@ -1,4 +1,4 @@
-ghost use Rattle.std.specs.Prelude.{◌≡◌, ◌<◌, ◌^◌, [], length, None, IfOk, OnOk};
+ghost use Rattle.std.specs.Prelude.{◌≡◌, ◌<◌, ◌≤◌, ◌^◌, [], length, None, IfOk, OnOk};
 ghost use Rattle.crs_stn.specs.Bound.{IsWithin};
 ghost use Rattle.crs_model.specs.Plans.{IsProper};
 ghost use Rattle.crs_model.specs.Partial.{at};
@@ -17,6 +17,7 @@ use std::test::Fail;
 
 /// An event of this name and of the level of the same number, without arguments.
 fn event(alloc: Global, name: u8) -> EventDef
+    requires { name ≤ 7 }
     ensures { IsPlain result }
 {
     EventDef {
@@ -32,7 +33,8 @@ fn event(alloc: Global, name: u8) -> EventDef
 
 /// That b comes 1 to 5 ticks after a.
 fn bounds(alloc: Global) -> Result<List<Bound>, AllocError>
-    ensures { IfOk result (IsWithin 2) }
+    ensures within { IfOk result (IsWithin 2) }
+    ensures few { IfOk result (λ bounds. length bounds ≤ 512) }
 {
     let mut bounds = List::new(alloc);
     bounds.push(Bound {
@@ -79,7 +81,7 @@ fn plan(alloc: Global) -> Result<Rc<Plan>, AllocError>
             Plan {
                 chronicle,
                 network,
-                reach: Some(5),
+                reach: None,
             },
         )?),
         Err(_) => Err(AllocError),

@@ -1,14 +1,17 @@
 -- Plans that come of accepted models.
-use Rattle.std.specs.Prelude.{◌≡◌, ◌<◌, ◌≤◌, ◌+◌, length}
+use Rattle.std.specs.Prelude.{◌≡◌, ◌<◌, ◌≤◌, ◌+◌, ℤ, List, length, Some}
 use Rattle.std.specs.List.{AllByRecursion}
 use Rattle.crs_base.specs.declared.symbols.Sym.{Sym}
 use Rattle.crs_stn.specs.Bound.{IsWithin, IsConsistent}
 use Rattle.crs_stn.specs.Network.{IsMinimal}
 use Rattle.crs_stn.specs.Table.{most_of}
 use Rattle.crs_model.specs.declared.plan.Plan.{Plan}
-use Rattle.crs_model.specs.Models.{Chronicle}
+use Rattle.crs_model.specs.Models.{Chronicle, Name}
 use Rattle.crs_model.specs.Proper.{IsNamed}
 use Rattle.crs_model.specs.Bindings.{PatternIsBelow}
+use Rattle.crs_model.specs.ProperModels.{IsProperChronicle}
+use Rattle.crs_model.specs.Ready.{HoldsOne}
+use Rattle.crs_model.specs.Reaches.{ReachesBack}
 use Rattle.crs_model.specs.Seen.{chronicle_of}
 
 abbrev pub chronicle : Plan → Chronicle Sym
@@ -25,3 +28,6 @@ pub record IsProper (p : Plan) : Type 0 where
   pub minimal : IsMinimal p.chronicle.bounds p.network.points (most_of p.network)
   pub named : IsNamed (chronicle p)
   pub below : AllByRecursion (λ v. PatternIsBelow (length p.chronicle.variables) v.pattern) (chronicle p).events
+  pub declared : (names : List (Name Sym)) × IsProperChronicle names (chronicle p)
+  pub holds : AllByRecursion (λ w. HoldsOne w.body) (chronicle p).windows
+  pub reach : (r : ℤ) → p.reach ≡ Some r → ReachesBack (chronicle p) r

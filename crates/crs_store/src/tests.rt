@@ -31,7 +31,8 @@ fn event(alloc: Global, name: u32) -> EventDef
 
 /// That the second event comes from `least` to 5 ticks after the first.
 fn bounds(alloc: Global, least: u8) -> Result<List<Bound>, AllocError>
-    ensures { IfOk result (IsWithin 2) }
+    ensures within { IfOk result (IsWithin 2) }
+    ensures few { IfOk result (λ bounds. length bounds ≤ 512) }
 {
     let mut bounds = List::new(alloc);
     bounds.push(Bound {
@@ -79,7 +80,7 @@ fn plan(alloc: Global, one: u32, other: u32, least: u8) -> Result<Rc<Plan>, Allo
             Plan {
                 chronicle,
                 network,
-                reach: Some(5),
+                reach: None,
             },
         )?),
         Err(_) => Err(AllocError),
