@@ -55,7 +55,7 @@ module _ (plan : Plan) (i : InstanceState) (k : ℕ) (w : Window Sym) (is : slic
       of_two e = cc
 
   -- what holds of the window of this number
-  at_window : (P : Window Sym → Type 0) → P w → IfSome (slice_get (chronicle plan).windows k) P
+  pub at_window : (P : Window Sym → Type 0) → P w → IfSome (slice_get (chronicle plan).windows k) P
   at_window P h = some_if (slice_get (chronicle plan).windows k) P (λ v e. subst P (same v e) h)
 
   pub stretch_unbound : (BodyIsBound (look_of i.binding) w.body → ⊥) → IsStretchAt plan i k None

@@ -6,3 +6,4 @@ pub mod Marking
 pub mod Finding
 pub mod Ascending
 pub mod Advancing
+pub mod Progress

@@ -1,3 +1,5 @@
 pub mod Stores
 pub mod Sweeps
 pub mod Answers
+pub mod Windows
+pub mod Judged

@@ -1,0 +1,9 @@
+use Rattle.std.proofs.Common.{◌≤◌, length}
+use Rattle.crs_base.specs.Seen.{entry_of}
+use Rattle.crs_instance.specs.Instances.{progress_at}
+use Rattle.crs_store.specs.Windows.{Begins}
+use Rattle.crs_store.specs.Judged.{AreStepped}
+use Rattle.crs_store.proofs.windows.begin_windows.Given as goal
+
+abbrev pub invariant-loop-k : goal.invariant-loop-k
+invariant-loop-k l = AreStepped (λ k q. Begins l.plan l.history l.h l.parent l.initial.fork k q) l.k l.initial.fork l.fork
