@@ -3,7 +3,7 @@ use Rattle.std.proofs.Common.{◌≡◌, ◌≢◌, ℕ, zero, suc, ◌<◌, ◌
 use Rattle.std.specs.List.{AllByRecursion, AllZip}
 use Rattle.std.specs.declared.cmp.Ordering.TheVariants.{Less}
 use Rattle.std.proofs.lemmas.List.{take_all}
-use Rattle.std.proofs.lemmas.Int.{ints}
+use Rattle.crs_history.proofs.FarBack.{far_later}
 use Rattle.std.proofs.Math.Nat.{max-eq_right}
 use Rattle.crs_base.specs.declared.symbols.Sym.{Sym}
 use Rattle.crs_base.specs.Words.{IsIn, Ordered}
@@ -38,11 +38,6 @@ abbrev pub AllFar : List StoreState → ℕ → ℤ → Type 0
 AllFar ss g floor = AllByRecursion (λ s. IsFarBack s.plan.reach g floor) ss
 
 -- ---- the history goes far enough back
-
-far_later : (reach : Option ℤ) (g h : ℕ) (floor : ℤ) → g ≤ h → IsFarBack reach g floor → IsFarBack reach h floor
-far_later reach g h floor l (inl e) = inl e
-far_later None g h floor l (inr k) = absurd k
-far_later (Some r) g h floor l (inr k) = inr (omega (arith, ints))
 
 plans_later : (g h : ℕ) (floor : ℤ) → g ≤ h → (ps : List Plan) → AllByRecursion (λ p. IsFarBack p.reach g floor) ps → AllByRecursion (λ p. IsFarBack p.reach h floor) ps
 plans_later g h floor l [] k = tt

@@ -1,5 +1,5 @@
 -- The answers of a bind.
-use Rattle.std.proofs.Common.{◌^◌, ◌≡◌, ◌≢◌, ℕ, zero, suc, ◌<◌, ◌+◌, List, [], ◌∷◌, length, map, refl, sym, ap, subst, ◌∙◌, arith}
+use Rattle.std.proofs.Common.{◌≡◌, ◌≢◌, ℕ, zero, suc, ◌<◌, ◌+◌, List, [], ◌∷◌, length, map, refl, sym, ap, subst, ◌∙◌, arith}
 use Rattle.std.specs.Prelude.{ℤ, pos, Option, Some, None, option_map, IfSome, IsSomeAnd, slice_get, slice_index_or, Bool, true, false, IsTrue, ◌↔◌, replicate}
 use Rattle.std.specs.List.{AllByRecursion}
 use Rattle.std.proofs.lemmas.List.{get_or_default, length-replicate}
@@ -66,12 +66,12 @@ module _ (plan : Plan) (proper : IsProper plan) (i j : InstanceState) (same : i 
   answer_outside b says s = never_then (not_inside plan proper i of_seen e x inside free_seen (λ w. let t = says.1 w in absurd cc))
 
   pub answer_yes : (def : EventDef Sym) → slice_get (chronicle plan).events e ≡ Some def → (o : Option (List (Option Sym))) (b : List (Option Sym)) → o ≡ Some b → IsBoundBy (chronicle plan) def.pattern i.binding x o → ((f : ℕ) → IfSome (at i.partial f) (λ y. y.arrival ≢ x.arrival)) →
-      (t : Bool) → (IsTrue t ↔ IsInside (window_at i.windows e) (pos x.date)) → t ≡ true → (ws : List DateWindow) → IsNarrowed plan.network.points (most_of plan.network) e (pos x.date) i.windows ws → x.date < 2 ^ 40 →
+      (t : Bool) → (IsTrue t ↔ IsInside (window_at i.windows e) (pos x.date)) → t ≡ true → (ws : List DateWindow) → IsNarrowed plan.network.points (most_of plan.network) e (pos x.date) i.windows ws →
       IsOf plan (record { partial = put j.partial e x; binding = b; windows = ws; progress = j.progress })
-  answer_yes def is o b s h absent t says holds ws narrowed low =
+  answer_yes def is o b s h absent t says holds ws narrowed =
       let k : IsBoundBy (chronicle plan) def.pattern i.binding x (Some b) = subst (λ (t : Option (List (Option Sym))). IsBoundBy (chronicle plan) def.pattern i.binding x t) s h in
       subst (λ (s : InstanceState). IsOf plan (record { partial = put s.partial e x; binding = b; windows = ws; progress = s.progress })) same
-      (bound_now plan proper i of_seen e x inside free_seen def is b k.0 ws k.2 k.1 absent (says.0 holds) narrowed low)
+      (bound_now plan proper i of_seen e x inside free_seen def is b k.0 ws k.2 k.1 absent (says.0 holds) narrowed)
 
 -- ---- nothing bound
 
@@ -124,7 +124,6 @@ root_of plan proper a b ws ps ea eb ew ep =
           let is = ap (λ (w : DateWindow). w.least) (window r) ∙ sym (greatest_none (λ p. before (dates_of a p) (most_of plan.network r p)) plan.network.points (λ p. ap (λ (o : Option ℤ). before o (most_of plan.network r p)) (dateless p))) in
           subst (λ (o : Option ℤ). IsSoonest plan.chronicle.bounds (dates_of a) r o) (sym is)
           (IsSoonest-soonest plan.chronicle.bounds plan.network.points (most_of plan.network) (dates_of a) proper.within proper.consistent proper.minimal (λ p. none_if (dates_of a p) _ (dateless p)) (λ p q. none_if (dates_of a p) _ (dateless p)) r l);
-      dated = λ f x k. let u = free f in absurd (cc);
       followed = ap length ep ∙ length-replicate (length plan.chronicle.windows) no_progress;
     }
 

@@ -1,5 +1,5 @@
 -- What binding one more event makes of an instance.
-use Rattle.std.proofs.Common.{◌^◌, ◌≡◌, ◌≢◌, ℕ, ◌<◌, ◌≤◌, List, length, inl, inr, ◌⊎◌, refl, sym, ap, subst, ◌∙◌, arith, length-set}
+use Rattle.std.proofs.Common.{◌≡◌, ◌≢◌, ℕ, ◌<◌, ◌≤◌, List, length, inl, inr, ◌⊎◌, refl, sym, ap, subst, ◌∙◌, arith, length-set}
 use Rattle.std.specs.Prelude.{ℤ, pos, ◌≤ℤ◌, Option, Some, None, option_map, IfSome, IsSomeAnd, slice_get}
 use Rattle.std.proofs.lemmas.Bool.Decides.{eqb_tells}
 use Rattle.crs_base.specs.declared.symbols.Sym.{Sym}
@@ -113,15 +113,6 @@ module _ (plan : Plan) (proper : IsProper plan) (i : InstanceState) (of : IsOf p
       not_soon = soon_option (window_at i.windows e).least m.0 (pos x.date) (of.least e point_inside) (old_agrees m.0 m.1) m.2 (new_at m.0 m.1);
     }
 
-    dated_put : x.date < 2 ^ 40 → (f : ℕ) (y : Entry Sym) → at (put i.partial e x) f ≡ Some y → y.date < 2 ^ 40
-    dated_put low f y k = elim (eqb_tells f e) [
-      | inl s ↦ (let a : at (put i.partial e x) e ≡ Some y = subst (λ (q : ℕ). at (put i.partial e x) q ≡ Some y) s.1 k in subst (λ (z : Entry Sym). z.date < 2 ^ 40) (same x y (sym (put_same i.partial e x at_inside) ∙ a)) low)
-      | inr o ↦ of.dated f y (sym (put_other i.partial e f x o.1) ∙ k)
-    ]
-      where
-        same : (x y : Entry Sym) → Some x ≡ Some y → x ≡ y
-        same x y h = cc
-
     module _ (def : EventDef Sym) (is : slice_get (chronicle plan).events e ≡ Some def) where
       equal_put : (look : Binding Sym) → EqualsAll (chronicle plan) i.partial look → PatternIs look def.pattern x → EqualsAll (chronicle plan) (put i.partial e x) look
       equal_put look h k f = some_if (slice_get (chronicle plan).events f) _ (λ ev j. some_if (at (put i.partial e x) f) _ (λ y m. elim (eqb_tells f e) [
@@ -154,9 +145,9 @@ module _ (plan : Plan) (proper : IsProper plan) (i : InstanceState) (of : IsOf p
           least = λ other h. new.least other (of.binding.least other (equal_old other h)) (equal_new other h);
         }
 
-        pub bound_now : (ws : List DateWindow) → length b ≡ length i.binding → IsAllowed (chronicle plan) (look_of b) → ((f : ℕ) → IfSome (at i.partial f) (λ y. y.arrival ≢ x.arrival)) → IsInside (window_at i.windows e) (pos x.date) → IsNarrowed points most e (pos x.date) i.windows ws → x.date < 2 ^ 40 →
+        pub bound_now : (ws : List DateWindow) → length b ≡ length i.binding → IsAllowed (chronicle plan) (look_of b) → ((f : ℕ) → IfSome (at i.partial f) (λ y. y.arrival ≢ x.arrival)) → IsInside (window_at i.windows e) (pos x.date) → IsNarrowed points most e (pos x.date) i.windows ws →
             IsOf plan (record { partial = put i.partial e x; binding = b; windows = ws; progress = i.progress })
-        bound_now ws len allowed absent within narrowed low = record {
+        bound_now ws len allowed absent within narrowed = record {
           len = length-set i.partial e (Some x) ∙ of.len;
           distinct = twice absent;
           binding = least_put;
@@ -166,7 +157,6 @@ module _ (plan : Plan) (proper : IsProper plan) (i : InstanceState) (of : IsOf p
           window_count = narrowed.len;
           most = λ r l. subst (λ (o : Option ℤ). IsLatest plan.chronicle.bounds (dates_of (put i.partial e x)) r o) (sym (most_at r l)) (IsLatest-latest plan.chronicle.bounds points most (dates_of (put i.partial e x)) proper.within proper.consistent proper.minimal put_below put_pairwise r l);
           least = λ r l. subst (λ (o : Option ℤ). IsSoonest plan.chronicle.bounds (dates_of (put i.partial e x)) r o) (sym (least_at r l)) (IsSoonest-soonest plan.chronicle.bounds points most (dates_of (put i.partial e x)) proper.within proper.consistent proper.minimal put_below put_pairwise r l);
-          dated = λ f y k. dated_put low f y k;
           followed = of.followed;
         }
           where

@@ -8,3 +8,4 @@ pub mod GoesOn
 pub mod Pushes
 pub mod Fixture
 pub mod Stretches
+pub mod Early

@@ -1,6 +1,6 @@
 -- Instances: a partial assignment with its binding, its date windows, and the progress of the chronicle's windows.
 use Rattle.std.specs.Prelude.{◌≡◌, ◌<◌, ◌^◌, ℕ, ℤ, ◌≤ℤ◌, List, length, map, Option, Some, None, option_map, slice_index_or, IfSome, is_some, false}
-use Rattle.std.specs.List.{list_all}
+use Rattle.std.specs.List.{list_all, AllByRecursion}
 use Rattle.std.specs.declared.rc.Rc.{Rc}
 use Rattle.std.proofs.Common.{Global}
 use Rattle.crs_base.specs.declared.symbols.Sym.{Sym}
@@ -27,6 +27,10 @@ pub record InstanceState : Type 0 where
   pub windows : List DateWindow
   pub progress : List Progress
 
+-- the entries are dated before 2^40
+abbrev pub AreEarly : List (Option (Rc CodeEntry Global)) → Type 0
+AreEarly es = AllByRecursion (λ o. IfSome o (λ r. r.value.date < 2 ^ 40)) es
+
 -- the entry that an event is bound to
 abbrev pub seen_entry : Option (Rc CodeEntry Global) → Option (Entry Sym)
 seen_entry o = option_map (λ r. entry_of r.value) o
@@ -47,7 +51,7 @@ progress_at ps k = slice_index_or ps k no_progress
 abbrev pub window_at : List DateWindow → ℕ → DateWindow
 window_at ws p = slice_index_or ws p no_window
 
--- An instance of the plan: a partial assignment with the least binding of its entries, which is allowed, and for each point the greatest and the least date that the bounds and the bound events' dates leave. Its entries are dated before 2^40, and each window of the chronicle has a progress.
+-- An instance of the plan: a partial assignment with the least binding of its entries, which is allowed, and for each point the greatest and the least date that the bounds and the bound events' dates leave. Each window of the chronicle has a progress.
 pub record IsOf (plan : Plan) (i : InstanceState) : Type 0 where
   pub len : length i.partial ≡ length plan.chronicle.events
   pub distinct : GivesNoneTwice i.partial
@@ -58,7 +62,6 @@ pub record IsOf (plan : Plan) (i : InstanceState) : Type 0 where
   pub window_count : length i.windows ≡ plan.network.points
   pub most : (r : ℕ) → r < plan.network.points → IsLatest plan.chronicle.bounds (dates_of i.partial) r (window_at i.windows r).most
   pub least : (r : ℕ) → r < plan.network.points → IsSoonest plan.chronicle.bounds (dates_of i.partial) r (window_at i.windows r).least
-  pub dated : (e : ℕ) (x : Entry Sym) → at i.partial e ≡ Some x → x.date < 2 ^ 40
   pub followed : length i.progress ≡ length plan.chronicle.windows
 
 -- the date is in the window

@@ -10,12 +10,11 @@ ghost use Rattle.crs_model.specs.Steps.{flat};
 ghost use Rattle.crs_model.specs.Levels.{level_in};
 ghost use Rattle.crs_model.specs.declared.plan.Plan.{Plan};
 ghost use Rattle.crs_instance.specs.Followed.{IsStretchAt};
-ghost use Rattle.crs_base.specs.declared.symbols.Sym.{Sym};
-ghost use Rattle.crs_base.specs.Entry.{Entry as LogEntry};
 ghost use Rattle.crs_instance.specs.Instances.{no_window, no_progress as none_yet, progress_at, seen_entry, IsBoundBy, IsOf, IsAnswered, IsDeadline, AreAllEntries, window_at};
 ghost use Rattle.crs_instance.specs.Deadlines.{HasBits};
 
 use crate::entries::{
+    date_of,
     all_entries, are_all_bound, bits, copies, deadline_of_level, earliest_deadline, gives,
     no_entries,
 };
@@ -41,7 +40,7 @@ pub struct Instance {
 }
 
 impl Model for Instance {
-    ghost use Rattle.crs_instance.specs.Instances.{InstanceState, partial_of};
+    ghost use Rattle.crs_instance.specs.Instances.{InstanceState, partial_of, AreEarly};
 
     ghost Value = { InstanceState };
 
@@ -49,7 +48,7 @@ impl Model for Instance {
 
     ghost use Rattle.std.specs.Prelude.{◌≤◌, length};
 
-    ghost invariant = { λ i. (length i.entries.items ≤ length i.windows.items) × (length i.entries.items ≤ 16) };
+    ghost invariant = { λ i. (length i.entries.items ≤ length i.windows.items) × (length i.entries.items ≤ 16) × AreEarly i.entries.items };
 }
 
 /// As many windows without ends.
@@ -256,12 +255,17 @@ impl Instance {
         &self.binding
     }
 
-    /// What is known of the window of this number.
+    /// What is known of the window of this number, where there is one.
     pub fn progress(&self, window: u8) -> Progress
-        requires { window < length self.now.progress }
         ensures { result ≡ progress_at self.now.progress window }
     {
-        self.progress[window as usize]
+        match self.progress.as_slice().get(window as usize) {
+            None => Progress {
+                count: 0,
+                broken: false,
+            },
+            Some(progress) => *progress,
+        }
     }
 
     /// Writes down what is known of the window of this number.
@@ -274,22 +278,17 @@ impl Instance {
 
     /// The date that is the offset after the date of the event. None where the event is unbound.
     fn date_from(&self, anchor: Anchor) -> Option<i64>
-        requires dated { (x : LogEntry Sym) → at self.now.partial anchor.event ≡ Some x → x.date < 2 ^ 40 }
         requires not_large { anchor.offset ≤ℤ pos (2 ^ 40) }
         requires not_small { pos 0 ≤ℤ (anchor.offset +ℤ pos (2 ^ 40)) }
         ensures { result ≡ option_map (λ x. pos x.date +ℤ anchor.offset) (at self.now.partial anchor.event) }
     {
-        match self.entry(anchor.event) {
-            None => None,
-            Some(entry) => Some(entry.date as i64 + anchor.offset),
-        }
+        date_of(self.entries.as_slice(), anchor)
     }
 
     /// The dates of the window of this number. None exactly where one of its anchors or variables is
     /// unbound.
     pub fn stretch(&self, plan: &Plan, window: u8) -> Option<Stretch>
         requires proper { IsProper plan.now }
-        requires of { IsOf plan.now self.now }
         requires window { window < length plan.now.chronicle.windows }
         ensures { IsStretchAt plan.now self.now window result }
     {

@@ -7,3 +7,5 @@ pub mod Finding
 pub mod Ascending
 pub mod Advancing
 pub mod Progress
+pub mod Overs
+pub mod Firsts

@@ -1,5 +1,5 @@
 pub mod Stores
-pub mod Sweeps
-pub mod Answers
 pub mod Windows
 pub mod Judged
+pub mod Sweeps
+pub mod Answers

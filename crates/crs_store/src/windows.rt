@@ -189,8 +189,7 @@ fn has_lost(plan: &Plan, instance: &Instance, h: u64) -> bool
     requires proper { IsProper plan.now }
     requires of { IsOf plan.now instance.now }
     requires small { h ≤ 2 ^ 42 }
-    ensures no { result ≡ false → IsLostNowhere plan.now h instance.now (length plan.now.chronicle.windows) }
-    ensures yes { result ≡ true → IsLostNowhere plan.now h instance.now (length plan.now.chronicle.windows) → ⊥ }
+    ensures { result ≡ false ↔ IsLostNowhere plan.now h instance.now (length plan.now.chronicle.windows) }
 {
     for k in 0..plan.chronicle.windows.len() as u8 {
         if verdict(plan, instance, k, h) == Verdict::Lost {
@@ -205,8 +204,7 @@ pub(crate) fn are_met(plan: &Plan, instance: &Instance, h: u64) -> bool
     requires proper { IsProper plan.now }
     requires of { IsOf plan.now instance.now }
     requires small { h ≤ 2 ^ 42 }
-    ensures yes { result ≡ true → IsMetTo plan.now h instance.now (length plan.now.chronicle.windows) }
-    ensures no { result ≡ false → IsMetTo plan.now h instance.now (length plan.now.chronicle.windows) → ⊥ }
+    ensures { IsTrue result ↔ IsMetTo plan.now h instance.now (length plan.now.chronicle.windows) }
 {
     for k in 0..plan.chronicle.windows.len() as u8 {
         if verdict(plan, instance, k, h) != Verdict::Met {
@@ -221,11 +219,7 @@ pub(crate) fn is_able(plan: &Plan, instance: &Instance, h: u64) -> bool
     requires proper { IsProper plan.now }
     requires of { IsOf plan.now instance.now }
     requires small { h ≤ 2 ^ 42 }
-    ensures yes { result ≡ true → IsAble plan.now h instance.now }
-    ensures no { result ≡ false → IsAble plan.now h instance.now → ⊥ }
+    ensures { IsTrue result ↔ IsAble plan.now h instance.now }
 {
-    if !instance.can_go_on(h) {
-        return false;
-    }
-    !has_lost(plan, instance, h)
+    instance.can_go_on(h) && !has_lost(plan, instance, h)
 }

@@ -40,4 +40,4 @@ returns-clause-extended g c =
     c.matched.result c.in-Some.binding (search rules) c.matched.ensures.bound
     (subst (λ (es : List (Option (Rc CodeEntry Global))). (f : ℕ) → IfSome (at (partial_of es) f) (λ y. y.arrival ≢ c.args.entry.now.arrival)) c.as_slice-2.ensures.value (c.gives.ensures.absent c.if-gives.false))
     c.is_inside.result (inside_as c.self.inside.windows.items c.args.event c.index.result.now (pos c.args.entry.now.date) c.is_inside.result c.index.ensures (search rules) c.is_inside.ensures) (search rules) c.in_ok-windows.windows.items
-    (subst (λ (ws : List DateWindow). IsNarrowed c.args.plan.now.network.points (most_of c.args.plan.now.network) c.args.event (pos c.args.entry.now.date) ws c.in_ok-windows.windows.items) c.as_slice-3.ensures.value (c.in_ok-windows.ensures {u = tt})) c.requires.date
+    (subst (λ (ws : List DateWindow). IsNarrowed c.args.plan.now.network.points (most_of c.args.plan.now.network) c.args.event (pos c.args.entry.now.date) ws c.in_ok-windows.windows.items) c.as_slice-3.ensures.value (c.in_ok-windows.ensures {u = tt}))
