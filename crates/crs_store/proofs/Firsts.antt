@@ -1,6 +1,7 @@
 -- The first elements of a list are changed, and the others stay.
-use Rattle.std.proofs.Common.{◌≡◌, ℕ, zero, suc, ◌<◌, ◌+◌, List, [], ◌∷◌, length, refl, sym, ap, subst, arith, get_or, add-one, ◌∙◌}
+use Rattle.std.proofs.Common.{◌≡◌, ℕ, zero, suc, ◌<◌, ◌+◌, List, [], ◌∷◌, length, ◌++◌, take, drop, refl, sym, ap, subst, arith, get_or, add-one, ◌∙◌, append-nil}
 use Rattle.std.specs.Prelude.{slice_set}
+use Rattle.std.proofs.lemmas.List.{take_all}
 use Rattle.std.specs.List.{AllZip, AllByRecursion}
 
 module _ {A : Type 0} (R : A → A → Type 0) where
@@ -41,3 +42,23 @@ module _ {A : Type 0} (R : A → A → Type 0) where
   first_there P n (x ∷ xs) [] c keep l e all h = absurd h
   first_there P zero (x ∷ xs) (y ∷ ys) c keep l e all h = subst P (sym (e ∙ h.0)) all.0
   first_there P (suc n) (x ∷ xs) (y ∷ ys) c keep l e all h = first_there P n xs ys c keep (omega arith) e all.1 h.1
+
+  pub zip_length : (xs ys : List A) → AllZip R xs ys → length ys ≡ length xs
+  zip_length [] [] h = refl
+  zip_length [] (y ∷ ys) h = absurd h
+  zip_length (x ∷ xs) [] h = absurd h
+  zip_length (x ∷ xs) (y ∷ ys) h = ap suc (zip_length xs ys h.1)
+
+-- a slice of all is written back whole
+pub whole_back : {A : Type 0} (olds news : List A) (n : ℕ) → n ≡ length olds → length news ≡ length olds → take n (news ++ drop (length news) olds) ≡ news
+whole_back olds news n e l =
+    ap (λ t. take n (news ++ t)) (drop_all olds (length news) l) ∙ ap (take n) (append-nil news) ∙ take_all n news (let q : n ≡ length news = e ∙ sym l in omega (arith, q))
+  where
+    drop_all : {A : Type 0} (xs : List A) (n : ℕ) → n ≡ length xs → drop n xs ≡ []
+    drop_all [] zero e = refl
+    drop_all [] (suc n) e = refl
+    drop_all (x ∷ xs) zero e = absurd (omega arith)
+    drop_all (x ∷ xs) (suc n) e = drop_all xs n (omega arith)
+
+pub zip_back : {A : Type 0} (R : A → A → Type 0) (olds news : List A) (n : ℕ) → n ≡ length olds → AllZip R olds news → AllZip R olds (take n (news ++ drop (length news) olds))
+zip_back R olds news n e h = subst (AllZip R olds) (sym (whole_back olds news n e (zip_length R olds news h))) h

@@ -186,7 +186,6 @@ still_of plan old new s of = subst (IsOf plan) (sym s.same) (record {
   window_count = of.window_count;
   most = of.most;
   least = of.least;
-  dated = of.dated;
   followed = s.len ∙ of.followed;
 })
 

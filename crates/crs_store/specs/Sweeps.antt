@@ -83,5 +83,6 @@ abbrev pub IsDone : Plan → ℕ → InstanceState → Type 0
 IsDone plan h i = (is_whole i.partial ≡ true) × IsMetTo plan h i (length plan.chronicle.windows)
 
 -- it isn't done, and it is able to be at a later date
-abbrev pub CanWait : Plan → ℕ → InstanceState → Type 0
-CanWait plan h i = (IsDone plan h i → ⊥) × IsAble plan h i
+pub record CanWait (plan : Plan) (h : ℕ) (i : InstanceState) : Type 0 where
+  pub undone : IsDone plan h i → ⊥
+  pub able : IsAble plan h i

@@ -1,7 +1,5 @@
 ghost use Rattle.std.specs.Prelude.{◌≤◌, ◌^◌, IfOk};
 ghost use Rattle.crs_model.specs.Plans.{IsProper};
-ghost use Rattle.crs_instance.specs.Instances.{IsOf};
-ghost use Rattle.crs_store.specs.Stores.{AllOf};
 ghost use Rattle.crs_store.specs.Answers.{IsRecognitionIfDone, AreFound};
 
 use crate::forks::push_some;
@@ -19,7 +17,6 @@ fn recognition(
     mark: Mark,
 ) -> Result<Option<Recognition>, AllocError>
     requires proper { IsProper plan.now }
-    requires of { IsOf plan.now instance.now }
     requires small { h ≤ 2 ^ 42 }
     ensures { IfOk result (IsRecognitionIfDone plan.now h number mark instance.now) }
 {
@@ -47,7 +44,6 @@ pub(crate) fn recognitions(
     mark: Mark,
 ) -> Result<Vec<Recognition>, AllocError>
     requires proper { IsProper plan.now }
-    requires of { AllOf plan.now held.now }
     requires small { h ≤ 2 ^ 42 }
     ensures { IfOk result (λ v. AreFound plan.now h number mark held.now v.items) }
 {

@@ -18,7 +18,6 @@ use crs_model::Plan;
 /// Whether each event is bound and each window met at `h`.
 pub(crate) fn is_done(plan: &Plan, instance: &Instance, h: u64) -> bool
     requires proper { IsProper plan.now }
-    requires of { IsOf plan.now instance.now }
     requires small { h ≤ 2 ^ 42 }
     ensures { IsTrue result ↔ IsDone plan.now h instance.now }
 {
@@ -28,9 +27,8 @@ pub(crate) fn is_done(plan: &Plan, instance: &Instance, h: u64) -> bool
 /// Whether the instance isn't done, and may be at a later date.
 fn can_wait(plan: &Plan, instance: &Instance, h: u64) -> bool
     requires proper { IsProper plan.now }
-    requires of { IsOf plan.now instance.now }
     requires small { h ≤ 2 ^ 42 }
-    ensures { IsTrue result ↔ CanWait plan.now h instance.now }
+    ensures { IsOf plan.now instance.now → IsTrue result ↔ CanWait plan.now h instance.now }
 {
     !is_done(plan, instance, h) && is_able(plan, instance, h)
 }

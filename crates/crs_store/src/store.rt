@@ -80,7 +80,6 @@ fn answer(
     mark: Mark,
 ) -> Result<List<Recognition>, AllocError>
     requires proper { IsProper plan.now }
-    requires of { AllOf plan.now held.now }
     requires small { h ≤ 2 ^ 42 }
     ensures { IfOk result (AreFoundInOrder plan.now h number mark held.now) }
 {

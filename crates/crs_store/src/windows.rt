@@ -172,7 +172,6 @@ pub(crate) fn begin_windows(
 /// The verdict of a window at h, which waits where it hasn't begun.
 fn verdict(plan: &Plan, instance: &Instance, k: u8, h: u64) -> Verdict
     requires proper { IsProper plan.now }
-    requires of { IsOf plan.now instance.now }
     requires window { k < length plan.now.chronicle.windows }
     requires small { h ≤ 2 ^ 42 }
     ensures { IsJudged plan.now h instance.now k result }
@@ -187,7 +186,6 @@ fn verdict(plan: &Plan, instance: &Instance, k: u8, h: u64) -> Verdict
 /// Whether some window is lost at h.
 fn has_lost(plan: &Plan, instance: &Instance, h: u64) -> bool
     requires proper { IsProper plan.now }
-    requires of { IsOf plan.now instance.now }
     requires small { h ≤ 2 ^ 42 }
     ensures { result ≡ false ↔ IsLostNowhere plan.now h instance.now (length plan.now.chronicle.windows) }
 {
@@ -202,7 +200,6 @@ fn has_lost(plan: &Plan, instance: &Instance, h: u64) -> bool
 /// Whether each window is met at h.
 pub(crate) fn are_met(plan: &Plan, instance: &Instance, h: u64) -> bool
     requires proper { IsProper plan.now }
-    requires of { IsOf plan.now instance.now }
     requires small { h ≤ 2 ^ 42 }
     ensures { IsTrue result ↔ IsMetTo plan.now h instance.now (length plan.now.chronicle.windows) }
 {
@@ -217,9 +214,8 @@ pub(crate) fn are_met(plan: &Plan, instance: &Instance, h: u64) -> bool
 /// Whether the unbound events can come at or after h, and no window is lost then.
 pub(crate) fn is_able(plan: &Plan, instance: &Instance, h: u64) -> bool
     requires proper { IsProper plan.now }
-    requires of { IsOf plan.now instance.now }
     requires small { h ≤ 2 ^ 42 }
-    ensures { IsTrue result ↔ IsAble plan.now h instance.now }
+    ensures { IsOf plan.now instance.now → IsTrue result ↔ IsAble plan.now h instance.now }
 {
     instance.can_go_on(h) && !has_lost(plan, instance, h)
 }

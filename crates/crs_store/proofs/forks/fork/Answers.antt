@@ -33,22 +33,20 @@ returns-in-No-clause-fork g c =
     fork_no c.args.plan.now c.requires.proper c.args.history.now (entry_of c.args.entry.now.value) c.args.instance.now c.args.event c.requires.of c.requires.event c.in_ok-next.next c.bind.new.self (entry_of c.in_ok-clone.field-0.value) c.in_ok-bind.field-0
     (search rules) (ap entry_of (search rules)) (search rules) c.in_ok-bind.ensures.ok
 
-pub is_able-requires-clause-of : goal.is_able-requires-clause-of
-is_able-requires-clause-of g c =
-    still_of c.args.plan.now c.bind.new.self c.begin_windows.new.fork c.begin_windows.ensures.same
-    (bound_of c.args.plan.now c.requires.proper c.args.history.now (entry_of c.args.entry.now.value) c.args.instance.now c.args.event c.requires.of c.requires.event c.in_ok-next.next c.bind.new.self (entry_of c.in_ok-clone.field-0.value) c.in_ok-bind.field-0
-    (search rules) (ap entry_of (search rules)) (search rules) c.in_ok-bind.ensures.ok)
-
 pub returns-then-is_able-clause-fork : goal.returns-then-is_able-clause-fork
 returns-then-is_able-clause-fork g c =
     fork_yes c.args.plan.now c.requires.proper c.args.history.now (entry_of c.args.entry.now.value) c.args.instance.now c.args.event c.requires.of c.requires.event c.in_ok-next.next c.bind.new.self (entry_of c.in_ok-clone.field-0.value) c.in_ok-bind.field-0
     (search rules) (ap entry_of (search rules)) (search rules) c.in_ok-bind.ensures.ok c.begin_windows.new.fork (search rules) (search rules) (still_of c.args.plan.now c.bind.new.self c.begin_windows.new.fork c.begin_windows.ensures.same
     (bound_of c.args.plan.now c.requires.proper c.args.history.now (entry_of c.args.entry.now.value) c.args.instance.now c.args.event c.requires.of c.requires.event c.in_ok-next.next c.bind.new.self (entry_of c.in_ok-clone.field-0.value) c.in_ok-bind.field-0
-    (search rules) (ap entry_of (search rules)) (search rules) c.in_ok-bind.ensures.ok)) (subst (λ (en : CodeEntry). IsAble c.args.plan.now en.date c.begin_windows.new.fork) c.deref-in-Yes-2.ensures (c.is_able.ensures.0 c.if-is_able.true))
+    (search rules) (ap entry_of (search rules)) (search rules) c.in_ok-bind.ensures.ok)) (subst (λ (en : CodeEntry). IsAble c.args.plan.now en.date c.begin_windows.new.fork) c.deref-in-Yes-2.ensures ((c.is_able.ensures (still_of c.args.plan.now c.bind.new.self c.begin_windows.new.fork c.begin_windows.ensures.same
+    (bound_of c.args.plan.now c.requires.proper c.args.history.now (entry_of c.args.entry.now.value) c.args.instance.now c.args.event c.requires.of c.requires.event c.in_ok-next.next c.bind.new.self (entry_of c.in_ok-clone.field-0.value) c.in_ok-bind.field-0
+    (search rules) (ap entry_of (search rules)) (search rules) c.in_ok-bind.ensures.ok))).0 c.if-is_able.true))
 
 pub returns-else-is_able-clause-fork : goal.returns-else-is_able-clause-fork
 returns-else-is_able-clause-fork g c =
     fork_unable c.args.plan.now c.requires.proper c.args.history.now (entry_of c.args.entry.now.value) c.args.instance.now c.args.event c.requires.of c.requires.event c.in_ok-next.next c.bind.new.self (entry_of c.in_ok-clone.field-0.value) c.in_ok-bind.field-0
     (search rules) (ap entry_of (search rules)) (search rules) c.in_ok-bind.ensures.ok c.begin_windows.new.fork (search rules) (search rules) (still_of c.args.plan.now c.bind.new.self c.begin_windows.new.fork c.begin_windows.ensures.same
     (bound_of c.args.plan.now c.requires.proper c.args.history.now (entry_of c.args.entry.now.value) c.args.instance.now c.args.event c.requires.of c.requires.event c.in_ok-next.next c.bind.new.self (entry_of c.in_ok-clone.field-0.value) c.in_ok-bind.field-0
-    (search rules) (ap entry_of (search rules)) (search rules) c.in_ok-bind.ensures.ok)) (subst (λ (en : CodeEntry). IsAble c.args.plan.now en.date c.begin_windows.new.fork → ⊥) c.deref-in-Yes-2.ensures (λ able. no_both c.is_able.result (c.is_able.ensures.1 able) c.if-is_able.false))
+    (search rules) (ap entry_of (search rules)) (search rules) c.in_ok-bind.ensures.ok)) (subst (λ (en : CodeEntry). IsAble c.args.plan.now en.date c.begin_windows.new.fork → ⊥) c.deref-in-Yes-2.ensures (λ able. no_both c.is_able.result ((c.is_able.ensures (still_of c.args.plan.now c.bind.new.self c.begin_windows.new.fork c.begin_windows.ensures.same
+    (bound_of c.args.plan.now c.requires.proper c.args.history.now (entry_of c.args.entry.now.value) c.args.instance.now c.args.event c.requires.of c.requires.event c.in_ok-next.next c.bind.new.self (entry_of c.in_ok-clone.field-0.value) c.in_ok-bind.field-0
+    (search rules) (ap entry_of (search rules)) (search rules) c.in_ok-bind.ensures.ok))).1 able) c.if-is_able.false))

@@ -6,6 +6,3 @@ use Rattle.crs_store.proofs.staying.keep_able.Goals as goal
 
 pub returns : goal.returns
 returns c = leaves_by _ (IsAble c.args.plan.now c.args.h) (IsOf c.args.plan.now) _ (λ x b g of k. search rules) _ _ c.requires.of c.retain.ensures.filtered
-
-pub retain-requires : goal.retain-requires
-retain-requires c = ?
