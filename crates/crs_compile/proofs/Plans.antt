@@ -8,7 +8,7 @@ use Rattle.crs_model.specs.declared.models.ModelRefused.{ModelRefused}
 use Rattle.crs_model.specs.declared.models.ModelRefused.TheVariants.{At, Memory}
 use Rattle.crs_base.specs.declared.symbols.Sym.{Sym}
 use Rattle.crs_model.specs.Models.{Name}
-use Rattle.crs_model.specs.ProperModels.{IsProperChronicle}
+use Rattle.crs_model.specs.ProperModels.{AreShort, IsProperChronicle}
 use Rattle.crs_model.specs.Plans.{IsProper}
 use Rattle.crs_model.specs.Seen.{chronicle_of}
 use Rattle.crs_compile.specs.Compiled.{IsAdded, ClosesFirst, IsRefusal}
@@ -18,6 +18,7 @@ pub record IsPlanned (all : List Chronicle) (plans : List Plan) (rest : List Chr
   pub parts : map (λ p. p.chronicle) plans ++ rest ≡ all
   pub plans_are : AllByRecursion IsProper plans
   pub names : List (Name Sym)
+  pub short : AreShort names
   pub proper : AllByRecursion (IsProperChronicle names) (map chronicle_of rest)
 
 all_push : (P : Plan → Type 0) (xs : List Plan) (x : Plan) → AllByRecursion P xs → P x → AllByRecursion P (xs ++ x ∷ [])
@@ -30,6 +31,7 @@ planned_more all plans c rest new a h = record {
   parts = rw (a.last, map-append, a.chronicle, append_assoc) h.parts;
   plans_are = rw a.last (all_push IsProper plans a.plan h.plans_are a.proper);
   names = h.names;
+  short = h.short;
   proper = h.proper.1;
 }
 

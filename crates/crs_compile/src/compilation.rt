@@ -2,7 +2,7 @@ ghost use Rattle.std.specs.Prelude.{◌≡◌, List as Items, map, [], ◌∷◌
 ghost use Rattle.std.specs.List.{AllByRecursion};
 ghost use Rattle.crs_base.specs.declared.symbols.Sym.{Sym};
 ghost use Rattle.crs_model.specs.Models.{Name};
-ghost use Rattle.crs_model.specs.ProperModels.{IsProperChronicle, AreProper};
+ghost use Rattle.crs_model.specs.ProperModels.{AreShort, IsProperChronicle, AreProper};
 ghost use Rattle.crs_model.specs.Plans.{IsProper};
 ghost use Rattle.crs_model.specs.Seen.{chronicle_of, models_of};
 ghost use Rattle.crs_model.specs.Reach.{IsReachOfAll};
@@ -30,7 +30,7 @@ fn refusal(line: u32, why: StnRefused) -> ModelRefused
 
 /// The plan of a chronicle.
 fn plan_of(alloc: Global, chronicle: Chronicle) -> Result<Plan, ModelRefused>
-    requires { (names : Items (Name Sym)) × IsProperChronicle names (chronicle_of chronicle) }
+    requires { (names : Items (Name Sym)) × AreShort names × IsProperChronicle names (chronicle_of chronicle) }
     ensures chronicle { IfOk result (λ plan. plan.chronicle ≡ chronicle) }
     ensures plan { IfOk result IsProper }
     ensures refused { IfErr result (IsRefusal (chronicle ∷ [])) }
@@ -62,7 +62,7 @@ fn push_plan(
     plans: &mut List<Rc<Plan>>,
     chronicle: Chronicle,
 ) -> Result<(), ModelRefused>
-    requires { (names : Items (Name Sym)) × IsProperChronicle names (chronicle_of chronicle) }
+    requires { (names : Items (Name Sym)) × AreShort names × IsProperChronicle names (chronicle_of chronicle) }
     ensures plan { OnOk result (IsAdded chronicle (plans_in plans.old) (plans_in plans.new)) }
     ensures refused { IfErr result (IsRefusal (chronicle ∷ [])) }
 {
@@ -73,7 +73,7 @@ fn push_plan(
 
 /// The plans of the chronicles, in order.
 fn plans_of(alloc: Global, chronicles: List<Chronicle>) -> Result<List<Rc<Plan>>, ModelRefused>
-    requires { (names : Items (Name Sym)) × AllByRecursion (IsProperChronicle names) (map chronicle_of chronicles) }
+    requires { (names : Items (Name Sym)) × AreShort names × AllByRecursion (IsProperChronicle names) (map chronicle_of chronicles) }
     ensures chronicles { IfOk result (λ plans. chronicles_in plans ≡ chronicles) }
     ensures plans { IfOk result (λ plans. AllByRecursion IsProper (plans_in plans)) }
     ensures refused { IfErr result (IsRefusal chronicles) }

@@ -1,9 +1,9 @@
 -- What an engine stands for after a mark, and its answer.
-use Rattle.std.proofs.Common.{◌≡◌, ◌≢◌, ℕ, zero, suc, ◌<◌, ◌≤◌, ◌-◌, ◌^◌, List, [], ◌∷◌, ◌++◌, length, map, refl, sym, ap, subst, ◌∙◌, inl, inr, arith, append_assoc, append-nil, take, drop, Bool}
+use Rattle.std.proofs.Common.{◌≡◌, ◌≢◌, ℕ, zero, suc, ◌<◌, ◌≤◌, ◌-◌, ◌^◌, List, [], ◌∷◌, ◌++◌, length, map, refl, sym, ap, subst, ◌∙◌, inl, arith, append_assoc, append-nil, length-append, take, drop, Bool}
 use Rattle.std.specs.List.{AllByRecursion, AllZip}
 use Rattle.std.specs.declared.cmp.Ordering.TheVariants.{Less}
 use Rattle.std.proofs.lemmas.List.{take_all}
-use Rattle.std.proofs.lemmas.Int.{ints}
+use Rattle.crs_history.proofs.FarBack.{far_later}
 use Rattle.std.proofs.Math.Nat.{max-eq_right}
 use Rattle.crs_base.specs.declared.symbols.Sym.{Sym}
 use Rattle.crs_base.specs.Words.{IsIn, Ordered}
@@ -22,14 +22,14 @@ use Rattle.crs_model.specs.Plans.{chronicle}
 use Rattle.crs_model.specs.Seen.{assignment_of}
 use Rattle.crs_store.specs.Stores.{StoreState, Stands}
 use Rattle.crs_store.specs.Answers.{IsAnswer, IsMarked}
-use Rattle.std.specs.Prelude.{ℤ, pos, ◌≤ℤ◌, false, Option, Some, None, Result, Ok, Err, IfOk, OnOk}
+use Rattle.std.specs.Prelude.{ℤ, pos, ◌≤ℤ◌, false, Result, Ok, Err, IfOk, OnOk}
 use Rattle.crs_history.specs.Histories.{HistoryState, IsFarBack, StandsFor as HistoryStandsFor}
 use Rattle.crs_model.specs.Models.{Chronicle}
 use Rattle.crs_engine.specs.declared.refused.Refused.{Refused}
 use Rattle.crs_engine.specs.Engines.{HasMoved, EngineState, StandsFor, HaveNumbersBelow, IsStoreAt, AreStoresOf, IsWaiting, IsEngine, plans_of, since}
 use Rattle.crs_engine.specs.Marks.{ListsNew, ListsAllNew, AfterMark}
 use Rattle.crs_engine.specs.Moves.{AreSameStores, AreOffered, HasPut, AreOfferedAll, AreAdvanced, AreMarked, IsRestOf}
-use Rattle.crs_engine.proofs.Order.{ordered_left, ordered_right, ordered_cross, before_parts, since_parts}
+use Rattle.crs_engine.proofs.Order.{numbers_few, ordered_left, ordered_right, ordered_cross, before_parts, since_parts}
 
 abbrev pub AllStand : List StoreState → List (Entry Sym) → List (Entry Sym) → ℕ → ℕ → Type 0
 AllStand ss was pool d g = AllByRecursion (λ s. Stands s was pool pool d g) ss
@@ -38,11 +38,6 @@ abbrev pub AllFar : List StoreState → ℕ → ℤ → Type 0
 AllFar ss g floor = AllByRecursion (λ s. IsFarBack s.plan.reach g floor) ss
 
 -- ---- the history goes far enough back
-
-far_later : (reach : Option ℤ) (g h : ℕ) (floor : ℤ) → g ≤ h → IsFarBack reach g floor → IsFarBack reach h floor
-far_later reach g h floor l (inl e) = inl e
-far_later None g h floor l (inr k) = absurd k
-far_later (Some r) g h floor l (inr k) = inr (omega (arith, ints))
 
 plans_later : (g h : ℕ) (floor : ℤ) → g ≤ h → (ps : List Plan) → AllByRecursion (λ p. IsFarBack p.reach g floor) ps → AllByRecursion (λ p. IsFarBack p.reach h floor) ps
 plans_later g h floor l [] k = tt
@@ -62,12 +57,12 @@ same_far g floor (o ∷ olds) (n ∷ news) s k = (subst (λ (q : Plan). IsFarBac
 
 -- ---- offered
 
-offered_one : (olds news : List StoreState) (put : HistoryState) (x : Entry Sym) (was pool : List (Entry Sym)) (d g : ℕ) → AllStand olds was pool d g → AreOffered olds put x news → HistoryStandsFor (pool ++ x ∷ []) put → AllFar olds g put.floor → IsFresh pool x → d ≤ x.date →
+offered_one : (olds news : List StoreState) (put : HistoryState) (x : Entry Sym) (was pool : List (Entry Sym)) (d g : ℕ) → AllStand olds was pool d g → AreOffered olds put x news → HistoryStandsFor (pool ++ x ∷ []) put → AllFar olds g put.floor → length (pool ++ x ∷ []) < 2 ^ 32 → IsFresh pool x → d ≤ x.date →
     AllStand news was (pool ++ x ∷ []) x.date g
-offered_one [] [] put x was pool d g h k kept far fresh later = tt
-offered_one [] (n ∷ news) put x was pool d g h k kept far fresh later = absurd k
-offered_one (o ∷ olds) [] put x was pool d g h k kept far fresh later = absurd k
-offered_one (o ∷ olds) (n ∷ news) put x was pool d g h k kept far fresh later = (k.0 was pool d g h.0 kept far.0 fresh later, offered_one olds news put x was pool d g h.1 k.1 kept far.1 fresh later)
+offered_one [] [] put x was pool d g h k kept far few fresh later = tt
+offered_one [] (n ∷ news) put x was pool d g h k kept far few fresh later = absurd k
+offered_one (o ∷ olds) [] put x was pool d g h k kept far few fresh later = absurd k
+offered_one (o ∷ olds) (n ∷ news) put x was pool d g h k kept far few fresh later = (k.0 was pool d g h.0 kept far.0 few fresh later, offered_one olds news put x was pool d g h.1 k.1 kept far.1 few fresh later)
 
 -- the stores and the history stand for what is settled, and the history goes far enough back
 pub record StandTogether (ss : List StoreState) (past : HistoryState) (was pool : List (Entry Sym)) (d g : ℕ) : Type 0 where
@@ -75,30 +70,31 @@ pub record StandTogether (ss : List StoreState) (past : HistoryState) (was pool 
   pub history : HistoryStandsFor pool past
   pub far : AllFar ss g past.floor
 
-stand_offered : (olds next : List StoreState) (past put : HistoryState) (x : Entry Sym) (was pool : List (Entry Sym)) (d g : ℕ) → StandTogether olds past was pool d g → HasPut past x put → AreSameStores olds next → AreOffered olds put x next → IsFresh pool x → d ≤ x.date →
+stand_offered : (olds next : List StoreState) (past put : HistoryState) (x : Entry Sym) (was pool : List (Entry Sym)) (d g : ℕ) → StandTogether olds past was pool d g → HasPut past x put → AreSameStores olds next → AreOffered olds put x next → length (pool ++ x ∷ []) < 2 ^ 32 → IsFresh pool x → d ≤ x.date →
     StandTogether next put was (pool ++ x ∷ []) x.date g
-stand_offered olds next past put x was pool d g stand has same k fresh later =
+stand_offered olds next past put x was pool d g stand has same k few fresh later =
     let far : AllFar olds g put.floor = subst (AllFar olds g) (sym has.floor) stand.far in
     record {
-      stores = offered_one olds next put x was pool d g stand.stores k (has.stands pool stand.history) far fresh later;
+      stores = offered_one olds next put x was pool d g stand.stores k (has.stands pool stand.history) far few fresh later;
       history = has.stands pool stand.history;
       far = same_far g put.floor olds next same far;
     }
 
-offered_all : (xs : List (Entry Sym)) (olds news : List StoreState) (past now : HistoryState) (was pool : List (Entry Sym)) (d g h : ℕ) → StandTogether olds past was pool d g → AreOfferedAll olds past xs news now → AreDistinct (pool ++ xs) → AllByRecursion (λ x. d ≤ x.date) xs → Ordered (λ x y. x.date ≤ y.date) xs → d ≤ h → AllByRecursion (λ x. x.date < h) xs →
+offered_all : (xs : List (Entry Sym)) (olds news : List StoreState) (past now : HistoryState) (was pool : List (Entry Sym)) (d g h : ℕ) → StandTogether olds past was pool d g → AreOfferedAll olds past xs news now → AreDistinct (pool ++ xs) → AllByRecursion (λ x. d ≤ x.date) xs → Ordered (λ x y. x.date ≤ y.date) xs → d ≤ h → AllByRecursion (λ x. x.date < h) xs → length (pool ++ xs) < 2 ^ 32 →
     (e : ℕ) × StandTogether news now was (pool ++ xs) e g × (e ≤ h)
-offered_all [] olds news past now was pool d g h stand k apart later dates low before_h = (
+offered_all [] olds news past now was pool d g h stand k apart later dates low before_h few = (
   d,
   subst (λ (t : List (Entry Sym)). StandTogether news now was t d g) (sym (append-nil pool))
       (subst (λ (t : List StoreState). StandTogether t now was pool d g) (sym k.0) (subst (λ (t : HistoryState). StandTogether olds t was pool d g) (sym k.1) stand)),
   low,
 )
-offered_all (x ∷ xs) olds news past now was pool d g h stand k apart later dates low before_h =
+offered_all (x ∷ xs) olds news past now was pool d g h stand k apart later dates low before_h few =
     let next = k.0 in
     let put = k.1 in
     let joined : (pool ++ x ∷ []) ++ xs ≡ pool ++ x ∷ xs = append_assoc pool (x ∷ []) xs in
-    let one = stand_offered olds next past put x was pool d g stand k.2 k.3 k.4 (λ e i. ordered_cross (λ a b. a.arrival ≢ b.arrival) pool (x ∷ xs) apart e x i (inl refl)) later.0 in
-    let r = offered_all xs next news put now was (pool ++ x ∷ []) x.date g h one k.5 (subst AreDistinct (sym joined) apart) dates.0 dates.1 (let b = before_h.0 in omega arith) before_h.1 in
+    let few_one : length (pool ++ x ∷ []) < 2 ^ 32 = let a = length-append pool (x ∷ []) in let b = length-append pool (x ∷ xs) in omega arith in
+    let one = stand_offered olds next past put x was pool d g stand k.2 k.3 k.4 few_one (λ e i. ordered_cross (λ a b. a.arrival ≢ b.arrival) pool (x ∷ xs) apart e x i (inl refl)) later.0 in
+    let r = offered_all xs next news put now was (pool ++ x ∷ []) x.date g h one k.5 (subst AreDistinct (sym joined) apart) dates.0 dates.1 (let b = before_h.0 in omega arith) before_h.1 (subst (λ (t : List (Entry Sym)). length t < 2 ^ 32) (sym joined) few) in
     (r.0, subst (λ (t : List (Entry Sym)). StandTogether news now was t r.0 g) joined r.1, r.2)
 
 -- ---- advanced
@@ -111,7 +107,7 @@ answer_as p n o mark was pool g h first sp sn sw a =
       each = b.each;
     }
 
-module _ (history : HistoryState) (mark : Mark) (was pool : List (Entry Sym)) (d g h : ℕ) (sw : before g pool ≡ was) (kept : HistoryStandsFor pool history) (apart : AreDistinct pool) (later : d ≤ h) (dated : (e : Entry Sym) → IsIn e pool → e.date < h) (dates : Ordered (λ x y. x.date ≤ y.date) pool) where
+module _ (history : HistoryState) (mark : Mark) (was pool : List (Entry Sym)) (d g h : ℕ) (sw : before g pool ≡ was) (kept : HistoryStandsFor pool history) (few : length pool < 2 ^ 32) (apart : AreDistinct pool) (later : d ≤ h) (dated : (e : Entry Sym) → IsIn e pool → e.date < h) (dates : Ordered (λ x y. x.date ≤ y.date) pool) where
   advanced_all : (ps : List Plan) (n : ℕ) (olds news : List StoreState) (answer : List Recognition) → AreStoresOf ps n olds → AllStand olds was pool d g → AllFar olds g history.floor → AreAdvanced history h mark olds news answer → AllStand news pool pool h h × ListsAllNew ps n mark was g pool h answer
   advanced_all [] n [] news answer of stand far k = (subst (λ (t : List StoreState). AllStand t pool pool h h) (sym k.0) tt, k.1)
   advanced_all [] n (o ∷ olds) news answer of stand far k = absurd of
@@ -121,7 +117,7 @@ module _ (history : HistoryState) (mark : Mark) (was pool : List (Entry Sym)) (d
       let rest = k.1 in
       let first = k.2 in
       let more = k.3 in
-      let marked : IsMarked o new_one mark was pool pool g h first = k.6 was pool pool d g stand.0 kept far.0 apart later dated dates in
+      let marked : IsMarked o new_one mark was pool pool g h first = k.6 was pool pool d g stand.0 kept far.0 few apart later dated dates in
       let r = advanced_all ps (suc n) olds rest more of.2 stand.1 far.1 k.7 in (
         subst (λ (t : List StoreState). AllStand t pool pool h h) (sym k.4) (marked.stands, r.0),
         (first, more, k.5, answer_as p n o mark was pool g h first of.0 of.1 sw marked.answers, r.1),
@@ -151,7 +147,7 @@ stores_at settled h (p ∷ ps) n (s ∷ ss) of stand = ((of.0, stand.0), stores_
 
 -- ---- a mark
 
-module _ (seen new : EngineState) (mark : Mark) (answer : List Recognition) (same_plans : new.plans ≡ seen.plans) (same_count : new.accepted ≡ seen.accepted) (floor : new.history.floor ≡ seen.history.floor) (of : AreStoresOf (plans_of seen.plans) 0 seen.stores) (later : seen.horizon ≤ new.horizon)
+module _ (seen new : EngineState) (mark : Mark) (answer : List Recognition) (same_plans : new.plans ≡ seen.plans) (same_count : new.accepted ≡ seen.accepted) (floor : new.history.floor ≡ seen.history.floor) (few : seen.accepted < 2 ^ 32) (of : AreStoresOf (plans_of seen.plans) 0 seen.stores) (later : seen.horizon ≤ new.horizon)
     (marked : AreMarked new.horizon mark seen.stores seen.history seen.waiting new.stores new.history new.waiting answer) (same : AreSameStores seen.stores new.stores) (s w : List (Entry Sym)) (stands : StandsFor seen s w) where
   parted : w ≡ (marked.settled).done ++ new.waiting
   parted = sym stands.held ∙ (marked.settled).parted
@@ -183,6 +179,9 @@ module _ (seen new : EngineState) (mark : Mark) (answer : List Recognition) (sam
   all_before : AllByRecursion (λ x. x.date < new.horizon) (s ++ (marked.settled).done)
   all_before = all_append (λ x. x.date < new.horizon) s (marked.settled).done (all_each {P = λ x. x.date < seen.horizon} s (λ x l. omega arith) stands.settled_before) (marked.settled).done_before
 
+  few_settled : length (s ++ (marked.settled).done) < 2 ^ 32
+  few_settled = let a = numbers_few seen.accepted ((s ++ (marked.settled).done) ++ new.waiting) numbered in let b = length-append (s ++ (marked.settled).done) new.waiting in omega arith
+
   together : StandTogether seen.stores seen.history s s seen.horizon seen.horizon
   together = record {
     stores = all_stand s seen.horizon (plans_of seen.plans) seen.stores stands.stores;
@@ -192,10 +191,10 @@ module _ (seen new : EngineState) (mark : Mark) (answer : List Recognition) (sam
 
   offers : (e : ℕ) × StandTogether marked.between new.history s (s ++ (marked.settled).done) e seen.horizon × (e ≤ new.horizon)
   offers = offered_all (marked.settled).done seen.stores marked.between seen.history new.history s s seen.horizon seen.horizon new.horizon together (marked.settled).offered apart done_after
-      (ordered_right (λ x y. x.date ≤ y.date) s (marked.settled).done (in_dates (s ++ (marked.settled).done) up_now)) later (marked.settled).done_before
+      (ordered_right (λ x y. x.date ≤ y.date) s (marked.settled).done (in_dates (s ++ (marked.settled).done) up_now)) later (marked.settled).done_before few_settled
 
   after : AllStand new.stores (s ++ (marked.settled).done) (s ++ (marked.settled).done) new.horizon new.horizon × ListsAllNew (plans_of seen.plans) 0 mark s seen.horizon (s ++ (marked.settled).done) new.horizon answer
-  after = advanced_all new.history mark s (s ++ (marked.settled).done) offers.0 seen.horizon new.horizon (before_parts seen.horizon s (marked.settled).done stands.settled_before done_after) (offers.1).history apart offers.2
+  after = advanced_all new.history mark s (s ++ (marked.settled).done) offers.0 seen.horizon new.horizon (before_parts seen.horizon s (marked.settled).done stands.settled_before done_after) (offers.1).history few_settled apart offers.2
       (λ e i. in_from_each (λ x. x.date < new.horizon) (s ++ (marked.settled).done) all_before e i) (in_dates (s ++ (marked.settled).done) up_now)
       (plans_of seen.plans) 0 marked.between new.stores answer (stores_same (plans_of seen.plans) 0 seen.stores marked.between of (marked.settled).same) (offers.1).stores (offers.1).far marked.advanced
 
@@ -257,6 +256,7 @@ engine_on seen news now rest t h stopped is same r low behind order floor settle
   stores = stores_same (plans_of seen.plans) 0 seen.stores news is.stores same;
   waiting = rest_waiting seen.accepted seen.waiting rest is.waiting r;
   few = is.few;
+  limited = is.limited;
   not_late = low;
   behind = behind;
   in_order = order;
@@ -269,7 +269,7 @@ pub marked_from : (seen old : EngineState) (news : List StoreState) (now : Histo
 marked_from seen old news now rest t h stopped mark answer view is later marked same floor s w stands =
     let new : EngineState = record { plans = seen.plans; stores = news; history = now; waiting = rest; delay = seen.delay; last = t; horizon = h; accepted = seen.accepted; limit = seen.limit; stopped = stopped } in
     subst (λ (o : EngineState). AfterMark o new mark s w answer) view
-    (after_mark seen new mark answer refl refl floor is.stores later marked same s w (subst (λ (o : EngineState). StandsFor o s w) (sym view) stands))
+    (after_mark seen new mark answer refl refl floor (let a = is.few in let b = is.limited in omega arith) is.stores later marked same s w (subst (λ (o : EngineState). StandsFor o s w) (sym view) stands))
 
 -- ---- the end again
 

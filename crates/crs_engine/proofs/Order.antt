@@ -1,9 +1,12 @@
 -- Entries in key order, and parted at a date.
-use Rattle.std.proofs.Common.{◌≡◌, ◌≢◌, ℕ, ◌<◌, ◌≤◌, List, [], ◌∷◌, ◌++◌, refl, sym, ap, subst, ◌∙◌, inl, inr, cond, not, Bool, true, false}
-use Rattle.std.specs.List.{AllByRecursion}
+use Rattle.std.proofs.Common.{◌≡◌, ◌≢◌, ℕ, ◌<◌, ◌≤◌, List, [], ◌∷◌, ◌++◌, refl, sym, ap, subst, ◌∙◌, inl, inr, cond, not, Bool, true, false, length, map, nat_eq, arith}
+use Rattle.std.specs.List.{AllByRecursion, IsDistinct}
+use Rattle.std.proofs.lemmas.List.{length-map}
+use Rattle.std.proofs.lemmas.List.Elements.{All-from_recursion}
+use Rattle.crs_stn.proofs.Routes.{length_distinct}
 use Rattle.std.specs.Ordering.{is_lt}
 use Rattle.std.specs.declared.cmp.Ordering.TheVariants.{Equal}
-use Rattle.std.proofs.lemmas.Bool.{lt-ltb, le-ltb}
+use Rattle.std.proofs.lemmas.Bool.{lt-ltb, le-ltb, ne_eqb}
 use Rattle.crs_base.specs.declared.symbols.Sym.{Sym}
 use Rattle.crs_base.specs.Words.{IsIn, Ordered}
 use Rattle.crs_base.specs.Entry.{Entry, Key, key_of, entry_cmp}
@@ -12,7 +15,7 @@ use Rattle.crs_base.proofs.KeyOrder.{key_exact}
 use Rattle.crs_model.specs.Matching.{AreDistinct}
 use Rattle.crs_model.specs.Order.{put_in_order}
 use Rattle.crs_model.specs.Open.{before}
-use Rattle.crs_engine.specs.Engines.{since}
+use Rattle.crs_engine.specs.Engines.{since, HaveNumbersBelow}
 
 -- ---- parts of an ordered list
 
@@ -81,3 +84,20 @@ pub since_parts : (h : ℕ) (done rest : List (Entry Sym)) → AllByRecursion (�
 since_parts h [] [] a b = refl
 since_parts h [] (x ∷ rest) a b = ap (λ (t : Bool). cond (not t) (x ∷ since h rest) (since h rest)) (le-ltb x.date h b.0) ∙ ap (λ (t : List (Entry Sym)). x ∷ t) (since_parts h [] rest tt b.1)
 since_parts h (x ∷ done) rest a b = ap (λ (t : Bool). cond (not t) (x ∷ since h (done ++ rest)) (since h (done ++ rest))) (lt-ltb x.date h a.0) ∙ since_parts h done rest a.1 b
+
+-- ---- as many entries as numbers
+
+numbers_apart : (e : Entry Sym) (rest : List (Entry Sym)) → AllByRecursion (λ y. e.arrival ≢ y.arrival) rest → AllByRecursion (λ k. nat_eq e.arrival k ≡ false) (map (λ y. y.arrival) rest)
+numbers_apart e [] h = tt
+numbers_apart e (y ∷ rest) h = (ne_eqb e.arrival y.arrival h.0, numbers_apart e rest h.1)
+
+numbers_distinct : (es : List (Entry Sym)) → AreDistinct es → IsDistinct nat_eq (map (λ y. y.arrival) es)
+unfolding IsDistinct
+numbers_distinct [] d = tt
+numbers_distinct (e ∷ es) d = (numbers_apart e es d.0, numbers_distinct es d.1)
+
+pub numbers_few : (n : ℕ) (es : List (Entry Sym)) → HaveNumbersBelow n es → length es ≤ n
+numbers_few n es h =
+    let l = length_distinct n (map (λ y. y.arrival) es) (numbers_distinct es h.distinct) (All-from_recursion (λ k. k < n) (map (λ y. y.arrival) es) (each_from_in (λ k. k < n) (map (λ y. y.arrival) es) (λ k i. (h.numbers k).1 i))) in
+    let m = length-map es (λ y. y.arrival) in
+    omega arith

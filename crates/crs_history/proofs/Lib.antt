@@ -8,3 +8,4 @@ pub mod KeptFrom
 pub mod Split
 pub mod Over
 pub mod Holding
+pub mod FarBack

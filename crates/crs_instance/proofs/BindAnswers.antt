@@ -11,6 +11,7 @@ use Rattle.crs_stn.proofs.DateWindow.{IsLatest-latest}
 use Rattle.crs_model.specs.declared.plan.Plan.{Plan}
 use Rattle.crs_model.specs.declared.chronicle.EventDef.{EventDef as CodeEvent}
 use Rattle.crs_model.specs.declared.date_window.DateWindow.{DateWindow}
+use Rattle.crs_model.specs.declared.progress.Progress.{Progress}
 use Rattle.crs_base.specs.Entry.{Entry}
 use Rattle.crs_model.specs.Models.{EventDef}
 use Rattle.crs_model.specs.Partial.{Partial, at, put, dates_of}
@@ -20,7 +21,7 @@ use Rattle.crs_base.specs.Seen.{entry_of}
 use Rattle.crs_model.specs.Seen.{event_of, pattern_of}
 use Rattle.crs_model.proofs.Options.{some_if, none_if}
 use Rattle.crs_base.proofs.Words.{each_from_in}
-use Rattle.crs_instance.specs.Instances.{InstanceState, IsOf, IsInside, CanBe, window_at, no_window, IsBoundBy, seen_entry, partial_of}
+use Rattle.crs_instance.specs.Instances.{InstanceState, IsOf, IsInside, CanBe, window_at, no_window, no_progress, IsBoundBy, seen_entry, partial_of}
 use Rattle.std.specs.declared.rc.Rc.{Rc}
 use Rattle.std.proofs.Common.{Global}
 use Rattle.std.specs.Prelude.{slice_set}
@@ -65,10 +66,10 @@ module _ (plan : Plan) (proper : IsProper plan) (i j : InstanceState) (same : i 
 
   pub answer_yes : (def : EventDef Sym) → slice_get (chronicle plan).events e ≡ Some def → (o : Option (List (Option Sym))) (b : List (Option Sym)) → o ≡ Some b → IsBoundBy (chronicle plan) def.pattern i.binding x o → ((f : ℕ) → IfSome (at i.partial f) (λ y. y.arrival ≢ x.arrival)) →
       (t : Bool) → (IsTrue t ↔ IsInside (window_at i.windows e) (pos x.date)) → t ≡ true → (ws : List DateWindow) → IsNarrowed plan.network.points (most_of plan.network) e (pos x.date) i.windows ws →
-      IsOf plan (record { partial = put j.partial e x; binding = b; windows = ws })
+      IsOf plan (record { partial = put j.partial e x; binding = b; windows = ws; progress = j.progress })
   answer_yes def is o b s h absent t says holds ws narrowed =
       let k : IsBoundBy (chronicle plan) def.pattern i.binding x (Some b) = subst (λ (t : Option (List (Option Sym))). IsBoundBy (chronicle plan) def.pattern i.binding x t) s h in
-      subst (λ (s : InstanceState). IsOf plan (record { partial = put s.partial e x; binding = b; windows = ws })) same
+      subst (λ (s : InstanceState). IsOf plan (record { partial = put s.partial e x; binding = b; windows = ws; progress = s.progress })) same
       (bound_now plan proper i of_seen e x inside free_seen def is b k.0 ws k.2 k.1 absent (says.0 holds) narrowed)
 
 -- ---- nothing bound
@@ -90,10 +91,10 @@ greatest_none : (f : ℕ → Option ℤ) (n : ℕ) → ((p : ℕ) → f p ≡ No
 greatest_none f zero h = refl
 greatest_none f (suc n) h = rw (h n) (greatest_none f n h)
 
-pub root_of : (plan : Plan) (proper : IsProper plan) (a : Partial Sym) (b : List (Option Sym)) (ws : List DateWindow) (n m : ℕ) →
-    a ≡ replicate (length plan.chronicle.events) None → b ≡ replicate (length plan.chronicle.variables) None → ws ≡ replicate (length plan.chronicle.events + length plan.chronicle.free) no_window →
-    IsOf plan (record { partial = a; binding = b; windows = ws })
-root_of plan proper a b ws n m ea eb ew =
+pub root_of : (plan : Plan) (proper : IsProper plan) (a : Partial Sym) (b : List (Option Sym)) (ws : List DateWindow) (ps : List Progress) →
+    a ≡ replicate (length plan.chronicle.events) None → b ≡ replicate (length plan.chronicle.variables) None → ws ≡ replicate (length plan.chronicle.events + length plan.chronicle.free) no_window → ps ≡ replicate (length plan.chronicle.windows) no_progress →
+    IsOf plan (record { partial = a; binding = b; windows = ws; progress = ps })
+root_of plan proper a b ws ps ea eb ew ep =
     let none : Option (Entry Sym) = None in
     let no_symbol : Option Sym = None in
     let free : (f : ℕ) → at a f ≡ None = (λ f. ap (λ (t : Partial Sym). at t f) ea ∙ get-replicate (length plan.chronicle.events) f none) in
@@ -122,6 +123,7 @@ root_of plan proper a b ws n m ea eb ew =
           let is = ap (λ (w : DateWindow). w.least) (window r) ∙ sym (greatest_none (λ p. before (dates_of a p) (most_of plan.network r p)) plan.network.points (λ p. ap (λ (o : Option ℤ). before o (most_of plan.network r p)) (dateless p))) in
           subst (λ (o : Option ℤ). IsSoonest plan.chronicle.bounds (dates_of a) r o) (sym is)
           (IsSoonest-soonest plan.chronicle.bounds plan.network.points (most_of plan.network) (dates_of a) proper.within proper.consistent proper.minimal (λ p. none_if (dates_of a p) _ (dateless p)) (λ p q. none_if (dates_of a p) _ (dateless p)) r l);
+      followed = ap length ep ∙ length-replicate (length plan.chronicle.windows) no_progress;
     }
 
 pub put_seen : (es : List (Option (Rc CodeEntry Global))) (e : ℕ) (r : Rc CodeEntry Global) → partial_of (slice_set es e (Some r)) ≡ put (partial_of es) e (entry_of r.value)
@@ -129,11 +131,11 @@ put_seen [] e r = refl
 put_seen (o ∷ es) zero r = refl
 put_seen (o ∷ es) (suc e) r = ap (λ (t : Partial Sym). seen_entry o ∷ t) (put_seen es e r)
 
-pub bound_as : (plan : Plan) (a : Partial Sym) (es : List (Option (Rc CodeEntry Global))) (e : ℕ) (r : Rc CodeEntry Global) (b : List (Option Sym)) (ws : List DateWindow) (x : Entry Sym) → partial_of es ≡ a → x ≡ entry_of r.value →
-    IsOf plan (record { partial = put a e x; binding = b; windows = ws }) → IsOf plan (record { partial = partial_of (slice_set es e (Some r)); binding = b; windows = ws }) × (partial_of (slice_set es e (Some r)) ≡ put a e (entry_of r.value))
-bound_as plan a es e r b ws x s t h =
+pub bound_as : (plan : Plan) (a : Partial Sym) (es : List (Option (Rc CodeEntry Global))) (e : ℕ) (r : Rc CodeEntry Global) (b : List (Option Sym)) (ws : List DateWindow) (ps qs : List Progress) (x : Entry Sym) → partial_of es ≡ a → x ≡ entry_of r.value → qs ≡ ps →
+    IsOf plan (record { partial = put a e x; binding = b; windows = ws; progress = ps }) → IsOf plan (record { partial = partial_of (slice_set es e (Some r)); binding = b; windows = ws; progress = qs }) × (partial_of (slice_set es e (Some r)) ≡ put a e (entry_of r.value)) × (qs ≡ ps)
+bound_as plan a es e r b ws ps qs x s t w h =
     let p : partial_of (slice_set es e (Some r)) ≡ put a e (entry_of r.value) = put_seen es e r ∙ ap (λ (q : Partial Sym). put q e (entry_of r.value)) s in
-    (subst (λ (q : Partial Sym). IsOf plan (record { partial = q; binding = b; windows = ws })) (ap (λ (y : Entry Sym). put a e y) t ∙ sym p) h, p)
+    (subst (λ (q : List Progress). IsOf plan (record { partial = partial_of (slice_set es e (Some r)); binding = b; windows = ws; progress = q })) (sym w) (subst (λ (q : Partial Sym). IsOf plan (record { partial = q; binding = b; windows = ws; progress = ps })) (ap (λ (y : Entry Sym). put a e y) t ∙ sym p) h), p, w)
 
 pub inside_as : (ws : List DateWindow) (e : ℕ) (w : DateWindow) (d : ℤ) (b : Bool) → w ≡ slice_index_or ws e w → e < length ws → (IsTrue b ↔ IsInside w d) → IsTrue b ↔ IsInside (window_at ws e) d
 inside_as ws e w d b s l h = subst (λ (v : DateWindow). IsTrue b ↔ IsInside v d) (s ∙ get_or_default ws e w no_window l) h

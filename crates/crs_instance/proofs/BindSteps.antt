@@ -147,7 +147,7 @@ module _ (plan : Plan) (proper : IsProper plan) (i : InstanceState) (of : IsOf p
         }
 
         pub bound_now : (ws : List DateWindow) → length b ≡ length i.binding → IsAllowed (chronicle plan) (look_of b) → ((f : ℕ) → IfSome (at i.partial f) (λ y. y.arrival ≢ x.arrival)) → IsInside (window_at i.windows e) (pos x.date) → IsNarrowed points most e (pos x.date) i.windows ws →
-            IsOf plan (record { partial = put i.partial e x; binding = b; windows = ws })
+            IsOf plan (record { partial = put i.partial e x; binding = b; windows = ws; progress = i.progress })
         bound_now ws len allowed absent within narrowed = record {
           len = length-set i.partial e (Some x) ∙ of.len;
           distinct = twice absent;
@@ -158,6 +158,7 @@ module _ (plan : Plan) (proper : IsProper plan) (i : InstanceState) (of : IsOf p
           window_count = narrowed.len;
           most = λ r l. subst (λ (o : Option ℤ). IsLatest plan.chronicle.bounds (dates_of (put i.partial e x)) r o) (sym (most_at r l)) (IsLatest-latest plan.chronicle.bounds points most (dates_of (put i.partial e x)) proper.within proper.consistent proper.minimal put_below put_pairwise r l);
           least = λ r l. subst (λ (o : Option ℤ). IsSoonest plan.chronicle.bounds (dates_of (put i.partial e x)) r o) (sym (least_at r l)) (IsSoonest-soonest plan.chronicle.bounds points most (dates_of (put i.partial e x)) proper.within proper.consistent proper.minimal put_below put_pairwise r l);
+          followed = of.followed;
         }
           where
             most_at : (r : ℕ) → r < points → (window_at ws r).most ≡ latest points most (dates_of (put i.partial e x)) r

@@ -11,6 +11,7 @@ use Rattle.crs_stn.specs.DateWindow.{least_of}
 use Rattle.crs_stn.proofs.Partial.{least_of_is_below, least_of_is_reached}
 use Rattle.crs_model.specs.declared.chronicle.EventDef.{EventDef as CodeEvent}
 use Rattle.crs_model.specs.declared.date_window.DateWindow.{DateWindow}
+use Rattle.crs_model.specs.declared.progress.Progress.{Progress}
 use Rattle.crs_model.specs.Levels.{level_in}
 use Rattle.crs_model.specs.Partial.{at}
 use Rattle.crs_model.specs.Seen.{event_of}
@@ -58,9 +59,9 @@ module _ (i : InstanceState) (level : ℕ → ℕ) (n : ℕ) where
       let p = end_parts (level r.0 == n) (at i.partial r.0) (window_at i.windows r.0) d r.2 in
       (λ e l free same. below_each (Some d) e s l free same, r.0, r.1, p.1, eqb-true (level r.0) n p.0, p.2)
 
-pub deadline_is : (i : InstanceState) (level : ℕ → ℕ) (n : ℕ) (es fs : List (Option (Rc CodeEntry Global))) (ws vs : List DateWindow) (b : List (Option Sym)) (d : Option ℤ) → record { partial = partial_of es; binding = b; windows = ws } ≡ i → fs ≡ es → vs ≡ ws →
+pub deadline_is : (i : InstanceState) (level : ℕ → ℕ) (n : ℕ) (es fs : List (Option (Rc CodeEntry Global))) (ws vs : List DateWindow) (b : List (Option Sym)) (ps : List Progress) (d : Option ℤ) → record { partial = partial_of es; binding = b; windows = ws; progress = ps } ≡ i → fs ≡ es → vs ≡ ws →
     d ≡ least_of (λ e. end_if (level e == n) (at (partial_of fs) e) (window_at vs e)) (length fs) → IsDeadline level n i d
-deadline_is i level n es fs ws vs b d view se sw is =
+deadline_is i level n es fs ws vs b ps d view se sw is =
     deadline_by i level n d (sym (
     is
     ∙ ap (λ (t : List (Option (Rc CodeEntry Global))). least_of (λ e. end_if (level e == n) (at (partial_of t) e) (window_at vs e)) (length t)) se
@@ -69,7 +70,7 @@ deadline_is i level n es fs ws vs b d view se sw is =
     ∙ ap (λ (s : InstanceState). least_of (λ e. end_if (level e == n) (at s.partial e) (window_at s.windows e)) (length s.partial)) view))
 
 -- the same, where the levels are those of the code's events
-pub deadline_at : (i : InstanceState) (events all : List CodeEvent) (focus : Bool) (n : ℕ) (es fs : List (Option (Rc CodeEntry Global))) (ws vs : List DateWindow) (b : List (Option Sym)) (d : Option ℤ) → events ≡ all → record { partial = partial_of es; binding = b; windows = ws } ≡ i → fs ≡ es → vs ≡ ws →
+pub deadline_at : (i : InstanceState) (events all : List CodeEvent) (focus : Bool) (n : ℕ) (es fs : List (Option (Rc CodeEntry Global))) (ws vs : List DateWindow) (b : List (Option Sym)) (ps : List Progress) (d : Option ℤ) → events ≡ all → record { partial = partial_of es; binding = b; windows = ws; progress = ps } ≡ i → fs ≡ es → vs ≡ ws →
     d ≡ least_of (λ e. end_if (level_in (map event_of events) focus e == n) (at (partial_of fs) e) (window_at vs e)) (length fs) → IsDeadline (level_in (map event_of all) focus) n i d
-deadline_at i events all focus n es fs ws vs b d se view sf sw is =
-    subst (λ (t : List CodeEvent). IsDeadline (level_in (map event_of t) focus) n i d) se (deadline_is i (level_in (map event_of events) focus) n es fs ws vs b d view sf sw is)
+deadline_at i events all focus n es fs ws vs b ps d se view sf sw is =
+    subst (λ (t : List CodeEvent). IsDeadline (level_in (map event_of t) focus) n i d) se (deadline_is i (level_in (map event_of events) focus) n es fs ws vs b ps d view sf sw is)

@@ -19,7 +19,7 @@ use Rattle.crs_model.specs.declared.chronicle.VarSet.{VarSet as CodeSet}
 use Rattle.crs_model.specs.declared.chronicle.Window.{Window as CodeWindow}
 use Rattle.crs_model.specs.Models.{Term, EventDef, Name, Message}
 use Rattle.crs_model.specs.Proper.{terms_have, change_has, pattern_has, IsNamed}
-use Rattle.crs_model.specs.ProperModels.{Suits, IsProperEvent, IsProperWindow}
+use Rattle.crs_model.specs.ProperModels.{Suits, AreShort, IsProperEvent, IsProperWindow}
 use Rattle.crs_model.specs.Bindings.{TermIsBelow, PatternIsBelow}
 use Rattle.crs_model.specs.Reach.{Bounds, IsZero, IsPairSpan, IsStartSpan, IsReach, IsSmallSpan}
 use Rattle.crs_model.specs.Plans.{chronicle, IsProper}
@@ -144,6 +144,10 @@ module _ (p : Plan) (least : ℕ) (f : IsFixture least p.chronicle) where
   names : List (Name Sym)
   names = message f.first.pattern.name ∷ message f.second.pattern.name ∷ []
 
+  short : AreShort names
+  unfolding names message
+  short = (omega arith, (omega arith, tt))
+
   plain_change : (c : Option (CodeTerm × CodeTerm)) → c ≡ None → Suits {S = Sym} Message (option_map (λ t. (term_of t.0, term_of t.1)) c)
   plain_change None e = tt
   plain_change (Some t) e = absurd cc
@@ -190,6 +194,7 @@ fixture_proper p least f points reach low consistent minimal =
           (plain_below f.first (length p.chronicle.variables) f.plain_first, (plain_below f.second (length p.chronicle.variables) f.plain_second, tt));
       declared = (
         names p least f,
+        short p least f,
         record {
           events_some = omega (arith, both);
           events_few = omega (arith, both);

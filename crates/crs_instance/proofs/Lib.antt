@@ -7,3 +7,5 @@ pub mod Deadline
 pub mod GoesOn
 pub mod Pushes
 pub mod Fixture
+pub mod Stretches
+pub mod Early

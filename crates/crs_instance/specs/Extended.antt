@@ -9,5 +9,5 @@ use Rattle.crs_instance.specs.Instances.{InstanceState, IsOf, CanBe}
 
 -- an instance with x bound to e too, or None where there is none
 abbrev pub IsExtended : Plan → InstanceState → ℕ → Entry Sym → Option Extension → Type 0
-IsExtended plan i e x (Some more) = IsOf plan (record { partial = put i.partial e x; binding = more.binding; windows = more.windows.items })
+IsExtended plan i e x (Some more) = IsOf plan (record { partial = put i.partial e x; binding = more.binding; windows = more.windows.items; progress = i.progress })
 IsExtended plan i e x None = CanBe plan (put i.partial e x) → ⊥

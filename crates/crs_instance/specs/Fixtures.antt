@@ -4,7 +4,7 @@ use Rattle.crs_stn.specs.declared.bound.Bound.{Bound}
 use Rattle.crs_model.specs.declared.chronicle.Chronicle.{Chronicle}
 use Rattle.crs_model.specs.declared.chronicle.EventDef.{EventDef as CodeEvent}
 
--- without arguments and change
+-- without arguments and change, of a level from 0 to 7
 pub record IsPlain (e : CodeEvent) : Type 0 where
   pub terms : e.pattern.terms ≡ []
   pub change : e.pattern.change ≡ None

@@ -1,6 +1,6 @@
--- Instances: a partial assignment with its binding and its date windows.
-use Rattle.std.specs.Prelude.{◌≡◌, ◌<◌, ℕ, ℤ, ◌≤ℤ◌, List, length, map, Option, Some, None, option_map, slice_index_or, IfSome, is_some, false}
-use Rattle.std.specs.List.{list_all}
+-- Instances: a partial assignment with its binding, its date windows, and the progress of the chronicle's windows.
+use Rattle.std.specs.Prelude.{◌≡◌, ◌<◌, ◌^◌, ℕ, ℤ, ◌≤ℤ◌, List, length, map, Option, Some, None, option_map, slice_index_or, IfSome, is_some, false}
+use Rattle.std.specs.List.{list_all, AllByRecursion}
 use Rattle.std.specs.declared.rc.Rc.{Rc}
 use Rattle.std.proofs.Common.{Global}
 use Rattle.crs_base.specs.declared.symbols.Sym.{Sym}
@@ -9,6 +9,7 @@ use Rattle.crs_stn.specs.Bound.{MeetsInPart}
 use Rattle.crs_stn.specs.DateWindow.{IsLatest, IsSoonest}
 use Rattle.crs_model.specs.declared.plan.Plan.{Plan}
 use Rattle.crs_model.specs.declared.date_window.DateWindow.{DateWindow}
+use Rattle.crs_model.specs.declared.progress.Progress.{Progress}
 use Rattle.crs_base.specs.Entry.{Entry}
 use Rattle.crs_model.specs.Models.{Chronicle, Pattern}
 use Rattle.crs_model.specs.Matching.{Binding, IsAllowed, PatternIs}
@@ -24,6 +25,11 @@ pub record InstanceState : Type 0 where
   pub partial : Partial Sym
   pub binding : List (Option Sym)
   pub windows : List DateWindow
+  pub progress : List Progress
+
+-- the entries are dated before 2^40
+abbrev pub AreEarly : List (Option (Rc CodeEntry Global)) → Type 0
+AreEarly es = AllByRecursion (λ o. IfSome o (λ r. r.value.date < 2 ^ 40)) es
 
 -- the entry that an event is bound to
 abbrev pub seen_entry : Option (Rc CodeEntry Global) → Option (Entry Sym)
@@ -35,10 +41,17 @@ partial_of es = map seen_entry es
 abbrev pub no_window : DateWindow
 no_window = record { least = None; most = None }
 
+abbrev pub no_progress : Progress
+no_progress = record { count = 0; broken = false }
+
+-- the progress of a window
+abbrev pub progress_at : List Progress → ℕ → Progress
+progress_at ps k = slice_index_or ps k no_progress
+
 abbrev pub window_at : List DateWindow → ℕ → DateWindow
 window_at ws p = slice_index_or ws p no_window
 
--- An instance of the plan: a partial assignment with the least binding of its entries, which is allowed, and for each point the greatest and the least date that the bounds and the bound events' dates leave.
+-- An instance of the plan: a partial assignment with the least binding of its entries, which is allowed, and for each point the greatest and the least date that the bounds and the bound events' dates leave. Each window of the chronicle has a progress.
 pub record IsOf (plan : Plan) (i : InstanceState) : Type 0 where
   pub len : length i.partial ≡ length plan.chronicle.events
   pub distinct : GivesNoneTwice i.partial
@@ -49,6 +62,7 @@ pub record IsOf (plan : Plan) (i : InstanceState) : Type 0 where
   pub window_count : length i.windows ≡ plan.network.points
   pub most : (r : ℕ) → r < plan.network.points → IsLatest plan.chronicle.bounds (dates_of i.partial) r (window_at i.windows r).most
   pub least : (r : ℕ) → r < plan.network.points → IsSoonest plan.chronicle.bounds (dates_of i.partial) r (window_at i.windows r).least
+  pub followed : length i.progress ≡ length plan.chronicle.windows
 
 -- the date is in the window
 pub record IsInside (w : DateWindow) (d : ℤ) : Type 0 where
@@ -77,7 +91,7 @@ IsBoundBy c p old x None = (other : Binding Sym) → Looser (look_of old) other 
 
 -- what a bind of x to e answers, and what becomes of the instance
 abbrev pub IsAnswered : Plan → InstanceState → ℕ → Entry Sym → InstanceState → Fit → Type 0
-IsAnswered plan old e x new Yes = IsOf plan new × (new.partial ≡ put old.partial e x)
+IsAnswered plan old e x new Yes = IsOf plan new × (new.partial ≡ put old.partial e x) × (new.progress ≡ old.progress)
 IsAnswered plan old e x new No = (CanBe plan (put old.partial e x) → ⊥) × (new ≡ old)
 
 -- the entries of all events; none where some event is unbound

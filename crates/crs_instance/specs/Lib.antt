@@ -3,3 +3,4 @@ pub mod Deadlines
 pub mod Narrowed
 pub mod Extended
 pub mod Fixtures
+pub mod Followed

@@ -1,22 +1,23 @@
-ghost use Rattle.std.specs.Prelude.{◌≡◌, ◌≢◌, ◌<◌, ◌≤◌, ◌^◌, ◌==◌, ℕ, length, map, replicate, IfOk, OnOk, IfSome, ◌++◌, IsTrue, IsSomeAnd, None, false, is_some};
+ghost use Rattle.std.specs.Prelude.{◌≡◌, ◌≢◌, ◌<◌, ◌≤◌, ◌^◌, ◌==◌, ℕ, length, map, replicate, IfOk, OnOk, IfSome, ◌++◌, IsTrue, IsSomeAnd, None, false, is_some, pos, ◌≤ℤ◌, ◌+ℤ◌, option_map};
 ghost use Rattle.std.specs.List.{list_all};
 ghost use Rattle.std.specs.Option.{option_to_list};
 ghost use Rattle.crs_stn.specs.DateWindow.{least_of};
 ghost use Rattle.crs_model.specs.Partial.{at};
 ghost use Rattle.crs_model.specs.Levels.{level_in};
 ghost use Rattle.crs_model.specs.Seen.{event_of};
-ghost use Rattle.crs_instance.specs.Instances.{partial_of, seen_entry, window_at, AreAllEntries};
+ghost use Rattle.crs_instance.specs.Instances.{AreEarly, partial_of, seen_entry, window_at, AreAllEntries};
 ghost use Rattle.crs_instance.specs.Deadlines.{end_of, end_if, HasBits};
 
 use crate::narrowing::earlier;
 use crs_base::{Entry, List};
-use crs_model::{DateWindow, EventDef};
+use crs_model::{Anchor, DateWindow, EventDef};
 use std::alloc::{AllocError, Global};
 use std::rc::Rc;
 
 /// As many Nones.
 pub(crate) fn no_entries(alloc: Global, count: usize) -> Result<Vec<Option<Rc<Entry>>>, AllocError>
-    ensures { IfOk result (λ v. v.items ≡ replicate count None) }
+    ensures none { IfOk result (λ v. v.items ≡ replicate count None) }
+    ensures early { IfOk result (λ v. AreEarly v.items) }
 {
     let mut entries = Vec::new(alloc);
     for _i in 0..count {
@@ -51,7 +52,8 @@ pub(crate) fn copies(
     alloc: Global,
     entries: &[Option<Rc<Entry>>],
 ) -> Result<Vec<Option<Rc<Entry>>>, AllocError>
-    ensures { IfOk result (λ v. partial_of v.items ≡ partial_of entries.now) }
+    ensures same { IfOk result (λ v. partial_of v.items ≡ partial_of entries.now) }
+    ensures early { AreEarly entries.now → IfOk result (λ v. AreEarly v.items) }
 {
     let mut out = Vec::new(alloc);
     for entry in entries {
@@ -61,11 +63,37 @@ pub(crate) fn copies(
 }
 
 fn copy_of(entry: &Option<Rc<Entry>>) -> Result<Option<Rc<Entry>>, AllocError>
-    ensures { IfOk result (λ o. seen_entry o ≡ seen_entry entry.now) }
+    ensures same { IfOk result (λ o. seen_entry o ≡ seen_entry entry.now) }
+    ensures early { IfSome entry.now (λ r. r.value.date < 2 ^ 40) → IfOk result (λ o. IfSome o (λ r. r.value.date < 2 ^ 40)) }
 {
     match entry {
         None => Ok(None),
         Some(entry) => Ok(Some(entry.clone()?)),
+    }
+}
+
+/// The date that is the offset after the date of the event. None where the event is unbound.
+pub(crate) fn date_of(entries: &[Option<Rc<Entry>>], anchor: Anchor) -> Option<i64>
+    requires early { AreEarly entries.now }
+    requires not_large { anchor.offset ≤ℤ pos (2 ^ 40) }
+    requires not_small { pos 0 ≤ℤ (anchor.offset +ℤ pos (2 ^ 40)) }
+    ensures { result ≡ option_map (λ x. pos x.date +ℤ anchor.offset) (at (partial_of entries.now) anchor.event) }
+{
+    match entries.get(anchor.event as usize) {
+        None => None,
+        Some(entry) => later_by(entry, anchor.offset),
+    }
+}
+
+fn later_by(entry: &Option<Rc<Entry>>, offset: i64) -> Option<i64>
+    requires early { IfSome entry.now (λ r. r.value.date < 2 ^ 40) }
+    requires not_large { offset ≤ℤ pos (2 ^ 40) }
+    requires not_small { pos 0 ≤ℤ (offset +ℤ pos (2 ^ 40)) }
+    ensures { result ≡ option_map (λ x. pos x.date +ℤ offset) (seen_entry entry.now) }
+{
+    match entry {
+        None => None,
+        Some(entry) => Some(entry.date as i64 + offset),
     }
 }
 

@@ -1,4 +1,4 @@
-ghost use Rattle.std.specs.Prelude.{◌≡◌, ◌+◌, ◌<◌, ◌≤◌, ◌^◌, ◌↔◌, length, replicate, IfOk, OnErr, IsTrue, None, is_some};
+ghost use Rattle.std.specs.Prelude.{◌≡◌, ◌+◌, ◌<◌, ◌≤◌, ◌^◌, ◌↔◌, length, replicate, IfOk, OnErr, IsTrue, None, Some, is_some, pos, ◌+ℤ◌, ◌≤ℤ◌, option_map, slice_set};
 ghost use Rattle.std.specs.List.{list_all};
 ghost use Rattle.std.specs.Option.{option_copied};
 ghost use Rattle.crs_model.specs.Partial.{at, CanGoOn};
@@ -9,17 +9,20 @@ ghost use Rattle.crs_model.specs.Bindings.{PatternIsBelow};
 ghost use Rattle.crs_model.specs.Steps.{flat};
 ghost use Rattle.crs_model.specs.Levels.{level_in};
 ghost use Rattle.crs_model.specs.declared.plan.Plan.{Plan};
-ghost use Rattle.crs_instance.specs.Instances.{no_window, seen_entry, IsBoundBy, IsOf, IsAnswered, IsDeadline, AreAllEntries, window_at};
+ghost use Rattle.crs_instance.specs.Followed.{IsStretchAt};
+ghost use Rattle.crs_instance.specs.Instances.{no_window, no_progress as none_yet, progress_at, seen_entry, IsBoundBy, IsOf, IsAnswered, IsDeadline, AreAllEntries, window_at};
 ghost use Rattle.crs_instance.specs.Deadlines.{HasBits};
 
 use crate::entries::{
+    date_of,
     all_entries, are_all_bound, bits, copies, deadline_of_level, earliest_deadline, gives,
     no_entries,
 };
 use crate::fit::Fit;
 use crate::narrowing::{is_inside, is_not_before, narrowed};
 use crs_base::{Entry, List, Steps};
-use crs_model::{Binding, Chronicle, DateWindow, Pattern, Plan, allowed, bind_vars, fits};
+use crate::bound::body_is_bound;
+use crs_model::{Anchor, Binding, Chronicle, DateWindow, Pattern, Plan, Progress, Stretch, allowed, bind_vars, fits};
 use std::alloc::{AllocError, Global};
 use std::marker::Model;
 use std::rc::Rc;
@@ -32,19 +35,20 @@ pub struct Instance {
     entries: Vec<Option<Rc<Entry>>>,
     binding: Binding,
     windows: Vec<DateWindow>,
+    progress: Vec<Progress>,
     alloc: Global,
 }
 
 impl Model for Instance {
-    ghost use Rattle.crs_instance.specs.Instances.{InstanceState, partial_of};
+    ghost use Rattle.crs_instance.specs.Instances.{InstanceState, partial_of, AreEarly};
 
     ghost Value = { InstanceState };
 
-    ghost view = { λ i. record { partial = partial_of i.entries.items; binding = i.binding; windows = i.windows.items } };
+    ghost view = { λ i. record { partial = partial_of i.entries.items; binding = i.binding; windows = i.windows.items; progress = i.progress.items } };
 
     ghost use Rattle.std.specs.Prelude.{◌≤◌, length};
 
-    ghost invariant = { λ i. (length i.entries.items ≤ length i.windows.items) × (length i.entries.items ≤ 16) };
+    ghost invariant = { λ i. (length i.entries.items ≤ length i.windows.items) × (length i.entries.items ≤ 16) × AreEarly i.entries.items };
 }
 
 /// As many windows without ends.
@@ -59,6 +63,20 @@ fn no_windows(alloc: Global, count: usize) -> Result<Vec<DateWindow>, AllocError
         })?;
     }
     Ok(windows)
+}
+
+/// As many times the progress of a window that hasn't begun.
+fn no_progress(alloc: Global, count: usize) -> Result<Vec<Progress>, AllocError>
+    ensures { IfOk result (λ v. v.items ≡ replicate count none_yet) }
+{
+    let mut progress = Vec::new(alloc);
+    for _i in 0..count {
+        progress.push(Progress {
+            count: 0,
+            broken: false,
+        })?;
+    }
+    Ok(progress)
 }
 
 /// The binding with the variables of the pattern, where the entry fits it and the chronicle allows the binding.
@@ -104,10 +122,12 @@ impl Instance {
         let events = plan.chronicle.events.len();
         let entries = no_entries(alloc, events)?;
         let windows = no_windows(alloc, events + plan.chronicle.free.len())?;
+        let progress = no_progress(alloc, plan.chronicle.windows.len())?;
         Ok(Instance {
             entries,
             binding: Binding::new(plan.chronicle.variables.len() as u8),
             windows,
+            progress,
             alloc,
         })
     }
@@ -235,6 +255,56 @@ impl Instance {
         &self.binding
     }
 
+    /// What is known of the window of this number, where there is one.
+    pub fn progress(&self, window: u8) -> Progress
+        ensures { result ≡ progress_at self.now.progress window }
+    {
+        match self.progress.as_slice().get(window as usize) {
+            None => Progress {
+                count: 0,
+                broken: false,
+            },
+            Some(progress) => *progress,
+        }
+    }
+
+    /// Writes down what is known of the window of this number.
+    pub fn set_progress(&mut self, window: u8, progress: Progress)
+        requires { window < length self.old.progress }
+        ensures { self.new ≡ record self.old { progress = slice_set self.old.progress window progress } }
+    {
+        self.progress[window as usize] = progress;
+    }
+
+    /// The date that is the offset after the date of the event. None where the event is unbound.
+    fn date_from(&self, anchor: Anchor) -> Option<i64>
+        requires not_large { anchor.offset ≤ℤ pos (2 ^ 40) }
+        requires not_small { pos 0 ≤ℤ (anchor.offset +ℤ pos (2 ^ 40)) }
+        ensures { result ≡ option_map (λ x. pos x.date +ℤ anchor.offset) (at self.now.partial anchor.event) }
+    {
+        date_of(self.entries.as_slice(), anchor)
+    }
+
+    /// The dates of the window of this number. None exactly where one of its anchors or variables is
+    /// unbound.
+    pub fn stretch(&self, plan: &Plan, window: u8) -> Option<Stretch>
+        requires proper { IsProper plan.now }
+        requires window { window < length plan.now.chronicle.windows }
+        ensures { IsStretchAt plan.now self.now window result }
+    {
+        let window = &plan.chronicle.windows.as_slice()[window as usize];
+        if !body_is_bound(&window.body, &self.binding) {
+            return None;
+        }
+        let Some(from) = self.date_from(window.from) else {
+            return None;
+        };
+        let Some(to) = self.date_from(window.to) else {
+            return None;
+        };
+        Some(Stretch { from, to })
+    }
+
     /// The number whose bit e, from the least, is set exactly where event e is bound.
     pub fn bound(&self) -> u16
         ensures { HasBits self.now.partial result }
@@ -262,10 +332,12 @@ impl Instance {
     {
         let entries = copies(self.alloc, self.entries.as_slice())?;
         let windows = Vec::from_slice(self.alloc, self.windows.as_slice())?;
+        let progress = Vec::from_slice(self.alloc, self.progress.as_slice())?;
         Ok(Instance {
             entries,
             binding: self.binding.copy(),
             windows,
+            progress,
             alloc: self.alloc,
         })
     }

@@ -1,6 +1,7 @@
 //! Partial instances of chronicles.
 #![tactic(auto)]
 
+mod bound;
 mod entries;
 mod fit;
 mod instance;

@@ -26,3 +26,4 @@ pub mod Opened
 pub mod WindowLaws
 pub mod Beginning
 pub mod Reaching
+pub mod Holding

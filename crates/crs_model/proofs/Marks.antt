@@ -198,6 +198,9 @@ module _ {S : Type 0} (c : Chronicle S) (named : IsNamed c) (level : ℕ → ℕ
         fresh (subst (λ (t : Assignment S). IsRecognised c was (before g entries) g t) (sym s) w.2),
   )
 
+  pub held_is_new : (b : Assignment S) → IsIn (whole b) held → IsRecognised c was (before g entries) g b → ⊥
+  held_is_new b i r = (stands.each (whole b) i).1 (b, refl, r)
+
   -- what goes on at the mark: what can still be recognised, and isn't
   abbrev pub Lives : Partial S → Type 0
   Lives a = IsOpen c level pool entries h a × (IsRecognisedWhole c pool entries h a → ⊥)

@@ -1,16 +1,57 @@
 -- How far back the windows of what binds an entry can start.
-use Rattle.std.proofs.Common.{◌≡◌, ℕ, ◌<◌, length, arith}
-use Rattle.std.specs.Prelude.{ℤ, pos, ◌+ℤ◌, ◌≤ℤ◌, Some}
+use Rattle.std.proofs.Common.{◌≡◌, ℕ, ◌<◌, List, length, refl, subst, inl, inr, arith}
+use Rattle.std.specs.Prelude.{ℤ, pos, ◌+ℤ◌, ◌-ℤ◌, ◌≤ℤ◌, Option, Some, None, option_map}
+use Rattle.std.specs.List.{AllByRecursion}
 use Rattle.std.proofs.lemmas.Int.{ints}
+use Rattle.std.proofs.lemmas.List.{length-map}
 use Rattle.crs_base.specs.Words.{IsIn}
 use Rattle.crs_base.specs.Entry.{Entry}
+use Rattle.crs_base.specs.declared.symbols.Sym.{Sym}
+use Rattle.crs_base.proofs.Words.{in_map, in_from_each}
+use Rattle.crs_stn.specs.declared.bound.Bound.{Bound}
 use Rattle.crs_stn.specs.Bound.{Meets, Agrees, MeetsInPart}
+use Rattle.crs_stn.specs.Network.{IsMost}
+use Rattle.crs_stn.specs.Table.{most_of}
+use Rattle.crs_model.specs.declared.plan.Plan.{Plan}
 use Rattle.crs_model.specs.Models.{Chronicle, Window}
 use Rattle.crs_model.specs.Partial.{Partial, at, dates_of}
 use Rattle.crs_model.specs.Verdicts.{IsStretch}
-use Rattle.crs_model.specs.Reaches.{ReachesBack}
+use Rattle.crs_model.specs.ProperModels.{IsProperWindow}
+use Rattle.crs_model.specs.Reach.{Bounds, IsReachOf}
+use Rattle.crs_model.specs.Plans.{chronicle, IsProper}
+use Rattle.crs_model.specs.Seen.{event_of}
 use Rattle.crs_model.proofs.Options.{and_some}
 use Rattle.crs_model.proofs.Parts.{agrees_at}
+
+-- whatever dates meet the bounds, no event lies more than r before another, and no window's start more than r before an event
+pub record ReachesBack {S : Type 0} (c : Chronicle S) (r : ℤ) : Type 0 where
+  pub events : (t : ℕ → ℤ) → Meets c.bounds t → (p q : ℕ) → p < length c.events → q < length c.events → t q ≤ℤ (t p +ℤ r)
+  pub starts : (t : ℕ → ℤ) → Meets c.bounds t → (w : Window S) → IsIn w c.windows → (q : ℕ) → q < length c.events → t q ≤ℤ ((t w.from.event +ℤ w.from.offset) +ℤ r)
+
+by_most : (bounds : List Bound) (p q : ℕ) (o : Option ℤ) (r off : ℤ) (t : ℕ → ℤ) → IsMost bounds p q o → Bounds (Some r) (option_map (λ m. m -ℤ off) o) → Meets bounds t → t q ≤ℤ ((t p +ℤ off) +ℤ r)
+by_most bounds p q None r off t is l m = absurd l
+by_most bounds p q (Some b) r off t is l m = let k = is.0 t m in omega (arith, ints)
+
+by_pair : (bounds : List Bound) (p q : ℕ) (o : Option ℤ) (r : ℤ) (t : ℕ → ℤ) → IsMost bounds p q o → Bounds (Some r) o → Meets bounds t → t q ≤ℤ (t p +ℤ r)
+by_pair bounds p q None r t is l m = absurd l
+by_pair bounds p q (Some b) r t is l m = let k = is.0 t m in omega (arith, ints)
+
+-- a plan's finite reach tells so
+pub reaches_back : (p : Plan) → IsProper p → (r : ℤ) → p.reach ≡ Some r → ReachesBack (chronicle p) r
+reaches_back p proper r finite = record {
+  events = λ t m a b la lb. by_pair p.chronicle.bounds a b (most_of p.network a b) r t (proper.minimal a b (point a la) (point b lb)) (reach.bounds (most_of p.network a b) (inr (inl (a, b, la, lb, refl)))) m;
+  starts = λ t m w i b lb. by_most p.chronicle.bounds w.from.event b (most_of p.network w.from.event b) r w.from.offset t (proper.minimal w.from.event b (point w.from.event (anchored w i)) (point b lb))
+      (reach.bounds (option_map (λ m. m -ℤ w.from.offset) (most_of p.network w.from.event b)) (inr (inr (w.from, in_map (λ (v : Window Sym). v.from) (chronicle p).windows w i, (b, lb, refl))))) m;
+}
+  where
+    point : (e : ℕ) → e < length (chronicle p).events → e < p.network.points
+    point e l = let a = proper.points in let b = length-map p.chronicle.events event_of in omega arith
+
+    anchored : (w : Window Sym) → IsIn w (chronicle p).windows → w.from.event < length (chronicle p).events
+    anchored w i = (in_from_each (IsProperWindow proper.declared.0 (chronicle p)) (chronicle p).windows proper.declared.2.windows w i).from.event
+
+    reach : IsReachOf (chronicle p) (most_of p.network) (Some r)
+    reach = subst (λ (o : Option ℤ). IsReachOf (chronicle p) (most_of p.network) o) finite proper.reach
 
 back_start : (x y : ℕ) (s t o r from : ℤ) → s ≡ pos x → t ≡ pos y → from ≡ (pos y +ℤ o) → s ≤ℤ ((t +ℤ o) +ℤ r) → pos x ≤ℤ (from +ℤ r)
 back_start x y s t o r from e f q k = omega (arith, ints)

@@ -8,7 +8,7 @@ use Rattle.crs_base.proofs.Words.{each_from_in}
 use Rattle.crs_stn.specs.Bound.{MeetsInPart}
 use Rattle.crs_base.specs.Entry.{Entry}
 use Rattle.crs_model.specs.Models.{Chronicle, Window}
-use Rattle.crs_model.specs.Matching.{Binding, Assignment, IsAllowed, PatternIs}
+use Rattle.crs_model.specs.Matching.{Binding, Assignment, IsAllowed, PatternIs, IsAssignment}
 use Rattle.crs_model.specs.Partial.{at, IsPartial, GivesNoneTwice, dates_of}
 use Rattle.crs_model.specs.Verdicts.{IsMet}
 use Rattle.crs_model.specs.Open.{IsRecognised, whole}
@@ -33,15 +33,18 @@ module _ {S : Type 0} where
     ordered_from es (λ e f n. h (suc e) (suc f) (λ q. n (omega arith))),
   )
 
+  pub whole_assignment : (c : Chronicle S) (pool : List (Entry S)) (b : Assignment S) (look : Binding S) → IsPartial c pool (whole b) look → slice_get b.values ≡ look → length b.values ≡ length c.variables → IsAssignment c pool b
+  whole_assignment c pool b look p same len = record {
+    given = each_from_in (λ (x : Entry S). IsIn x pool) b.entries (λ x i. let r = place b.entries x i in of_some (at (whole b) r.0) x (λ z. IsIn z pool) r.1 (p.given r.0));
+    distinct = ordered_from b.entries p.distinct;
+    bound = len;
+    equal = subst (λ (l : Binding S). AllZip (λ v e. PatternIs l v.pattern e) c.events b.entries) (sym same) (zip_from (λ v e. PatternIs look v.pattern e) c.events b.entries (sym (length-map b.entries Some) ∙ p.len) p.binding.equal);
+    allowed = subst (λ (l : Binding S). IsAllowed c l) (sym same) p.allowed;
+  }
+
   pub whole_recognised : (c : Chronicle S) (pool entries : List (Entry S)) (h : ℕ) (b : Assignment S) (look : Binding S) → IsPartial c pool (whole b) look → slice_get b.values ≡ look → length b.values ≡ length c.variables → MeetsInPart c.bounds (dates_of (whole b)) → ((w : Window S) → IsIn w c.windows → IsMet look (whole b) entries h w) → IsRecognised c pool entries h b
   whole_recognised c pool entries h b look p same len bounds met = record {
-    assignment = record {
-      given = each_from_in (λ (x : Entry S). IsIn x pool) b.entries (λ x i. let r = place b.entries x i in of_some (at (whole b) r.0) x (λ z. IsIn z pool) r.1 (p.given r.0));
-      distinct = ordered_from b.entries p.distinct;
-      bound = len;
-      equal = subst (λ (l : Binding S). AllZip (λ v e. PatternIs l v.pattern e) c.events b.entries) (sym same) (zip_from (λ v e. PatternIs look v.pattern e) c.events b.entries (sym (length-map b.entries Some) ∙ p.len) p.binding.equal);
-      allowed = subst (λ (l : Binding S). IsAllowed c l) (sym same) p.allowed;
-    };
+    assignment = whole_assignment c pool b look p same len;
     bounds = bounds;
     windows = λ w i. subst (λ (l : Binding S). IsMet l (whole b) entries h w) (sym same) (met w i);
   }

@@ -15,5 +15,4 @@ pub mod Reach
 pub mod Plans
 pub mod Renaming
 pub mod HasProgress
-pub mod Reaches
 pub mod Ready

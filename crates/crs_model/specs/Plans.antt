@@ -9,7 +9,7 @@ use Rattle.crs_model.specs.declared.limits.TheConstants.{POINT_LIMIT, EVENT_LIMI
 use Rattle.crs_model.specs.declared.plan.Plan.{Plan}
 use Rattle.crs_model.specs.Models.{Chronicle, Name}
 use Rattle.crs_model.specs.Proper.{IsNamed}
-use Rattle.crs_model.specs.ProperModels.{IsProperChronicle}
+use Rattle.crs_model.specs.ProperModels.{AreShort, IsProperChronicle}
 use Rattle.crs_model.specs.Reach.{IsReachOf, IsSmallSpan}
 use Rattle.crs_model.specs.Bindings.{PatternIsBelow}
 use Rattle.crs_model.specs.Seen.{chronicle_of}
@@ -29,6 +29,6 @@ pub record IsProper (p : Plan) : Type 0 where
   pub minimal : IsMinimal p.chronicle.bounds p.network.points (most_of p.network)
   pub named : IsNamed (chronicle p)
   pub below : AllByRecursion (λ v. PatternIsBelow (length p.chronicle.variables) v.pattern) (chronicle p).events
-  pub declared : (names : List (Name Sym)) × IsProperChronicle names (chronicle p)
+  pub declared : (names : List (Name Sym)) × AreShort names × IsProperChronicle names (chronicle p)
   pub reach : IsReachOf (chronicle p) (most_of p.network) p.reach
   pub small : IsSmallSpan p.reach

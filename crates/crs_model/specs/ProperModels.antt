@@ -35,6 +35,10 @@ module _ {S : Type 0} where
   abbrev pub IsDeclared : List (Name S) → Pattern S → Type 0
   IsDeclared names p = (n : Name S) × Declares names p.name (length p.terms) n × Suits n.kind p.change
 
+  -- each name is declared with few enough terms
+  abbrev pub AreShort : List (Name S) → Type 0
+  AreShort names = AllByRecursion (λ n. n.arity ≤ ARITY_LIMIT) names
+
   -- a symbol or a variable, and not `*`
   abbrev pub IsDefinite : Term S → Type 0
   IsDefinite (Value x) = Unit {0}
@@ -80,6 +84,6 @@ module _ {S : Type 0} where
 
   pub record AreProper (m : Models S) : Type 0 where
     pub names_few : length m.names ≤ NAME_LIMIT
-    pub arities : AllByRecursion (λ n. n.arity ≤ ARITY_LIMIT) m.names
+    pub arities : AreShort m.names
     pub chronicles_few : length m.chronicles ≤ CHRONICLE_LIMIT
     pub chronicles : AllByRecursion (IsProperChronicle m.names) m.chronicles

@@ -1,9 +1,9 @@
 -- What a store stands for after a mark, and its answer.
-use Rattle.std.proofs.Common.{◌≡◌, ℕ, zero, suc, ◌<◌, ◌≤◌, List, [], ◌∷◌, length, map, refl, sym, ap, subst, ◌∙◌, inl, inr, ◌⊎◌, arith}
-use Rattle.std.specs.Prelude.{Option, Some, None, IfSome, Bool, true, false, is_some}
-use Rattle.std.specs.List.{list_all}
+use Rattle.std.proofs.Common.{◌≡◌, ℕ, zero, suc, ◌<◌, ◌≤◌, ◌^◌, List, [], ◌∷◌, length, map, refl, sym, ap, subst, ◌∙◌, arith}
+use Rattle.std.specs.Prelude.{Some, None, true, is_some}
+use Rattle.std.specs.List.{AllByRecursion, AllZip, list_all}
 use Rattle.crs_base.specs.declared.symbols.Sym.{Sym}
-use Rattle.crs_base.specs.Words.{IsIn}
+use Rattle.crs_base.specs.Words.{IsIn, Ordered}
 use Rattle.crs_base.proofs.Words.{in_from_each, each_from_in, in_map, in_map_back}
 use Rattle.crs_model.specs.declared.plan.Plan.{Plan}
 use Rattle.crs_model.specs.declared.recognition.Mark.{Mark}
@@ -12,24 +12,25 @@ use Rattle.crs_base.specs.Entry.{Entry}
 use Rattle.crs_model.specs.Matching.{Assignment, AreDistinct}
 use Rattle.crs_model.specs.Partial.{Partial, at}
 use Rattle.crs_model.specs.Plans.{chronicle}
-use Rattle.crs_model.specs.Open.{IsNew, IsLive, StandsFor, IsRecognisedWhole, before, whole}
+use Rattle.crs_model.specs.Open.{IsNew, IsLive, IsRecognised, StandsFor, IsRecognisedWhole, before, whole}
 use Rattle.crs_model.specs.Seen.{assignment_of}
 use Rattle.crs_model.specs.Steps.{flat, GoesOn}
 use Rattle.crs_model.specs.Images.{IsImage}
-use Rattle.crs_model.proofs.Offers.{recognised_full}
-use Rattle.crs_model.proofs.Marks.{InDates, marked, new_is_held, same_values}
+use Rattle.crs_model.proofs.Marks.{InDates, marked, new_is_held, held_is_new, same_values}
+use Rattle.crs_history.specs.Histories.{HistoryState, IsFarBack, StandsFor as HistoryStandsFor}
+use Rattle.crs_history.proofs.FarBack.{far_later}
 use Rattle.crs_instance.specs.Instances.{InstanceState, IsOf}
-use Rattle.crs_history.specs.Histories.{HistoryState}
-use Rattle.crs_store.specs.Stores.{parts, StoreState, IsStore, IsSameStore}
-use Rattle.crs_base.specs.Sifted.{Sifts}
-use Rattle.crs_store.specs.Sweeps.{Waits, is_whole, CanWait}
-use Rattle.crs_store.specs.Answers.{IsAnswer, IsMarked, IsAdvanced, IsRecognitionOf, IsRecognitionOfOne, AreFoundInOrder}
-use Rattle.crs_store.proofs.Forking.{can_be}
-use Rattle.crs_store.proofs.Leaving.{leaves_image}
-use Rattle.crs_store.proofs.Standing.{image_as, open_fine, fine_open, stands_flat, flat_stands}
-use Rattle.crs_store.proofs.Marking.{IsWhole, whole_is_recognised, made_is_recognised, made_is_of}
+use Rattle.crs_instance.specs.Followed.{Follows}
+use Rattle.crs_store.specs.Stores.{parts, AllOf, StoreState, IsStore, Stands, IsSameStore}
+use Rattle.crs_store.specs.Windows.{IsOver, IsPassed}
+use Rattle.crs_store.specs.Sweeps.{is_whole, CanWait}
+use Rattle.crs_store.specs.Answers.{IsAnswer, IsMarked, IsAdvanced, IsRecognitionOf, IsRecognitionOfOne, TellsDone, MovesOn, wholes}
+use Rattle.crs_store.proofs.Leaving.{leaves_image, leaves_each}
+use Rattle.crs_store.proofs.Overs.{open_able, floor_early}
+use Rattle.crs_store.proofs.Standing.{stands_flat, flat_stands, given_held, parts_same, zip_of, zip_all, over_of, follows_of, all_both}
+use Rattle.crs_store.proofs.Marking.{IsWhole, done_is_recognised, recognised_is_met, made_is_recognised, made_is_of}
 use Rattle.crs_store.proofs.Finding.{all_some}
-use Rattle.crs_store.proofs.Ascending.{IsOver, ascending, moved_in, moved_back}
+use Rattle.crs_store.proofs.Ascending.{IsOver as IsOver_, ascending, moved_in, moved_back}
 
 pub all_some_of : (a : Partial Sym) → list_all (λ o. is_some o) a ≡ true → IsWhole a
 all_some_of [] t e l n = absurd (omega arith)
@@ -37,126 +38,129 @@ all_some_of (None ∷ a) t e l n = absurd cc
 all_some_of (Some x ∷ a) t zero l n = absurd cc
 all_some_of (Some x ∷ a) t (suc e) l n = all_some_of a t e (omega arith) n
 
-pub some_missing : (a : Partial Sym) → list_all (λ o. is_some o) a ≡ false → (e : ℕ) × (e < length a) × (at a e ≡ None)
-some_missing [] t = absurd cc
-some_missing (None ∷ a) t = (0, omega arith, refl)
-some_missing (Some x ∷ a) t = let r = some_missing a t in (suc r.0, (let l = r.1 in omega arith), r.2)
-
-bool_of : (b : Bool) → (b ≡ true) ⊎ (b ≡ false)
-bool_of true = inl refl
-bool_of false = inr refl
-
 unwhole : (xs ys : List (Entry Sym)) → map Some xs ≡ map Some ys → xs ≡ ys
 unwhole [] [] e = refl
 unwhole [] (y ∷ ys) e = absurd cc
 unwhole (x ∷ xs) [] e = absurd cc
 unwhole (x ∷ xs) (y ∷ ys) e = let s : x ≡ y = cc in let t : map Some xs ≡ map Some ys = cc in (λ i. s i ∷ unwhole xs ys t i)
 
-module _ (old new : StoreState) (is : IsStore old) (mark : Mark) (answer : List Recognition) (h : ℕ) (same : IsSameStore old new)
-    (found : AreFoundInOrder old.number mark old.held answer) (left : Sifts (CanWait old.plan h) old.held new.held)
-    (was pool entries : List (Entry Sym)) (d g : ℕ) (stands : StandsFor (chronicle old.plan) flat (parts old.held) was pool entries d g) (apart : AreDistinct pool) (later : d ≤ h) (dated : (e : Entry Sym) → IsIn e entries → e.date < h) (in_dates : InDates entries) where
-  given_held : (a : Partial Sym) → IsIn a (parts old.held) → (e : ℕ) (y : Entry Sym) → at a e ≡ Some y → IsIn y pool
-  given_held a i e y j = of_value (at a e) y j ((stands.each a i).0.partial.given e)
-    where
-      of_value : (o : Option (Entry Sym)) (y : Entry Sym) → o ≡ Some y → IfSome o (λ z. IsIn z pool) → IsIn y pool
-      of_value None y e k = absurd cc
-      of_value (Some z) y e k = let s : z ≡ y = cc in subst (λ (t : Entry Sym). IsIn t pool) s k
+module _ (old new : StoreState) (is : IsStore old) (history : HistoryState) (mark : Mark) (answer : List Recognition) (h : ℕ) (same : IsSameStore old new) (judged : new.date ≡ h)
+    (moves : MovesOn old.plan history old.date h old.number mark old.held new.held answer)
+    (was pool settled : List (Entry Sym)) (d g : ℕ) (stands : Stands old was pool settled d g) (kept : HistoryStandsFor settled history) (far : IsFarBack old.plan.reach g history.floor) (few : length settled < 2 ^ 32)
+    (apart : AreDistinct pool) (later : d ≤ h) (dated : (e : Entry Sym) → IsIn e settled → e.date < h) (in_dates : InDates settled) where
+  flat_one : StandsFor (chronicle old.plan) flat (parts old.held) was pool settled d g
+  flat_one = stands_flat old is.unfocused was pool settled d g stands
 
-  of_held : (s : InstanceState) → IsIn s old.held → IsOf old.plan s
-  of_held s i = in_from_each (IsOf old.plan) old.held is.instances s i
+  mid : List InstanceState
+  mid = moves.between
 
-  part_held : (s : InstanceState) → IsIn s old.held → IsIn s.partial (parts old.held)
-  part_held s i = in_map (λ (t : InstanceState). t.partial) old.held s i
+  passed : AllZip (IsPassed old.plan history d h) old.held moves.between
+  passed = subst (λ (k : ℕ). AllZip (IsPassed old.plan history k h) old.held moves.between) stands.judged moves.passed
 
-  recognised_now : (a : Partial Sym) → IsIn a (parts old.held) → is_whole a ≡ true → IsRecognisedWhole (chronicle old.plan) pool entries h a
-  recognised_now a i full =
-      let r = in_map_back (λ (s : InstanceState). s.partial) old.held a i in
-      let s = r.0 in
-      subst (λ (t : Partial Sym). IsRecognisedWhole (chronicle old.plan) pool entries h t) (sym r.2)
-      (whole_is_recognised old.plan is.proper is.windowless s (of_held s r.1) (all_some_of s.partial (ap is_whole (sym r.2) ∙ full)) pool entries h ((stands.each s.partial (part_held s r.1)).0.partial.given))
+  far_d : IsFarBack old.plan.reach d history.floor
+  far_d = far_later old.plan.reach g d history.floor flat_one.marked far
 
-  full_of : (a : Partial Sym) → IsRecognisedWhole (chronicle old.plan) pool entries h a → is_whole a ≡ true
-  full_of a rec = elim (bool_of (is_whole a)) [ inl t ↦ t | inr f ↦ (let m = some_missing a f in absurd (recognised_full (chronicle old.plan) pool entries h a m.0 rec m.1 m.2)) ]
+  same_parts : parts moves.between ≡ parts old.held
+  same_parts = parts_same (IsPassed old.plan history d h) (λ a b r. r.same) old.held moves.between passed
 
-  abbrev pub LivesOn : Partial Sym → Type 0
-  LivesOn = IsLive (chronicle old.plan) flat pool entries h
+  of_mid : AllOf old.plan moves.between
+  of_mid = zip_of old.plan (IsPassed old.plan history d h) (λ a b r. r.same) old.held moves.between passed is.instances
 
-  to_lives : (a y : Partial Sym) → IsIn a (parts old.held) → GoesOn (Waits old.plan h) a y → GoesOn LivesOn a y
-  to_lives a y i k = (
-    k.0,
-    (
-      fine_open old.plan is.windowless pool entries h y (ap length k.0 ∙ (stands.each a i).0.partial.len) (λ e z j. given_held a i e z (sym (ap (λ (t : Partial Sym). at t e) k.0) ∙ j)) (k.1).0,
-      λ rec. let t = full_of y rec in let f = (k.1).1 in absurd (no_both (is_whole y) t f),
-    ),
-  )
-    where
-      no_both : (b : Bool) → b ≡ true → b ≡ false → ⊥
-      no_both b t f = absurd cc
+  over_mid : AllByRecursion (IsOver old.plan pool settled h) moves.between
+  over_mid = zip_all (IsPassed old.plan history d h) (IsOver old.plan pool settled d) (IsOver old.plan pool settled h) (λ a b r o. record {
+    given = λ e y k. o.given e y (sym (ap (λ (t : InstanceState). at t.partial e) r.same.same) ∙ k);
+    follows = r.follows settled later (record { kept = kept; few = few; far = far_d }) (floor_early old.plan is.proper d history.floor far_d) o.follows;
+  }) old.held moves.between passed (over_of old.plan pool settled d old.held (given_held old.plan (parts old.held) was pool settled d g flat_one) stands.follows)
 
-  from_lives : (a y : Partial Sym) → IsIn a (parts old.held) → GoesOn LivesOn a y → GoesOn (Waits old.plan h) a y
-  from_lives a y i k = (
-    k.0,
-    (
-      open_fine old.plan is.windowless pool entries h y (k.1).0,
-      elim (bool_of (is_whole y)) [
-        | inl t ↦ absurd ((k.1).1 (subst (λ (z : Partial Sym). IsRecognisedWhole (chronicle old.plan) pool entries h z) (sym k.0) (recognised_now a i (ap is_whole (sym k.0) ∙ t))))
-        | inr f ↦ f
-      ],
-    ),
+  distinct_mid : Ordered (λ a b. a ≡ b → ⊥) (parts moves.between)
+  distinct_mid = subst (Ordered (λ a b. a ≡ b → ⊥)) (sym same_parts) flat_one.distinct
+
+  abbrev pub Full : Partial Sym → Type 0
+  Full = IsRecognisedWhole (chronicle old.plan) pool settled h
+
+  tells : (i : InstanceState) → IsOf old.plan i → IsOver old.plan pool settled h i → TellsDone old.plan h (IsRecognisedWhole (chronicle old.plan) pool settled h) i
+  tells i of over = (
+    λ done. done_is_recognised old.plan is.proper i of (all_some_of i.partial done.0) pool settled h over done.1,
+    λ rec.
+        let full : is_whole i.partial ≡ true = ap is_whole rec.1 ∙ all_some (rec.0).entries in
+        (full, recognised_is_met old.plan is.proper i of (all_some_of i.partial full) pool settled h over rec),
   )
 
-  image_left : IsImage (GoesOn (Waits old.plan h)) (parts old.held) (parts new.held)
-  image_left = leaves_image (CanWait old.plan h) (IsOf old.plan) (Waits old.plan h) (λ i of k. ((can_be old.plan i of, k.1), k.0)) (λ i of k. (k.1, (k.0).1)) old.held new.held is.instances stands.distinct left
+  all_tell : AllByRecursion (TellsDone old.plan h (IsRecognisedWhole (chronicle old.plan) pool settled h)) moves.between
+  all_tell = each_from_in _ moves.between (λ i k. tells i (in_from_each (IsOf old.plan) moves.between of_mid i k) (in_from_each (IsOver old.plan pool settled h) moves.between over_mid i k))
 
-  one_made : (r : Recognition) → IsIn r found.found → IsRecognitionOfOne old.number mark old.held r
-  one_made r k = in_from_each (IsRecognitionOfOne old.number mark old.held) found.found found.are.each r k
+  left : IsImage (GoesOn (IsLive (chronicle old.plan) flat pool settled h)) (parts old.held) (parts new.held)
+  left = subst (λ (t : List (Partial Sym)). IsImage (GoesOn (IsLive (chronicle old.plan) flat pool settled h)) t (parts new.held)) same_parts
+      (leaves_image (CanWait old.plan h) (λ i. IsOf old.plan i × IsOver old.plan pool settled h i) (IsLive (chronicle old.plan) flat pool settled h)
+      (λ i q p. ((open_able old.plan pool settled h i q.0 q.1).1 p.able, λ rec. p.undone ((tells i q.0 q.1).1 rec)))
+      (λ i q l. record { undone = λ done. l.1 ((tells i q.0 q.1).0 done); able = (open_able old.plan pool settled h i q.0 q.1).0 l.0 })
+      moves.between new.held (all_both (IsOf old.plan) (IsOver old.plan pool settled h) moves.between of_mid over_mid) distinct_mid moves.left)
 
-  made_full : (r : Recognition) (k : IsIn r found.found) → IsWhole ((one_made r k).0).partial
-  made_full r k = let one = one_made r k in all_some_of (one.0).partial (ap is_whole (one.2).entries ∙ all_some (assignment_of r).entries)
+  abbrev found : List Recognition
+  found = moves.found.found
 
-  made_new : (r : Recognition) → IsIn r found.found → IsNew (chronicle old.plan) was (before g entries) g pool entries h (assignment_of r)
-  made_new r k =
+  image : IsImage (GoesOn (IsRecognisedWhole (chronicle old.plan) pool settled h)) (parts old.held) (wholes moves.found.found)
+  image = subst (λ (t : List (Partial Sym)). IsImage (GoesOn (IsRecognisedWhole (chronicle old.plan) pool settled h)) t (wholes moves.found.found)) same_parts (moves.found.are.image pool settled all_tell distinct_mid)
+
+  one_made : (r : Recognition) → IsIn r found → IsRecognitionOfOne old.plan h old.number mark moves.between r
+  one_made r k = in_from_each (IsRecognitionOfOne old.plan h old.number mark moves.between) found moves.found.are.each r k
+
+  recognised_of : (r : Recognition) → IsIn r found → IsRecognised (chronicle old.plan) pool settled h (assignment_of r)
+  recognised_of r k =
       let one = one_made r k in
-      let held = part_held one.0 one.1 in (
-        made_is_recognised old.plan is.proper is.windowless one.0 (of_held one.0 one.1) (made_full r k) pool entries h ((stands.each (one.0).partial held).0.partial.given) old.number mark r one.2,
-        λ rec. (stands.each (one.0).partial held).1 (assignment_of r, (one.2).entries, rec),
-      )
+      made_is_recognised old.plan is.proper one.0 (in_from_each (IsOf old.plan) moves.between of_mid one.0 one.1) (all_some_of (one.0).partial (one.2).0) pool settled h (in_from_each (IsOver old.plan pool settled h) moves.between over_mid one.0 one.1) (one.2).1 old.number mark r one.3
 
-  made_of : (r : Recognition) → IsIn r found.found → IsRecognitionOf (chronicle old.plan) old.number mark r
-  made_of r k = let one = one_made r k in made_is_of old.plan is.proper is.windowless one.0 (of_held one.0 one.1) (made_full r k) old.number mark r one.2
+  made_of : (r : Recognition) → IsIn r found → IsRecognitionOf (chronicle old.plan) old.number mark r
+  made_of r k =
+      let one = one_made r k in
+      made_is_of old.plan is.proper one.0 (in_from_each (IsOf old.plan) moves.between of_mid one.0 one.1) (all_some_of (one.0).partial (one.2).0) old.number mark r one.3
 
-  listed_all : (b : Assignment Sym) → IsNew (chronicle old.plan) was (before g entries) g pool entries h b → IsIn b (map assignment_of answer)
-  listed_all b new_one =
-      let held : IsIn (whole b) (parts old.held) = new_is_held (chronicle old.plan) is.proper.named flat (parts old.held) was pool entries d g h stands later dated in_dates b new_one.0 new_one.1 in
-      let there = (found.are.image stands.distinct).complete (whole b) (whole b) held (refl, full_of (whole b) (b, refl, new_one.0)) in
-      let r = in_map_back (λ (r : Recognition). whole (assignment_of r)) found.found (whole b) there in
-      let same_one : b ≡ assignment_of r.0 = same_values (chronicle old.plan) is.proper.named pool pool b (assignment_of r.0) (new_one.0).assignment ((made_new r.0 r.1).0).assignment (unwhole b.entries (assignment_of r.0).entries r.2) in
-      subst (λ (t : Assignment Sym). IsIn t (map assignment_of answer)) (sym same_one) (in_map assignment_of answer r.0 (moved_in found.found answer found.moved r.0 r.1))
+  held_of : (r : Recognition) → IsIn r found → IsIn (whole (assignment_of r)) (parts old.held)
+  held_of r i =
+      let s = image.sound (whole (assignment_of r)) (in_map (λ (t : Recognition). whole (assignment_of t)) found r i) in
+      subst (λ (a : Partial Sym). IsIn a (parts old.held)) (sym (s.2).0) s.1
 
-  is_answer : IsAnswer (chronicle old.plan) old.number mark was pool entries g h answer
-  is_answer = record {
+  new_of : (r : Recognition) → IsIn r found → IsNew (chronicle old.plan) was (before g settled) g pool settled h (assignment_of r)
+  new_of r i = (recognised_of r i, held_is_new (chronicle old.plan) is.proper.named flat (parts old.held) was pool settled d g h flat_one later dated in_dates (assignment_of r) (held_of r i))
+
+  listed_all : (b : Assignment Sym) → IsNew (chronicle old.plan) was (before g settled) g pool settled h b → IsIn b (map assignment_of answer)
+  listed_all b k =
+      let held = new_is_held (chronicle old.plan) is.proper.named flat (parts old.held) was pool settled d g h flat_one later dated in_dates b k.0 k.1 in
+      let there = image.complete (whole b) (whole b) held (refl, (b, refl, k.0)) in
+      let r = in_map_back (λ (r : Recognition). whole (assignment_of r)) found (whole b) there in
+      let same_one : b ≡ assignment_of r.0 = same_values (chronicle old.plan) is.proper.named pool pool b (assignment_of r.0) (k.0).assignment (recognised_of r.0 r.1).assignment (unwhole b.entries (assignment_of r.0).entries r.2) in
+      subst (λ (t : Assignment Sym). IsIn t (map assignment_of answer)) (sym same_one) (in_map assignment_of answer r.0 (moved_in found answer moves.found.moved r.0 r.1))
+
+  answers : IsAnswer (chronicle old.plan) old.number mark was pool settled g h answer
+  answers = record {
     listed = record {
-      ascending = ascending pool apart found.found answer (each_from_in (IsOver pool) found.found (λ r k. ((made_new r k).0).assignment.given)) (found.are.image stands.distinct).distinct found.moved found.sorted;
-      each = each_from_in (IsNew (chronicle old.plan) was (before g entries) g pool entries h) (map assignment_of answer) (λ b k.
-          let r = in_map_back assignment_of answer b k in
-          subst (λ (t : Assignment Sym). IsNew (chronicle old.plan) was (before g entries) g pool entries h t) (sym r.2) (made_new r.0 (moved_back found.found answer found.moved r.0 r.1)));
+      ascending = ascending pool apart found answer (each_from_in (IsOver_ pool) found (λ r i. (recognised_of r i).assignment.given)) image.distinct moves.found.moved moves.found.sorted;
+      each = each_from_in (IsNew (chronicle old.plan) was (before g settled) g pool settled h) (map assignment_of answer) (λ b i.
+          let r = in_map_back assignment_of answer b i in
+          subst (λ (t : Assignment Sym). IsNew (chronicle old.plan) was (before g settled) g pool settled h t) (sym r.2) (new_of r.0 (moved_back found answer moves.found.moved r.0 r.1)));
       all = listed_all;
     };
-    each = each_from_in (IsRecognitionOf (chronicle old.plan) old.number mark) answer (λ r k. made_of r (moved_back found.found answer found.moved r k));
+    each = each_from_in (IsRecognitionOf (chronicle old.plan) old.number mark) answer (λ r i. made_of r (moved_back found answer moves.found.moved r i));
   }
 
-  pub is_marked : IsMarked old new mark was pool entries g h answer
+  over_new : AllByRecursion (IsOver old.plan pool settled h) new.held
+  over_new = leaves_each (CanWait old.plan h) (IsOver old.plan pool settled h) moves.between new.held over_mid moves.left
+
+  pub is_marked : IsMarked old new mark was pool settled g h answer
   is_marked = record {
-    stands = flat_stands new (same.focus ∙ is.unfocused) pool pool entries h h (subst (λ (p : Plan). StandsFor (chronicle p) flat (parts new.held) pool pool entries h h) (sym same.plan)
-        (marked (chronicle old.plan) is.proper.named flat (parts old.held) was pool entries d g h stands later dated in_dates (parts new.held) (image_as (GoesOn (Waits old.plan h)) (GoesOn LivesOn) (parts old.held) (parts new.held) to_lives from_lives image_left)));
-    answers = is_answer;
+    stands = flat_stands new (same.focus ∙ is.unfocused) pool pool settled h h
+        (subst (λ (p : Plan). StandsFor (chronicle p) flat (parts new.held) pool pool settled h h) (sym same.plan)
+        (marked (chronicle old.plan) is.proper.named flat (parts old.held) was pool settled d g h flat_one later dated in_dates (parts new.held) left))
+        (subst (λ (p : Plan). AllByRecursion (Follows p settled h) new.held) (sym same.plan) (follows_of old.plan pool settled h new.held over_new))
+        judged;
+    answers = answers;
   }
 
-pub advanced : (old new : StoreState) → IsStore old → (history : HistoryState) (mark : Mark) (answer : List Recognition) (h : ℕ) → IsSameStore old new → AreFoundInOrder old.number mark old.held answer → Sifts (CanWait old.plan h) old.held new.held → IsAdvanced old history h mark new answer
-advanced old new is history mark answer h same found left was pool entries d g stands kept far apart later dated in_dates =
-    is_marked old new is mark answer h same found left was pool entries d g (stands_flat old is.unfocused was pool entries d g stands) apart later dated in_dates
+pub advanced : (old new : StoreState) → IsStore old → (history : HistoryState) (mark : Mark) (answer : List Recognition) (h : ℕ) → IsSameStore old new → new.date ≡ h → MovesOn old.plan history old.date h old.number mark old.held new.held answer → IsAdvanced old history h mark new answer
+advanced old new is history mark answer h same judged moves was pool settled d g stands kept far few apart later dated in_dates =
+    is_marked old new is history mark answer h same judged moves was pool settled d g stands kept far few apart later dated in_dates
 
-pub advanced_from : (seen old new : StoreState) (history : HistoryState) (mark : Mark) (held : List InstanceState) (answer : List Recognition) (h : ℕ) → seen ≡ old → IsStore seen → IsSameStore seen new → held ≡ seen.held → AreFoundInOrder seen.number mark held answer → Sifts (CanWait seen.plan h) seen.held new.held → IsAdvanced old history h mark new answer
-advanced_from seen old new history mark held answer h view is same sh found left =
+pub advanced_from : (seen old new : StoreState) (history : HistoryState) (p : Plan) (mark : Mark) (answer : List Recognition) (h : ℕ) → seen ≡ old → IsStore seen → p ≡ seen.plan → IsSameStore seen new → new.date ≡ h → MovesOn p history seen.date h seen.number mark seen.held new.held answer → IsAdvanced old history h mark new answer
+advanced_from seen old new history p mark answer h view is sp same judged moves =
     subst (λ (o : StoreState). IsAdvanced o history h mark new answer) view
-    (advanced seen new is history mark answer h same (subst (λ (t : List InstanceState). AreFoundInOrder seen.number mark t answer) sh found) left)
+    (advanced seen new is history mark answer h same judged (subst (λ (t : Plan). MovesOn t history seen.date h seen.number mark seen.held new.held answer) sp moves))

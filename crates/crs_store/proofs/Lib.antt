@@ -6,3 +6,6 @@ pub mod Marking
 pub mod Finding
 pub mod Ascending
 pub mod Advancing
+pub mod Progress
+pub mod Overs
+pub mod Firsts

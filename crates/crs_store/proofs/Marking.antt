@@ -1,6 +1,6 @@
--- A whole instance is recognised, where there are no windows.
+-- A whole instance is recognised exactly where its windows are met as its progress tells.
 use Rattle.std.proofs.Common.{◌≡◌, ℕ, zero, suc, ◌<◌, List, [], ◌∷◌, length, map, refl, sym, ap, subst, ◌∙◌, inl, inr, arith, get_or, true≢false}
-use Rattle.std.specs.Prelude.{Option, Some, None, IfSome, slice_get, true}
+use Rattle.std.specs.Prelude.{ℤ, pos, Option, Some, None, slice_get, true}
 use Rattle.std.specs.List.{AllZip}
 use Rattle.std.proofs.lemmas.List.{length-map}
 use Rattle.std.proofs.lemmas.Bool.Decides.{eqb_tells}
@@ -9,23 +9,31 @@ use Rattle.crs_base.specs.declared.symbols.Sym.{Sym}
 use Rattle.crs_base.specs.Words.{IsIn}
 use Rattle.crs_model.specs.declared.plan.Plan.{Plan}
 use Rattle.crs_base.specs.Entry.{Entry}
-use Rattle.crs_model.specs.Models.{Term, Value, Var, Any, Pattern, EventDef, Window}
+use Rattle.crs_model.specs.Models.{Term, Value, Var, Any, Pattern, Window}
 use Rattle.crs_model.specs.Matching.{Binding, TermIs, ChangeIs, PatternIs, Assignment}
 use Rattle.crs_model.specs.Partial.{Partial, at, IsPartial}
 use Rattle.crs_model.specs.Proper.{term_has, terms_have, change_has, pattern_has}
 use Rattle.crs_model.specs.Plans.{chronicle, IsProper}
 use Rattle.crs_model.specs.Bindings.{look_of}
 use Rattle.crs_model.specs.Open.{IsRecognised, IsRecognisedWhole, whole}
-use Rattle.crs_model.proofs.Options.{of_some, cases_of}
-use Rattle.crs_model.proofs.Wholes.{whole_recognised}
+use Rattle.crs_model.proofs.Options.{of_some, some_if, cases_of}
+use Rattle.crs_model.proofs.Wholes.{whole_recognised, whole_assignment}
+use Rattle.crs_model.proofs.Opened.{in_place, place_of, met_by}
+use Rattle.crs_model.proofs.WindowLaws.{judged_by_progress}
+use Rattle.crs_model.proofs.Marks.{same_values}
+use Rattle.crs_model.specs.Verdicts.{IsMet, IsStretch, BodyIsBound}
+use Rattle.crs_model.specs.HasProgress.{IsMetBy}
+use Rattle.crs_store.specs.Windows.{IsOver}
+use Rattle.crs_store.specs.Judged.{IsMetTo}
+use Rattle.crs_store.proofs.Progress.{any_window, at_place}
 use Rattle.crs_stn.specs.Bound.{MeetsInPart}
 use Rattle.crs_model.specs.Partial.{dates_of}
 use Rattle.crs_base.specs.Seen.{entry_of}
-use Rattle.crs_model.specs.Seen.{event_of, assignment_of, given}
+use Rattle.crs_model.specs.Seen.{event_of, window_of, assignment_of, given}
 use Rattle.crs_model.specs.declared.recognition.Mark.{Mark}
 use Rattle.crs_model.specs.declared.recognition.Recognition.{Recognition}
 use Rattle.crs_store.specs.Answers.{IsRecognitionOf, IsRecognitionFrom}
-use Rattle.crs_instance.specs.Instances.{InstanceState, IsOf}
+use Rattle.crs_instance.specs.Instances.{InstanceState, IsOf, progress_at}
 
 module _ {S : Type 0} (look : Binding S) (v : ℕ) where
   term_bound : (t : Term S) (y : S) → term_has v t ≡ true → TermIs look t y → (s : S) × (look v ≡ Some s)
@@ -56,6 +64,11 @@ get_there [] k = refl
 get_there (x ∷ xs) zero = refl
 get_there (x ∷ xs) (suc k) = get_there xs k
 
+within_list : {A : Type 0} (xs : List A) (k : ℕ) (x : A) → slice_get xs k ≡ Some x → k < length xs
+within_list [] k x h = absurd cc
+within_list (y ∷ xs) zero x h = omega arith
+within_list (y ∷ xs) (suc k) x h = let l = within_list xs k x h in omega arith
+
 -- each event is bound
 abbrev pub IsWhole : Partial Sym → Type 0
 IsWhole a = (e : ℕ) → e < length a → at a e ≡ None → ⊥
@@ -64,19 +77,14 @@ given_all : {A : Type 0} (xs : List A) → given (map Some xs) ≡ xs
 given_all [] = refl
 given_all {A} (x ∷ xs) = ap (λ (t : List A). x ∷ t) (given_all xs)
 
-module _ (plan : Plan) (proper : IsProper plan) (windowless : (chronicle plan).windows ≡ []) (i : InstanceState) (of : IsOf plan i) (full : IsWhole i.partial) where
+module _ (plan : Plan) (proper : IsProper plan) (i : InstanceState) (of : IsOf plan i) (full : IsWhole i.partial) where
   not_both : (o : Option Sym) (y : Sym) → o ≡ Some y → o ≡ None → ⊥
   not_both o y j f = absurd cc
-
-  within : (evs : List (EventDef Sym)) (e : ℕ) (ev : EventDef Sym) → slice_get evs e ≡ Some ev → e < length evs
-  within [] e ev h = absurd cc
-  within (y ∷ evs) zero ev h = omega arith
-  within (y ∷ evs) (suc e) ev h = let l = within evs e ev h in omega arith
 
   bound : (v : ℕ) → v < length i.binding → get_or i.binding v None ≡ None → ⊥
   bound v l n =
       let s = proper.named.stands v (let q = of.symbols in omega arith) in
-      let inside : s.0 < length i.partial = (let q = of.len in let r = within (chronicle plan).events s.0 s.1 s.2 in let m = length-map plan.chronicle.events event_of in omega arith) in
+      let inside : s.0 < length i.partial = (let q = of.len in let r = within_list (chronicle plan).events s.0 s.1 s.2 in let m = length-map plan.chronicle.events event_of in omega arith) in
       elim (cases_of (at i.partial s.0)) [
         | inl free ↦ full s.0 inside free
         | inr x ↦ (let b = pattern_bound (look_of i.binding) v (s.1).pattern x.0 s.3 (of_some (at i.partial s.0) x.0 _ x.1 (of_some (slice_get (chronicle plan).events s.0) s.1 _ s.2 (of.binding.equal s.0))) in not_both (get_or i.binding v None) b.0 b.1 n)
@@ -89,24 +97,59 @@ module _ (plan : Plan) (proper : IsProper plan) (windowless : (chronicle plan).w
   values_given : i.binding ≡ map Some (given i.binding)
   values_given = values.1 ∙ ap (map Some) (sym (given_all values.0) ∙ sym (ap given values.1))
 
-  module _ (pool entries : List (Entry Sym)) (h : ℕ) (inside : (e : ℕ) → IfSome (at i.partial e) (λ x. IsIn x pool)) where
-    recognised_with : (b : Assignment Sym) → i.partial ≡ whole b → b.values ≡ given i.binding → IsRecognised (chronicle plan) pool entries h b
-    recognised_with b is vs =
-        let same : slice_get b.values ≡ look_of i.binding = (λ k v. (get_there b.values v ∙ ap (λ (t : List (Option Sym)). get_or t v None) (ap (map Some) vs ∙ sym values_given)) k) in
-        whole_recognised (chronicle plan) pool entries h b (look_of i.binding)
-        (subst (λ (t : Partial Sym). IsPartial (chronicle plan) pool t (look_of i.binding)) is (record { len = of.len ∙ sym (length-map plan.chronicle.events event_of); given = inside; distinct = of.distinct; binding = of.binding; allowed = of.allowed }))
-        same (sym (length-map b.values Some) ∙ ap length (ap (map Some) vs ∙ sym values_given) ∙ of.symbols)
+  module _ (pool entries : List (Entry Sym)) (h : ℕ) (over : IsOver plan pool entries h i) where
+    partial_of_it : (b : Assignment Sym) → i.partial ≡ whole b → IsPartial (chronicle plan) pool (whole b) (look_of i.binding)
+    partial_of_it b is = subst (λ (t : Partial Sym). IsPartial (chronicle plan) pool t (look_of i.binding)) is (record { len = of.len ∙ sym (length-map plan.chronicle.events event_of); given = λ e. some_if (at i.partial e) _ (λ y j. over.given e y j); distinct = of.distinct; binding = of.binding; allowed = of.allowed })
+
+    same_look : (b : Assignment Sym) → b.values ≡ given i.binding → slice_get b.values ≡ look_of i.binding
+    same_look b vs = λ k v. (get_there b.values v ∙ ap (λ (t : List (Option Sym)). get_or t v None) (ap (map Some) vs ∙ sym values_given)) k
+
+    count_of : (b : Assignment Sym) → b.values ≡ given i.binding → length b.values ≡ length (chronicle plan).variables
+    count_of b vs = sym (length-map b.values Some) ∙ ap length (ap (map Some) vs ∙ sym values_given) ∙ of.symbols
+
+    -- each window that is met as its progress tells is met
+    met_of : IsMetTo plan h i (length plan.chronicle.windows) → (w : Window Sym) → IsIn w (chronicle plan).windows → IsMet (look_of i.binding) i.partial entries h w
+    met_of met w k =
+        let r = place_of (chronicle plan).windows w k in
+        let inside : r.0 < length plan.chronicle.windows = let l = within_list (chronicle plan).windows r.0 w r.1 in let m = length-map plan.chronicle.windows window_of in omega arith in
+        let m = of_some (slice_get (chronicle plan).windows r.0) w _ r.1 (met r.0 inside) in
+        let q = progress_at i.progress r.0 in
+        met_by (look_of i.binding) i.partial entries h w m.0 m.1 q.count q.broken m.2 m.3 (of_some (slice_get (chronicle plan).windows r.0) w _ r.1 (over.follows r.0) m.0 m.1 m.2 m.3) m.4
+
+    recognised_with : IsMetTo plan h i (length plan.chronicle.windows) → (b : Assignment Sym) → i.partial ≡ whole b → b.values ≡ given i.binding → IsRecognised (chronicle plan) pool entries h b
+    recognised_with met b is vs =
+        whole_recognised (chronicle plan) pool entries h b (look_of i.binding) (partial_of_it b is) (same_look b vs) (count_of b vs)
         (subst (λ (t : Partial Sym). MeetsInPart plan.chronicle.bounds (dates_of t)) is of.dates)
-        (λ w k. absurd (subst (λ (ws : List (Window Sym)). IsIn w ws) windowless k))
+        (λ w k. subst (λ (t : Partial Sym). IsMet (look_of i.binding) t entries h w) is (met_of met w k))
 
-    pub whole_is_recognised : IsRecognisedWhole (chronicle plan) pool entries h i.partial
-    whole_is_recognised =
-        let es = all_there i.partial full in
-        let b : Assignment Sym = record { entries = es.0; values = given i.binding } in
-        (b, es.1, recognised_with b es.1 refl)
+    abbrev the_whole : Assignment Sym
+    the_whole = record { entries = (all_there i.partial full).0; values = given i.binding }
 
-    pub made_is_recognised : (number : ℕ) (mark : Mark) (r : Recognition) → IsRecognitionFrom number mark i r → IsRecognised (chronicle plan) pool entries h (assignment_of r)
-    made_is_recognised number mark r from = recognised_with (assignment_of r) from.entries (ap given from.binding)
+    whole_is : i.partial ≡ whole the_whole
+    whole_is = (all_there i.partial full).1
+
+    pub done_is_recognised : IsMetTo plan h i (length plan.chronicle.windows) → IsRecognisedWhole (chronicle plan) pool entries h i.partial
+    done_is_recognised met = (the_whole, whole_is, recognised_with met the_whole whole_is refl)
+
+    unwhole : (xs ys : List (Entry Sym)) → map Some xs ≡ map Some ys → xs ≡ ys
+    unwhole [] [] e = refl
+    unwhole [] (y ∷ ys) e = absurd cc
+    unwhole (x ∷ xs) [] e = absurd cc
+    unwhole (x ∷ xs) (y ∷ ys) e = let s : x ≡ y = cc in let t : map Some xs ≡ map Some ys = cc in (λ i. s i ∷ unwhole xs ys t i)
+
+    pub recognised_is_met : IsRecognisedWhole (chronicle plan) pool entries h i.partial → IsMetTo plan h i (length plan.chronicle.windows)
+    recognised_is_met rec k l =
+        let w = any_window plan k l in
+        let one : rec.0 ≡ the_whole = same_values (chronicle plan) proper.named pool pool rec.0 the_whole (rec.2).assignment (whole_assignment (chronicle plan) pool the_whole (look_of i.binding) (partial_of_it the_whole whole_is) (same_look the_whole refl) (count_of the_whole refl)) (unwhole (rec.0).entries the_whole.entries (sym rec.1 ∙ whole_is)) in
+        let met : IsMet (slice_get the_whole.values) (whole the_whole) entries h w.0 = subst (λ (b : Assignment Sym). IsMet (slice_get b.values) (whole b) entries h w.0) one ((rec.2).windows w.0 (in_place (chronicle plan).windows k w.0 w.1)) in
+        let here : IsMet (look_of i.binding) i.partial entries h w.0 = subst (λ (t : Partial Sym). IsMet (look_of i.binding) t entries h w.0) (sym whole_is) (subst (λ (look : Binding Sym). IsMet look (whole the_whole) entries h w.0) (same_look the_whole refl) met) in
+        let q = progress_at i.progress k in
+        let has = of_some (slice_get (chronicle plan).windows k) w.0 _ w.1 (over.follows k) here.from here.to here.stretch here.bound in
+        at_place plan k w.0 w.1 (λ w. (from : ℤ) × (to : ℤ) × IsStretch i.partial w from to × BodyIsBound (look_of i.binding) w.body × IsMetBy w.body to (pos h) q.count q.broken)
+        (here.from, here.to, here.stretch, here.bound, ((judged_by_progress (look_of i.binding) i.partial entries h w.0 here.from here.to q.count q.broken here.stretch here.bound has).0).0 here)
+
+    pub made_is_recognised : IsMetTo plan h i (length plan.chronicle.windows) → (number : ℕ) (mark : Mark) (r : Recognition) → IsRecognitionFrom number mark i r → IsRecognised (chronicle plan) pool entries h (assignment_of r)
+    made_is_recognised met number mark r from = recognised_with met (assignment_of r) from.entries (ap given from.binding)
 
   pub made_is_of : (number : ℕ) (mark : Mark) (r : Recognition) → IsRecognitionFrom number mark i r → IsRecognitionOf (chronicle plan) number mark r
   made_is_of number mark r from = record {

@@ -1,6 +1,6 @@
 -- What a mark answers of a chronicle.
-use Rattle.std.specs.Prelude.{◌≡◌, ◌<◌, ◌≤◌, ℕ, List, map, length, Option, Some, None, false}
-use Rattle.std.specs.List.{AllByRecursion}
+use Rattle.std.specs.Prelude.{◌≡◌, ◌<◌, ◌≤◌, ◌^◌, ℕ, List, map, length, Option, Some, None}
+use Rattle.std.specs.List.{AllByRecursion, AllZip}
 use Rattle.crs_base.specs.declared.symbols.Sym.{Sym}
 use Rattle.crs_base.specs.Words.{IsIn, Ordered}
 use Rattle.crs_base.specs.Entry.{Entry}
@@ -11,14 +11,17 @@ use Rattle.crs_model.specs.Matching.{AreDistinct}
 use Rattle.crs_model.specs.Images.{IsImage}
 use Rattle.crs_model.specs.Steps.{GoesOn}
 use Rattle.crs_model.specs.Order.{Lists, assignment_cmp}
-use Rattle.crs_model.specs.Open.{IsNew, before, whole}
+use Rattle.crs_model.specs.Open.{IsNew, IsRecognisedWhole, before, whole}
 use Rattle.crs_model.specs.Partial.{Partial}
 use Rattle.crs_model.specs.Plans.{chronicle}
 use Rattle.crs_model.specs.Seen.{assignment_of, given}
 use Rattle.crs_history.specs.Histories.{HistoryState, IsFarBack, StandsFor as HistoryStandsFor}
 use Rattle.crs_instance.specs.Instances.{InstanceState}
 use Rattle.crs_store.specs.Stores.{StoreState, Stands, parts}
-use Rattle.crs_store.specs.Sweeps.{is_whole, IsFull}
+use Rattle.crs_store.specs.Sweeps.{IsDone, CanWait}
+use Rattle.crs_store.specs.Windows.{IsPassed}
+use Rattle.crs_base.specs.Sifted.{Sifts}
+use Rattle.crs_model.specs.declared.plan.Plan.{Plan}
 use Rattle.std.specs.Ordering.{is_lt}
 use Rattle.std.specs.List.Sorted.{IsPermutation, IsSortedBy}
 use Rattle.std.specs.declared.cmp.Ordering.{Ordering}
@@ -41,11 +44,11 @@ pub record IsMarked (old new : StoreState) (mark : Mark) (was pool entries : Lis
   pub stands : Stands new pool pool entries h h
   pub answers : IsAnswer (chronicle old.plan) old.number mark was pool entries g h answer
 
--- where the history stands for what is settled, which is dated before h and in the order of its dates, no two entries of the pool have one arrival number, and d isn't after h
+-- where the history stands for what is settled, which are fewer than 2^32, dated before h and in the order of its dates, no two entries of the pool have one arrival number, and d isn't after h
 abbrev pub IsAdvanced : StoreState → HistoryState → ℕ → Mark → StoreState → List Recognition → Type 0
 IsAdvanced old history h mark new answer =
     (was pool settled : List (Entry Sym)) (d g : ℕ) → Stands old was pool settled d g →
-    HistoryStandsFor settled history → IsFarBack old.plan.reach g history.floor → AreDistinct pool → d ≤ h →
+    HistoryStandsFor settled history → IsFarBack old.plan.reach g history.floor → length settled < 2 ^ 32 → AreDistinct pool → d ≤ h →
     ((e : Entry Sym) → IsIn e settled → e.date < h) → Ordered (λ d e. d.date ≤ e.date) settled →
     IsMarked old new mark was pool settled g h answer
 
@@ -56,30 +59,45 @@ pub record IsRecognitionFrom (n : ℕ) (m : Mark) (i : InstanceState) (r : Recog
   pub entries : i.partial ≡ whole (assignment_of r)
   pub binding : r.binding ≡ i.binding
 
--- none where some event is unbound
-abbrev pub IsRecognitionIfWhole : ℕ → Mark → InstanceState → Option Recognition → Type 0
-IsRecognitionIfWhole number mark i None = is_whole i.partial ≡ false
-IsRecognitionIfWhole number mark i (Some r) = IsRecognitionFrom number mark i r
+-- none where some event is unbound or some window isn't met
+abbrev pub IsRecognitionIfDone : Plan → ℕ → ℕ → Mark → InstanceState → Option Recognition → Type 0
+IsRecognitionIfDone plan h number mark i None = IsDone plan h i → ⊥
+IsRecognitionIfDone plan h number mark i (Some r) = IsDone plan h i × IsRecognitionFrom number mark i r
 
 -- the partial assignments that were recognised
 abbrev pub wholes : List Recognition → List (Partial Sym)
 wholes rs = map (λ r. whole (assignment_of r)) rs
 
--- it is the recognition of one of the instances
-abbrev pub IsRecognitionOfOne : ℕ → Mark → List InstanceState → Recognition → Type 0
-IsRecognitionOfOne number mark is r = (i : InstanceState) × IsIn i is × IsRecognitionFrom number mark i r
+-- it is the recognition of one of the instances, which is done
+abbrev pub IsRecognitionOfOne : Plan → ℕ → ℕ → Mark → List InstanceState → Recognition → Type 0
+IsRecognitionOfOne plan h number mark is r = (i : InstanceState) × IsIn i is × IsDone plan h i × IsRecognitionFrom number mark i r
 
 abbrev pub answer_cmp : Recognition → Recognition → Ordering
 answer_cmp r s = assignment_cmp (assignment_of r) (assignment_of s)
 
--- what is found among the instances is the recognitions of the whole ones
-pub record AreFound (number : ℕ) (mark : Mark) (held : List InstanceState) (found : List Recognition) : Type 0 where
-  pub each : AllByRecursion (IsRecognitionOfOne number mark held) found
-  pub image : Ordered (λ a b. a ≡ b → ⊥) (parts held) → IsImage (GoesOn IsFull) (parts held) (wholes found)
+-- an instance that is done makes the partial assignment such that P holds of it, and no other does
+abbrev pub TellsDone : Plan → ℕ → (Partial Sym → Type 0) → InstanceState → Type 0
+TellsDone plan h P i = (IsDone plan h i → P i.partial) × (P i.partial → IsDone plan h i)
+
+-- what is found among the first instances is the recognitions of those that are done
+pub record AreFoundIn (plan : Plan) (h number : ℕ) (mark : Mark) (held first : List InstanceState) (found : List Recognition) : Type 0 where
+  pub each : AllByRecursion (IsRecognitionOfOne plan h number mark held) found
+  pub image : (pool entries : List (Entry Sym)) → AllByRecursion (TellsDone plan h (IsRecognisedWhole (chronicle plan) pool entries h)) held → Ordered (λ a b. a ≡ b → ⊥) (parts held)
+      → IsImage (GoesOn (IsRecognisedWhole (chronicle plan) pool entries h)) (parts first) (wholes found)
+
+abbrev pub AreFound : Plan → ℕ → ℕ → Mark → List InstanceState → List Recognition → Type 0
+AreFound plan h number mark held found = AreFoundIn plan h number mark held held found
 
 -- the same in the order of the lists of their entries' keys
-pub record AreFoundInOrder (number : ℕ) (mark : Mark) (held : List InstanceState) (answer : List Recognition) : Type 0 where
+pub record AreFoundInOrder (plan : Plan) (h number : ℕ) (mark : Mark) (held : List InstanceState) (answer : List Recognition) : Type 0 where
   pub found : List Recognition
-  pub are : AreFound number mark held found
+  pub are : AreFound plan h number mark held found
   pub moved : IsPermutation found answer
   pub sorted : IsSortedBy (λ r s. is_lt (answer_cmp r s)) answer
+
+-- the instances pass the dates up to h; what is found among them then is the answer, and those that can wait stay
+pub record MovesOn (plan : Plan) (history : HistoryState) (since h number : ℕ) (mark : Mark) (old new : List InstanceState) (answer : List Recognition) : Type 0 where
+  pub between : List InstanceState
+  pub passed : AllZip (IsPassed plan history since h) old between
+  pub found : AreFoundInOrder plan h number mark between answer
+  pub left : Sifts (CanWait plan h) between new

@@ -1,3 +1,5 @@
 pub mod Stores
+pub mod Windows
+pub mod Judged
 pub mod Sweeps
 pub mod Answers

@@ -1,5 +1,5 @@
 -- Stores, and what they stand for.
-use Rattle.std.specs.Prelude.{◌≡◌, ◌≤◌, ℕ, List, [], ◌∷◌, ◌++◌, map, Bool, false}
+use Rattle.std.specs.Prelude.{◌≡◌, ◌≤◌, ◌<◌, ◌^◌, ℕ, List, [], ◌∷◌, ◌++◌, length, map, Bool, false}
 use Rattle.std.specs.List.{AllByRecursion}
 use Rattle.crs_base.specs.declared.symbols.Sym.{Sym}
 use Rattle.crs_base.specs.Entry.{Entry}
@@ -11,6 +11,7 @@ use Rattle.crs_model.specs.Levels.{level_in}
 use Rattle.crs_model.specs.Open.{StandsFor}
 use Rattle.crs_history.specs.Histories.{HistoryState, IsFarBack, StandsFor as HistoryStandsFor}
 use Rattle.crs_instance.specs.Instances.{InstanceState, IsOf}
+use Rattle.crs_instance.specs.Followed.{Follows}
 
 -- a store, as contracts see it
 pub record StoreState : Type 0 where
@@ -18,6 +19,7 @@ pub record StoreState : Type 0 where
   pub number : ℕ
   pub focus : Bool
   pub held : List InstanceState
+  pub date : ℕ
   pub stopped : Bool
 
 -- the partial assignments of instances
@@ -27,20 +29,22 @@ parts is = map (λ i. i.partial) is
 abbrev pub AllOf : Plan → List InstanceState → Type 0
 AllOf plan is = AllByRecursion (IsOf plan) is
 
--- a store of a proper plan without windows and without focus, and instances of the plan
+-- a store of a proper plan without focus, and instances of the plan, judged last at a date up to 2^42
 pub record IsStore (s : StoreState) : Type 0 where
   pub proper : IsProper s.plan
-  pub windowless : (chronicle s.plan).windows ≡ []
   pub unfocused : s.focus ≡ false
   pub instances : AllOf s.plan s.held
+  pub early : s.date ≤ 2 ^ 42
 
 -- the level of each event of the plan, as the store reads it
 abbrev pub levels_of : StoreState → ℕ → ℕ
 levels_of s = level_in (chronicle s.plan).events s.focus
 
--- what is held is exactly what can still be recognised and wasn't
-abbrev pub Stands : StoreState → List (Entry Sym) → List (Entry Sym) → List (Entry Sym) → ℕ → ℕ → Type 0
-Stands s was pool entries d g = StandsFor (chronicle s.plan) (levels_of s) (parts s.held) was pool entries d g
+-- What is held is exactly what can still be recognised and wasn't, with the progress of its windows, and was judged last at d.
+pub record Stands (s : StoreState) (was pool entries : List (Entry Sym)) (d g : ℕ) : Type 0 where
+  pub stands : StandsFor (chronicle s.plan) (levels_of s) (parts s.held) was pool entries d g
+  pub follows : AllByRecursion (Follows s.plan entries d) s.held
+  pub judged : s.date ≡ d
 
 -- the plan, the number and the focus stay
 pub record IsSameStore (old new : StoreState) : Type 0 where
@@ -48,9 +52,9 @@ pub record IsSameStore (old new : StoreState) : Type 0 where
   pub number : new.number ≡ old.number
   pub focus : new.focus ≡ old.focus
 
--- After x was offered, whose arrival number is new, whose date isn't before d, and which the history has as its last. The pool is what is settled, and g is the horizon of the last mark.
+-- After x was offered, whose arrival number is new, whose date isn't before d, and which the history has as its last. The pool is what is settled, which are fewer than 2^32, and g is the horizon of the last mark.
 abbrev pub IsOffered : StoreState → HistoryState → Entry Sym → StoreState → Type 0
 IsOffered old history x new =
     (was settled : List (Entry Sym)) (d g : ℕ) → Stands old was settled settled d g →
-    HistoryStandsFor (settled ++ x ∷ []) history → IsFarBack old.plan.reach g history.floor → IsFresh settled x → d ≤ x.date →
+    HistoryStandsFor (settled ++ x ∷ []) history → IsFarBack old.plan.reach g history.floor → length (settled ++ x ∷ []) < 2 ^ 32 → IsFresh settled x → d ≤ x.date →
     Stands new was (settled ++ x ∷ []) (settled ++ x ∷ []) x.date g

@@ -7,6 +7,7 @@ mod recognising;
 mod refused;
 mod staying;
 mod store;
+mod windows;
 
 pub use refused::StoreRefused;
 pub use store::Store;

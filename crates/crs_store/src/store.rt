@@ -2,20 +2,18 @@ ghost use Rattle.std.specs.Prelude.{◌≡◌, ◌+◌, ◌*◌, ◌<◌, ◌≤
 ghost use Rattle.std.specs.Option.{option_copied};
 ghost use Rattle.crs_base.specs.Seen.{entry_of};
 ghost use Rattle.crs_history.specs.Histories.{EndsWith};
-ghost use Rattle.crs_model.specs.Plans.{chronicle, IsProper};
-ghost use Rattle.crs_model.specs.Images.{IsImage};
-ghost use Rattle.crs_model.specs.Steps.{GoesOnWith};
+ghost use Rattle.crs_model.specs.Plans.{IsProper};
 ghost use Rattle.crs_instance.specs.Instances.{IsOf};
-ghost use Rattle.crs_store.specs.Stores.{parts, AllOf, Stands, IsStore, IsSameStore, IsOffered};
-ghost use Rattle.crs_store.specs.Sweeps.{IsFine, IsReady};
-ghost use Rattle.crs_store.specs.Answers.{IsAdvanced, AreFoundInOrder};
+ghost use Rattle.crs_store.specs.Stores.{AllOf, Stands, IsStore, IsSameStore, IsOffered};
+ghost use Rattle.crs_store.specs.Sweeps.{TakesIn};
+ghost use Rattle.crs_store.specs.Answers.{IsAdvanced, AreFoundInOrder, MovesOn};
 ghost use Rattle.crs_store.specs.declared.refused.StoreRefused.TheVariants.{Stopped, Memory};
 
 use crate::forks::all_forks;
 use crate::order::put_in_order;
 use crate::recognising::recognitions;
 use crate::refused::StoreRefused;
-use crate::staying::{keep_able, keep_waiting};
+use crate::staying::{follow_all, keep_able, keep_waiting, pass_all};
 use crs_base::{Entry, List, Steps};
 use crs_history::History;
 use crs_instance::Instance;
@@ -32,6 +30,7 @@ pub struct Store {
     number: u32,
     focus: bool,
     held: Vec<Instance>,
+    date: u64,
     stopped: bool,
     alloc: Global,
 }
@@ -41,9 +40,9 @@ impl Model for Store {
 
     ghost Value = { StoreState };
 
-    ghost view = { λ s. record { plan = s.plan.value; number = s.number; focus = s.focus; held = s.held.items; stopped = s.stopped } };
+    ghost view = { λ s. record { plan = s.plan.value; number = s.number; focus = s.focus; held = s.held.items; date = s.date; stopped = s.stopped } };
 
-    ghost invariant = { λ s. IsStore (record { plan = s.plan.value; number = s.number; focus = s.focus; held = s.held.items; stopped = s.stopped }) };
+    ghost invariant = { λ s. IsStore (record { plan = s.plan.value; number = s.number; focus = s.focus; held = s.held.items; date = s.date; stopped = s.stopped }) };
 }
 
 /// Adds what comes of the instances by the entry, and drops those that it makes hopeless.
@@ -51,35 +50,67 @@ fn take_in<L: Ledger>(
     alloc: Global,
     plan: &Plan,
     held: &mut Vec<Instance>,
+    history: &History,
+    since: u64,
     entry: &Rc<Entry>,
     steps: &mut Steps<L>,
 ) -> Result<(), AllocError>
     requires proper { IsProper plan.now }
     requires of { AllOf plan.now held.old.items }
+    requires since { since ≤ 2 ^ 42 }
     requires date { entry.now.value.date < 2 ^ 40 }
     ensures of { AllOf plan.now held.new.items }
-    ensures image { OnOk result (IsReady (entry_of entry.now.value) (parts held.old.items) → IsImage (GoesOnWith (IsFine plan.now entry.now.value.date) (entry_of entry.now.value)) (parts held.old.items) (parts held.new.items)) }
+    ensures taken { OnOk result (TakesIn plan.now history.now (entry_of entry.now.value) since held.old.items held.new.items) }
     ensures cost { steps.new ≤ steps.old + 2 * length plan.now.chronicle.events * length held.old.items }
 {
-    let mut more = all_forks(alloc, plan, held.as_slice(), entry, steps)?;
-    keep_able(held, entry.date);
+    follow_all(plan, held, entry, history, since);
+    let mut more = all_forks(alloc, plan, held.as_slice(), history, entry, steps)?;
+    keep_able(plan, held, entry.date);
     held.append(&mut more)?;
     Ok(())
 }
 
-/// The recognitions of the whole instances, in order.
+/// The recognitions of the instances that are whole with each window met at `h`, in order.
 fn answer(
     alloc: Global,
+    plan: &Plan,
     held: &[Instance],
+    h: u64,
     number: u32,
     mark: Mark,
 ) -> Result<List<Recognition>, AllocError>
-    ensures { IfOk result (AreFoundInOrder number mark held.now) }
+    requires proper { IsProper plan.now }
+    requires small { h ≤ 2 ^ 42 }
+    ensures { IfOk result (AreFoundInOrder plan.now h number mark held.now) }
 {
-    let mut found = recognitions(alloc, held, number, mark)?;
+    let mut found = recognitions(alloc, plan, held, h, number, mark)?;
     put_in_order(&mut found);
     let listed = list_of(alloc, found)?;
     Ok(listed)
+}
+
+/// Moves the instances on to `h`: answers the recognitions, and keeps those that can wait.
+fn move_on(
+    alloc: Global,
+    plan: &Plan,
+    held: &mut Vec<Instance>,
+    history: &History,
+    since: u64,
+    h: u64,
+    number: u32,
+    mark: Mark,
+) -> Result<List<Recognition>, AllocError>
+    requires proper { IsProper plan.now }
+    requires of { AllOf plan.now held.old.items }
+    requires since { since ≤ 2 ^ 42 }
+    requires small { h ≤ 2 ^ 42 }
+    ensures of { AllOf plan.now held.new.items }
+    ensures moved { IfOk result (MovesOn plan.now history.now since h number mark held.old.items held.new.items) }
+{
+    pass_all(plan, held, history, since, h);
+    let found = answer(alloc, plan, held.as_slice(), h, number, mark)?;
+    keep_waiting(plan, held, h);
+    Ok(found)
 }
 
 /// The same items in order.
@@ -99,7 +130,6 @@ impl Store {
     pub fn new(alloc: Global, plan: Rc<Plan>, number: u32, focus: bool) -> Result<Store, AllocError>
         requires unfocused { focus ≡ false }
         requires proper { IsProper plan.value }
-        requires windowless { (chronicle plan.value).windows ≡ [] }
         ensures plan { IfOk result (λ s. s.plan ≡ plan.value) }
         ensures number { IfOk result (λ s. s.number ≡ number) }
         ensures running { IfOk result (λ s. s.stopped ≡ false) }
@@ -112,6 +142,7 @@ impl Store {
             number,
             focus,
             held,
+            date: 0,
             stopped: false,
             alloc,
         })
@@ -136,8 +167,19 @@ impl Store {
         if self.stopped {
             return Err(StoreRefused::Stopped);
         }
-        match take_in(self.alloc, &self.plan, &mut self.held, entry, steps) {
-            Ok(()) => Ok(()),
+        match take_in(
+            self.alloc,
+            &self.plan,
+            &mut self.held,
+            history,
+            self.date,
+            entry,
+            steps,
+        ) {
+            Ok(()) => {
+                self.date = entry.date;
+                Ok(())
+            }
             Err(_) => {
                 self.stopped = true;
                 Err(StoreRefused::Memory)
@@ -162,9 +204,18 @@ impl Store {
         if self.stopped {
             return Err(StoreRefused::Stopped);
         }
-        match answer(self.alloc, self.held.as_slice(), self.number, mark) {
+        match move_on(
+            self.alloc,
+            &self.plan,
+            &mut self.held,
+            history,
+            self.date,
+            h,
+            self.number,
+            mark,
+        ) {
             Ok(found) => {
-                keep_waiting(&mut self.held, h);
+                self.date = h;
                 Ok(found)
             }
             Err(_) => {

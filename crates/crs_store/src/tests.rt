@@ -1,5 +1,5 @@
 ghost use Rattle.std.specs.Prelude.{◌≡◌, ◌<◌, ◌^◌, [], None, IfOk};
-ghost use Rattle.crs_model.specs.Plans.{chronicle, IsProper};
+ghost use Rattle.crs_model.specs.Plans.{IsProper};
 ghost use Rattle.crs_instance.specs.Fixtures.{IsPlain, IsFixture, spaced};
 
 use crate::{Store, StoreRefused};
@@ -68,8 +68,7 @@ fn one_then_other(alloc: Global, one: u32, other: u32, least: u8) -> Result<Chro
 }
 
 fn plan(alloc: Global, one: u32, other: u32, least: u8) -> Result<Rc<Plan>, AllocError>
-    ensures proper { IfOk result (λ r. IsProper r.value) }
-    ensures windowless { IfOk result (λ r. (chronicle r.value).windows ≡ []) }
+    ensures { IfOk result (λ r. IsProper r.value) }
 {
     let chronicle = one_then_other(alloc, one, other, least)?;
     match Network::close(alloc, 2, chronicle.bounds.as_slice()) {

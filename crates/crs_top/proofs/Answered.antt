@@ -47,7 +47,7 @@ module _ (texts : List (List ℕ)) (distinct : AreDistinct texts) where
   bound_by (x ∷ values) h = (h.0, bound_by values h.1)
 
   stars_of : (p : Plan) → IsProper p → AllByRecursion (λ w. HasNoStar w.body) (chronicle p).windows
-  stars_of p proper = no_stars proper.declared.0 (chronicle p) (chronicle p).windows proper.declared.1.windows
+  stars_of p proper = no_stars proper.declared.0 (chronicle p) (chronicle p).windows proper.declared.2.windows
 
   module _ (p : Plan) (proper : IsProper p) (of : IsChronicleOf (HasText texts) (chronicle p)) where
     -- a recognition of known entries can be printed

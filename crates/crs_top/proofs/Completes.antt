@@ -7,7 +7,7 @@ use Rattle.crs_model.specs.Models.{Chronicle, Models}
 use Rattle.crs_model.specs.declared.models.ModelWord.{ModelWord}
 use Rattle.crs_top.specs.declared.status.Status.{Status}
 use Rattle.crs_top.specs.declared.status.Status.TheVariants.{Done, Refusals, Words, Rejected, ReadFault, WriteFault, Memory, TooLong}
-use Rattle.crs_top.specs.Models.{AreModelsIn, IsAccepted, IsFaulty, IsRejected, ClosesInconsistent, ClosesWindowed}
+use Rattle.crs_top.specs.Models.{AreModelsIn, IsAccepted, IsFaulty, ClosesInconsistent}
 use Rattle.crs_top.specs.Inputs.{bytes_of}
 use Rattle.crs_top.specs.Logs.{Tail}
 use Rattle.crs_top.specs.Run.{Most, Runs, Completes}
@@ -23,11 +23,6 @@ none_inconsistent [] line h k = k
 none_inconsistent (c ∷ cs) line h (inl k) = k.0 h.0
 none_inconsistent (c ∷ cs) line h (inr k) = none_inconsistent cs line h.1 k.1
 
-none_windowed : (cs : List (Chronicle (List ℕ))) (line : ℕ) → AllByRecursion (λ c. c.windows ≡ []) cs → ClosesWindowed cs line → ⊥
-none_windowed [] line h k = k
-none_windowed (c ∷ cs) line h (inl k) = k.0 h.0
-none_windowed (c ∷ cs) line h (inr k) = none_windowed cs line h.1 k.1
-
 -- a text that breaks no rule of models has no fault
 pub not_faulty : (symbols : ℕ) (text : List ℕ) (m : Models (List ℕ)) (line : ℕ) (word : ModelWord) → AreModelsIn symbols text m → IsFaulty symbols text line word → ⊥
 not_faulty symbols text m line word a (inl e) = let k = sym a.read ∙ e in cc
@@ -36,11 +31,8 @@ not_faulty symbols text m line word a (inr h) =
     none_inconsistent h.0.chronicles line (subst (AllByRecursion (λ c. IsConsistent c.bounds)) (ap (λ (p : Models (List ℕ) × List (List ℕ)). p.0.chronicles) pair) a.consistent) h.4
 
 -- a text that is accepted isn't refused
-pub not_both : (symbols entries : ℕ) (text : List ℕ) (f : Frame) (line : ℕ) (word : ModelWord) → IsAccepted symbols entries text f → IsRejected symbols text line word → ⊥
-not_both symbols entries text f line word a (inl h) = not_faulty symbols text f.models line word (record { texts = f.texts; read = a.read; consistent = a.consistent }) h
-not_both symbols entries text f line word a (inr h) =
-    let pair : (f.models, f.texts) ≡ (h.0, h.1) = (let r = a.read in let e = h.2 in cc) in
-    none_windowed h.0.chronicles line (subst (AllByRecursion (λ c. c.windows ≡ [])) (ap (λ (p : Models (List ℕ) × List (List ℕ)). p.0.chronicles) pair) a.windowless) h.5
+pub not_both : (symbols entries : ℕ) (text : List ℕ) (f : Frame) (line : ℕ) (word : ModelWord) → IsAccepted symbols entries text f → IsFaulty symbols text line word → ⊥
+not_both symbols entries text f line word a = not_faulty symbols text f.models line word (record { texts = f.texts; read = a.read; consistent = a.consistent })
 
 module _ (base now : ℕ) (tail : Tail) (most : Most) (old new : Told) (models log : List ℕ) (fault : Type 0) where
   abbrev Text : List ℕ

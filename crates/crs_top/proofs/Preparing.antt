@@ -1,24 +1,21 @@
 -- What a text that is accepted prepares.
 use Rattle.std.proofs.Common.{◌≡◌, ◌∙◌, ap, sym, refl, subst, inl, inr, ℕ, ◌≤◌, List, [], ◌∷◌, map, length, Ok, arith, false}
-use Rattle.std.specs.Prelude.{Some, None}
 use Rattle.std.specs.List.{AllByRecursion}
 use Rattle.std.specs.declared.rc.Rc.{Rc}
 use Rattle.std.proofs.Common.{Global}
 use Rattle.std.proofs.lemmas.List.{length-map}
-use Rattle.crs_base.specs.declared.symbols.Sym.{Sym}
 use Rattle.crs_base.specs.Symbols.{Table}
 use Rattle.crs_stn.specs.Bound.{IsConsistent}
 use Rattle.crs_model.specs.declared.chronicle.Chronicle.{Chronicle as CodeChronicle}
 use Rattle.crs_model.specs.declared.models.Models.{Models as CodeModels}
 use Rattle.crs_model.specs.declared.models.Name.{Name as CodeName}
-use Rattle.crs_model.specs.declared.models.ModelWord.TheVariants.{Form}
 use Rattle.crs_model.specs.declared.models.ModelRefused.{ModelRefused}
 use Rattle.crs_model.specs.declared.models.ModelRefused.TheVariants.{At, Memory}
 use Rattle.crs_model.specs.declared.plan.Plan.{Plan}
 use Rattle.crs_model.specs.declared.plan.Plans.{Plans}
-use Rattle.crs_model.specs.Models.{Chronicle, Window, Name}
+use Rattle.crs_model.specs.Models.{Chronicle, Name}
 use Rattle.crs_model.specs.Plans.{chronicle, IsProper}
-use Rattle.crs_model.specs.Renaming.{text_in, renamed_chronicle, renamed_window, renamed_name, renamed_models, IsChronicleOf}
+use Rattle.crs_model.specs.Renaming.{text_in, renamed_chronicle, renamed_name, renamed_models, IsChronicleOf}
 use Rattle.crs_model.specs.Seen.{chronicle_of, name_of, models_of}
 use Rattle.crs_log.specs.Run.{at_start}
 use Rattle.crs_log.specs.SeenNames.{name_seen, AreNamesIn}
@@ -26,8 +23,8 @@ use Rattle.crs_parse.specs.Meant.{models_read}
 use Rattle.crs_compile.specs.Compiled.{chronicles_in, ClosesFirst, IsRefusal}
 use Rattle.crs_engine.specs.Engines.{EngineState, StandsFor, plans_of}
 use Rattle.crs_top.specs.Session.{HasText, chronicle_in, HasModels, Represents}
-use Rattle.crs_top.specs.Models.{IsAccepted, IsRejected, ClosesInconsistent, ClosesWindowed}
-use Rattle.crs_top.specs.Prepared.{AreReadIn, IsRefusedText, FirstWindowed}
+use Rattle.crs_top.specs.Models.{IsAccepted, ClosesInconsistent}
+use Rattle.crs_top.specs.Prepared.{AreReadIn}
 use Rattle.crs_top.specs.Listings.{IsFaultyText}
 use Rattle.crs_parse.specs.Steps.{HaltsWith}
 use Rattle.crs_top.specs.Texts.{Frame}
@@ -38,28 +35,10 @@ closes_inconsistent texts [] line h = h
 closes_inconsistent texts (c ∷ cs) line (inl h) = inl h
 closes_inconsistent texts (c ∷ cs) line (inr h) = inr (h.0, closes_inconsistent texts cs line h.1)
 
-renamed_none : (texts : List (List ℕ)) (ws : List (Window Sym)) → map (renamed_window (text_in texts)) ws ≡ [] → ws ≡ []
-renamed_none texts [] e = refl
-renamed_none texts (w ∷ ws) e = cc
-
-closes_windowed : (texts : List (List ℕ)) (ps : List Plan) (line : ℕ) → FirstWindowed ps (Some line) → ClosesWindowed (map (chronicle_in texts) ps) line
-closes_windowed texts [] line h = h
-closes_windowed texts (p ∷ ps) line (inl h) = inl ((λ e. h.0 (renamed_none texts (chronicle p).windows e)), h.1)
-closes_windowed texts (p ∷ ps) line (inr h) = inr (ap (map (renamed_window (text_in texts))) h.0, closes_windowed texts ps line h.1)
-
-none_windowed : (ps : List Plan) → FirstWindowed ps None → AllByRecursion (λ p. (chronicle p).windows ≡ []) ps
-none_windowed [] h = tt
-none_windowed (p ∷ ps) h = (h.0, none_windowed ps h.1)
-
 pub compile_faulty : (symbols : ℕ) (text : List ℕ) (m : CodeModels) (texts : List (List ℕ)) → models_read symbols [] text ≡ Ok (renamed_models (text_in texts) (models_of m), texts) → (e : ModelRefused) → IsRefusal m.chronicles e
     → IsFaultyText symbols text e
 compile_faulty symbols text m texts read (At line word) h = inr (renamed_models (text_in texts) (models_of m), texts, read, h.0, closes_inconsistent texts m.chronicles line h.1)
 compile_faulty symbols text m texts read Memory h = tt
-
--- what breaks a rule of models is refused by a run
-pub faulty_is_refused : (symbols : ℕ) (text : List ℕ) (e : ModelRefused) → IsFaultyText symbols text e → IsRefusedText symbols text e
-faulty_is_refused symbols text (At line word) h = inl h
-faulty_is_refused symbols text Memory h = tt
 
 -- a text with a fault
 pub read_faulty : (symbols : ℕ) (text : List ℕ) (e : ModelRefused) → HaltsWith e (models_read symbols [] text) → IsFaultyText symbols text e
@@ -93,10 +72,6 @@ pub consistent_models : (texts : List (List ℕ)) (m : CodeModels) (plans : List
 consistent_models texts m plans e made =
     subst (λ (cs : List CodeChronicle). AllByRecursion (λ c. IsConsistent c.bounds) (map (renamed_chronicle (text_in texts)) (map chronicle_of cs))) e (subst (AllByRecursion (λ c. IsConsistent c.bounds)) (chronicles_by texts (map (λ r. r.value) plans)) (consistent_by texts (map (λ r. r.value) plans) made))
 
-windowless_by : (texts : List (List ℕ)) (ps : List Plan) → AllByRecursion (λ p. (chronicle p).windows ≡ []) ps → AllByRecursion (λ c. c.windows ≡ []) (map (chronicle_in texts) ps)
-windowless_by texts [] h = tt
-windowless_by texts (p ∷ ps) h = (ap (map (renamed_window (text_in texts))) h.0, windowless_by texts ps h.1)
-
 pub by_value : (F : Plan → Type 0) (rs : List (Rc Plan Global)) → AllByRecursion F (map (λ r. r.value) rs) → AllByRecursion (λ r. F r.value) rs
 by_value F [] h = tt
 by_value F (r ∷ rs) h = (h.0, by_value F rs h.1)
@@ -120,55 +95,43 @@ module _ (symbols entries : ℕ) (text : List ℕ) (m : CodeModels) (table : Tab
       let a : length (chronicles_in plans.plans) ≡ length m.chronicles = ap length chronicles in
       omega (arith, a, length-map (plans_of plans) (λ (p : Plan). p.chronicle), length-map plans.plans (λ r. r.value), length-map m.chronicles chronicle_of, is.proper.chronicles_few)
 
-  -- a chronicle has a window
-  pub rejected_windowed : (line : ℕ) → FirstWindowed (plans_of plans) (Some line) → IsRejected symbols text line Form
-  rejected_windowed line h = inr (frame.models, table.texts, is.read, consistent, refl, subst (λ (cs : List (Chronicle (List ℕ))). ClosesWindowed cs line) (sym chronicles_are) (closes_windowed table.texts (plans_of plans) line h))
+  pub accepted : IsAccepted symbols entries text frame
+  accepted = record {
+    read = is.read;
+    consistent = consistent;
+    symbols_are = refl;
+    entries_are = refl;
+  }
 
-  module _ (none : FirstWindowed (plans_of plans) None) where
-    windowless : AllByRecursion (λ p. (chronicle p).windows ≡ []) (plans_of plans)
-    windowless = none_windowed (plans_of plans) none
+  has_models : HasModels frame plans table
+  has_models = record {
+    proper = made;
+    names = names_by table.texts m.names ∙ ap (map (name_seen table.texts)) (sym names);
+    names_in = subst (AreNamesIn table.texts) (sym names) is.numbered.names;
+    names_few = let a : length plans.names ≡ length m.names = ap length names in omega (arith, a, length-map m.names name_of, is.proper.names_few);
+    arities = subst (AllByRecursion (λ n. n.arity ≤ 8)) (sym names) (arities_by m.names is.proper.arities);
+    chronicles = chronicles_are;
+    chronicles_in = known_by table.texts (plans_of plans) (subst (λ (cs : List CodeChronicle). AllByRecursion (IsChronicleOf (HasText table.texts)) (map chronicle_of cs)) (sym chronicles) is.numbered.chronicles);
+    distinct = is.distinct;
+    limit = is.limit;
+  }
 
-    pub plans_windowless : AllByRecursion (λ p. (chronicle p).windows ≡ []) (plans_of plans)
-    plans_windowless = windowless
-
-    pub accepted : IsAccepted symbols entries text frame
-    accepted = record {
-      read = is.read;
-      consistent = consistent;
-      windowless = subst (AllByRecursion (λ c. c.windows ≡ [])) (sym chronicles_are) (windowless_by table.texts (plans_of plans) windowless);
-      symbols_are = refl;
-      entries_are = refl;
-    }
-
-    has_models : HasModels frame plans table
-    has_models = record {
-      proper = made;
-      names = names_by table.texts m.names ∙ ap (map (name_seen table.texts)) (sym names);
-      names_in = subst (AreNamesIn table.texts) (sym names) is.numbered.names;
-      names_few = let a : length plans.names ≡ length m.names = ap length names in omega (arith, a, length-map m.names name_of, is.proper.names_few);
-      arities = subst (AllByRecursion (λ n. n.arity ≤ 8)) (sym names) (arities_by m.names is.proper.arities);
-      chronicles = chronicles_are;
-      chronicles_in = known_by table.texts (plans_of plans) (subst (λ (cs : List CodeChronicle). AllByRecursion (IsChronicleOf (HasText table.texts)) (map chronicle_of cs)) (sym chronicles) is.numbered.chronicles);
-      distinct = is.distinct;
-      limit = is.limit;
-    }
-
-    -- the session at the start
-    pub represented : (e : EngineState) → e.plans ≡ plans → e.delay ≡ 0 → e.last ≡ 0 → e.horizon ≡ 0 → e.accepted ≡ 0 → e.limit ≡ entries → e.stopped ≡ false → StandsFor e [] []
-        → Represents frame (record { engine = e; symbols = table; entries = entries; met = false; ended = false; refused = false }) (at_start table.texts)
-    represented e p delay last horizon count most running stands = record {
-      models = subst (λ (q : Plans). HasModels frame q table) (sym p) has_models;
-      entries = record { settled = []; waiting = []; stands = stands; members = record { there = λ x i. absurd i; back = λ x i. absurd i }; known = tt; distinct = tt; below = tt };
-      reached = record { fresh = λ _. (refl, refl, refl); open_horizon = λ _. omega arith; open_last = λ _. omega arith };
-      running = running;
-      texts = refl;
-      delay = sym delay;
-      last = sym last;
-      horizon = sym horizon;
-      count = sym count;
-      most = most;
-      few = omega arith;
-      most_here = refl;
-      met = refl;
-      ended = refl;
-    }
+  -- the session at the start
+  pub represented : (e : EngineState) → e.plans ≡ plans → e.delay ≡ 0 → e.last ≡ 0 → e.horizon ≡ 0 → e.accepted ≡ 0 → e.limit ≡ entries → e.stopped ≡ false → StandsFor e [] []
+      → Represents frame (record { engine = e; symbols = table; entries = entries; met = false; ended = false; refused = false }) (at_start table.texts)
+  represented e p delay last horizon count most running stands = record {
+    models = subst (λ (q : Plans). HasModels frame q table) (sym p) has_models;
+    entries = record { settled = []; waiting = []; stands = stands; members = record { there = λ x i. absurd i; back = λ x i. absurd i }; known = tt; distinct = tt; below = tt };
+    reached = record { fresh = λ _. (refl, refl, refl); open_horizon = λ _. omega arith; open_last = λ _. omega arith };
+    running = running;
+    texts = refl;
+    delay = sym delay;
+    last = sym last;
+    horizon = sym horizon;
+    count = sym count;
+    most = most;
+    few = omega arith;
+    most_here = refl;
+    met = refl;
+    ended = refl;
+  }

@@ -9,13 +9,13 @@ use Rattle.crs_top.specs.declared.status.Status.TheVariants.{Done, Refusals, Wor
 use Rattle.crs_top.specs.Inputs.{bytes_of, after}
 use Rattle.crs_top.specs.Loads.{IsModelLine, LoadOutcome, EndsWithInput, Loaded}
 use Rattle.crs_top.specs.Logs.{Tail, LogOutcome}
-use Rattle.crs_top.specs.Models.{IsAccepted, IsRejected}
+use Rattle.crs_top.specs.Models.{IsAccepted, IsFaulty}
 use Rattle.crs_top.specs.Run.{Most, Outcome, Runs, FollowOutcome, Followed}
 use Rattle.crs_top.specs.Texts.{Frame}
 use Rattle.crs_top.proofs.Loads.{nothing_read_of}
 
 -- a run that ended with the models printed nothing
-ended_outcome : (tail : Tail) (most : Most) (models log : List ℕ) (n i k : ℕ) (old : List ℕ) (status : Status) (new : List ℕ) → n ≤ 1 → LoadOutcome (2 ^ 20) (λ text. ⊥) (IsModelLine (IsRejected most.symbols models)) models n k old status new
+ended_outcome : (tail : Tail) (most : Most) (models log : List ℕ) (n i k : ℕ) (old : List ℕ) (status : Status) (new : List ℕ) → n ≤ 1 → LoadOutcome (2 ^ 20) (λ text. ⊥) (IsModelLine (IsFaulty most.symbols models)) models n k old status new
     → Outcome tail most models log n i k 0 old status new
 ended_outcome tail most models log n i k old Done new le h = absurd h.2.1
 ended_outcome tail most models log n i k old Refusals new le h = absurd h
@@ -41,7 +41,7 @@ ended_outcome tail most models log n i k old Memory new le (inr h) = inr (inr (
 ))
 ended_outcome tail most models log n i k old TooLong new le h = absurd h
 
-pub run_ended : (base now : ℕ) (tail : Tail) (most : Most) (old new : Told) (models log : List ℕ) (status : Status) → EndsWithInput base now (2 ^ 20) (λ text. ⊥) (IsModelLine (IsRejected most.symbols (bytes_of old models))) old models status new
+pub run_ended : (base now : ℕ) (tail : Tail) (most : Most) (old new : Told) (models log : List ℕ) (status : Status) → EndsWithInput base now (2 ^ 20) (λ text. ⊥) (IsModelLine (IsFaulty most.symbols (bytes_of old models))) old models status new
     → Runs base now tail most old models log status new
 run_ended base now tail most old new models log status h =
     let d = h.4.did in (

@@ -1,5 +1,5 @@
 -- A call that does nothing for want of memory.
-use Rattle.std.proofs.Common.{◌≡◌, ◌⊎◌, refl, sym, inl, inr, ℕ, ◌+◌, ◌<◌, ◌^◌, List, [], arith, append-nil}
+use Rattle.std.proofs.Common.{refl, sym, inr, ℕ, ◌+◌, ◌<◌, ◌^◌, List, [], arith, append-nil}
 use Rattle.std.specs.Prelude.{Option, Some, None}
 use Rattle.crs_desk.specs.Desk.{Told}
 use Rattle.crs_words.specs.Commands.{Command, Run, Print, Import}
@@ -10,7 +10,7 @@ use Rattle.crs_top.specs.Inputs.{bytes_of}
 use Rattle.crs_top.specs.Listings.{IsListed}
 use Rattle.crs_top.specs.Loads.{Loaded, IsModelLine}
 use Rattle.crs_top.specs.Logs.{no_tail}
-use Rattle.crs_top.specs.Models.{IsFaulty, IsRejected}
+use Rattle.crs_top.specs.Models.{IsFaulty}
 use Rattle.crs_top.specs.Run.{Most}
 use Rattle.crs_top.proofs.Loads.{nothing_read_of, ends_wanting}
 use Rattle.crs_top.proofs.Runs.{run_ended}
@@ -36,7 +36,7 @@ wants base most old None =
     (inr (inr refl, (0, record { files = refl; opened = refl; left = refl; turns = refl; within = omega arith; written = sym (append-nil old.written) })), refl)
 wants base most old (Some (Run models log)) =
     run_ended base base no_tail most old old models log Memory
-    (ends_wanting base base (2 ^ 20) (λ text. ⊥) (IsModelLine (IsRejected most.symbols (bytes_of old models))) old models
+    (ends_wanting base base (2 ^ 20) (λ text. ⊥) (IsModelLine (IsFaulty most.symbols (bytes_of old models))) old models
     0 0 0 [] old (none_loaded base (2 ^ 20) old models) (omega arith))
 wants base most old (Some (Import table)) =
     ends_wanting base base (2 ^ 26) (IsTableLog (bytes_of old table)) (IsTableLine (bytes_of old table)) old table

@@ -3,16 +3,15 @@ use Rattle.std.specs.Prelude.{◌≡◌, ◌⊎◌, ℕ, List, [], ◌∷◌, Ok
 use Rattle.std.specs.List.{AllByRecursion}
 use Rattle.crs_stn.specs.Bound.{IsConsistent}
 use Rattle.crs_model.specs.declared.models.ModelWord.{ModelWord}
-use Rattle.crs_model.specs.declared.models.ModelWord.TheVariants.{Form, Inconsistent}
+use Rattle.crs_model.specs.declared.models.ModelWord.TheVariants.{Inconsistent}
 use Rattle.crs_model.specs.Models.{Chronicle, Models}
 use Rattle.crs_parse.specs.Meant.{models_read}
 use Rattle.crs_top.specs.Texts.{Frame}
 
--- The text means the models of the frame: it has no fault, whole dates meet each chronicle's bounds, and no chronicle has a window.
+-- The text means the models of the frame: it has no fault, and whole dates meet each chronicle's bounds.
 pub record IsAccepted (symbols entries : ℕ) (text : List ℕ) (f : Frame) : Type 0 where
   pub read : models_read symbols [] text ≡ Ok (f.models, f.texts)
   pub consistent : AllByRecursion (λ c. IsConsistent c.bounds) f.models.chronicles
-  pub windowless : AllByRecursion (λ c. c.windows ≡ []) f.models.chronicles
   pub symbols_are : f.symbols ≡ symbols
   pub entries_are : f.entries ≡ entries
 
@@ -27,19 +26,8 @@ abbrev pub ClosesInconsistent : List (Chronicle (List ℕ)) → ℕ → Type 0
 ClosesInconsistent [] line = ⊥
 ClosesInconsistent (c ∷ cs) line = ((IsConsistent c.bounds → ⊥) × (line ≡ c.line)) ⊎ (IsConsistent c.bounds × ClosesInconsistent cs line)
 
--- the line closes the first chronicle that has a window
-abbrev pub ClosesWindowed : List (Chronicle (List ℕ)) → ℕ → Type 0
-ClosesWindowed [] line = ⊥
-ClosesWindowed (c ∷ cs) line = ((c.windows ≡ [] → ⊥) × (line ≡ c.line)) ⊎ ((c.windows ≡ []) × ClosesWindowed cs line)
-
 -- The text is refused at this line with this word by the rules of models: by its first fault; or, where it has none, by the first chronicle whose bounds can't be met.
 abbrev pub IsFaulty : ℕ → List ℕ → ℕ → ModelWord → Type 0
 IsFaulty symbols text line word =
     (models_read symbols [] text ≡ Err (line, word))
     ⊎ ((m : Models (List ℕ)) × (texts : List (List ℕ)) × (models_read symbols [] text ≡ Ok (m, texts)) × (word ≡ Inconsistent) × ClosesInconsistent m.chronicles line)
-
--- The text is refused by a run: by the rules of models; or, where it breaks none, by the first chronicle that has a window, which isn't served yet.
-abbrev pub IsRejected : ℕ → List ℕ → ℕ → ModelWord → Type 0
-IsRejected symbols text line word =
-    IsFaulty symbols text line word
-    ⊎ ((m : Models (List ℕ)) × (texts : List (List ℕ)) × (models_read symbols [] text ≡ Ok (m, texts)) × AllByRecursion (λ c. IsConsistent c.bounds) m.chronicles × (word ≡ Form) × ClosesWindowed m.chronicles line)

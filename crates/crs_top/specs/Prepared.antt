@@ -1,19 +1,15 @@
 -- What a models text prepares.
-use Rattle.std.specs.Prelude.{◌≡◌, ◌⊎◌, ℕ, false, List, [], ◌∷◌, Option, Some, None, Ok}
+use Rattle.std.specs.Prelude.{◌≡◌, ℕ, false, List, [], Ok}
 use Rattle.crs_base.specs.Symbols.{Table, AreDistinct}
 use Rattle.crs_log.specs.Run.{at_start}
 use Rattle.crs_model.specs.declared.models.Models.{Models as CodeModels}
-use Rattle.crs_model.specs.declared.models.ModelRefused.{ModelRefused}
-use Rattle.crs_model.specs.declared.models.ModelRefused.TheVariants.{At, Memory}
-use Rattle.crs_model.specs.declared.plan.Plan.{Plan}
-use Rattle.crs_model.specs.Plans.{chronicle}
 use Rattle.crs_model.specs.ProperModels.{AreProper}
 use Rattle.crs_model.specs.Renaming.{text_in, renamed_models, AreModelsOf}
 use Rattle.crs_model.specs.Seen.{models_of}
 use Rattle.crs_parse.specs.Meant.{models_read}
 use Rattle.crs_top.specs.declared.session.Session.{Session}
 use Rattle.crs_top.specs.Session.{HasText, Represents}
-use Rattle.crs_top.specs.Models.{IsAccepted, IsRejected}
+use Rattle.crs_top.specs.Models.{IsAccepted}
 use Rattle.crs_top.specs.Texts.{Frame}
 
 -- the models are what the text means, with the symbols of this table, which may hold `symbols` of them
@@ -30,15 +26,3 @@ pub record IsPrepared (symbols entries : ℕ) (text : List ℕ) (x : Session) : 
   pub accepted : IsAccepted symbols entries text frame
   pub represents : Represents frame x (at_start frame.texts)
   pub unrefused : x.refused ≡ false
-
--- the text is refused at the line with the word; want of memory has no cause
-abbrev pub IsRefusedText : ℕ → List ℕ → ModelRefused → Type 0
-IsRefusedText symbols text (At line word) = IsRejected symbols text line word
-IsRefusedText symbols text Memory = Unit {0}
-
--- the line closes the first plan's chronicle that has a window, or none has
-abbrev pub FirstWindowed : List Plan → Option ℕ → Type 0
-FirstWindowed [] None = Unit {0}
-FirstWindowed [] (Some line) = ⊥
-FirstWindowed (p ∷ ps) None = ((chronicle p).windows ≡ []) × FirstWindowed ps None
-FirstWindowed (p ∷ ps) (Some line) = (((chronicle p).windows ≡ [] → ⊥) × (line ≡ (chronicle p).line)) ⊎ (((chronicle p).windows ≡ []) × FirstWindowed ps (Some line))

@@ -9,7 +9,7 @@ use Rattle.crs_top.specs.declared.status.Status.TheVariants.{Done, Refusals, Wor
 use Rattle.crs_top.specs.Inputs.{bytes_of, after, Opened, IsRead}
 use Rattle.crs_top.specs.Loads.{AreTaken, IsModelLine}
 use Rattle.crs_top.specs.Logs.{Tail, IsEndedText, Appends, IsPrompt, IsCutShort, LogOutcome, AppendsFront}
-use Rattle.crs_top.specs.Models.{IsAccepted, IsRejected}
+use Rattle.crs_top.specs.Models.{IsAccepted, IsFaulty}
 use Rattle.crs_top.specs.Texts.{Frame, IsWholeText, some_refused}
 
 -- how much a call takes in: the distinct symbols, the accepted entries, the bytes of a log
@@ -39,7 +39,7 @@ Outcome tail most models log n i k t old Refusals new =
     (n ≡ 2) × (t ≡ length log) × (t < most.bytes)
     × WithModels most models k (λ f. Appends (IsEndedText tail f log) old new × (some_refused f log ≡ true))
 Outcome tail most models log n i k t old Words new = ⊥
-Outcome tail most models log n i k t old Rejected new = (n ≡ 1) × AreTaken (2 ^ 20) models k × Appends (IsModelLine (IsRejected most.symbols models)) old new
+Outcome tail most models log n i k t old Rejected new = (n ≡ 1) × AreTaken (2 ^ 20) models k × Appends (IsModelLine (IsFaulty most.symbols models)) old new
 Outcome tail most models log n i k t old ReadFault new =
     ((n < 2) × (new ≡ old))
     ⊎ ((n ≡ 2) × (i ≡ 2 → t < most.bytes) × WithModels most models k (λ f. Appends (IsWholeText f (take t log)) old new))
@@ -47,11 +47,11 @@ Outcome tail most models log n i k t old TooLong new =
     (n ≡ 2) × (t ≡ most.bytes) × WithModels most models k (λ f. Appends (IsWholeText f (take t log)) old new)
 Outcome tail most models log n i k t old WriteFault new =
     ((n ≡ 2) × WithModels most models k (λ f. IsCutShort tail f log t old new))
-    ⊎ ((n ≡ 1) × AreTaken (2 ^ 20) models k × AppendsFront (IsModelLine (IsRejected most.symbols models)) old new)
+    ⊎ ((n ≡ 1) × AreTaken (2 ^ 20) models k × AppendsFront (IsModelLine (IsFaulty most.symbols models)) old new)
 Outcome tail most models log n i k t old Memory new =
     (new ≡ old)
     ⊎ ((n ≡ 2) × WithModels most models k (λ f. IsCutShort tail f log t old new))
-    ⊎ ((n ≡ 1) × AreTaken (2 ^ 20) models k × AppendsFront (IsModelLine (IsRejected most.symbols models)) old new)
+    ⊎ ((n ≡ 1) × AreTaken (2 ^ 20) models k × AppendsFront (IsModelLine (IsFaulty most.symbols models)) old new)
 
 -- Of the two names n were handed to open, the log's only where the models are accepted, and i inputs were opened, all of these but where
 -- that was a read fault.
@@ -101,5 +101,5 @@ pub record Completes (most : Most) (old : Told) (models log : List ℕ) (fault :
   pub too_long : (f : Frame) → IsAccepted most.symbols most.entries (bytes_of old models) f → most.bytes ≤ length (bytes_of old log)
       → (fault → ⊥)
       → (status ≡ TooLong) ⊎ (status ≡ Memory)
-  pub refused : (line : ℕ) (word : ModelWord) → IsRejected most.symbols (bytes_of old models) line word → (fault → ⊥)
+  pub refused : (line : ℕ) (word : ModelWord) → IsFaulty most.symbols (bytes_of old models) line word → (fault → ⊥)
       → (status ≡ Rejected) ⊎ (status ≡ Memory)

@@ -11,7 +11,7 @@ use Rattle.crs_model.specs.Matching.{Binding, TermIs}
 use Rattle.crs_model.specs.HasProgress.{IsBroken, IsUnbroken, IsWholeFor, StartsWell, StartsIll}
 use Rattle.crs_model.proofs.Beginning.{same_attribute, hold_whole, hold_unlike, hold_changed}
 use Rattle.crs_history.specs.Looking.{HasValueOver}
-use Rattle.crs_model.specs.Ready.{NamesOne}
+use Rattle.crs_model.specs.ProperModels.{IsDefinite}
 use Rattle.crs_watch.specs.Begun.{Falls}
 use Rattle.crs_watch.proofs.Terms.{plain_one, plain_all, named, held_by}
 
@@ -39,7 +39,7 @@ module _ {S : Type 0} where
   pub first_value : (a : Attribute S) (entries : List (Entry S)) (v : S) (from until : ℤ) → until ≡ (from +ℤ pos 1) → HasValue a entries from v → HasValueOver a entries v from until
   first_value a entries v from until e h = λ t l m. subst (λ (z : ℤ). HasValue a entries z v) (at_first from t l (subst (λ (z : ℤ). t <ℤ z) e m)) h
 
-  module _ (look : Binding S) (name : S) (terms : List (Term S)) (value : Term S) (args : List S) (v : S) (has_args : AllZip (TermIs look) terms args) (has_value : TermIs look value v) (one : AllByRecursion NamesOne terms) (one_value : NamesOne value) (entries : List (Entry S)) where
+  module _ (look : Binding S) (name : S) (terms : List (Term S)) (value : Term S) (args : List S) (v : S) (has_args : AllZip (TermIs look) terms args) (has_value : TermIs look value v) (one : AllByRecursion IsDefinite terms) (one_value : IsDefinite value) (entries : List (Entry S)) where
     abbrev a : Attribute S
     a = named look name terms value args v has_args has_value
 

@@ -1,7 +1,7 @@
 -- The progress of a window at a later date.
-use Rattle.std.proofs.Common.{◌≡◌, ℕ, ◌≤◌, Bool, true, false, not, List, refl, sym, subst, inl, inr, arith}
+use Rattle.std.proofs.Common.{◌≡◌, ℕ, ◌≤◌, Bool, true, false, not, List, refl, sym, subst, inl, inr}
 use Rattle.std.specs.Prelude.{ℤ, pos, ◌≤ℤ◌, ◌<ℤ◌}
-use Rattle.std.proofs.lemmas.Int.{ints, by_lt_z}
+use Rattle.std.proofs.lemmas.Int.{by_lt_z}
 use Rattle.crs_base.specs.Entry.{Entry}
 use Rattle.crs_base.proofs.Deciding.{Tells}
 use Rattle.crs_model.specs.Models.{Body}

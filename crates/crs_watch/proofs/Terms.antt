@@ -9,7 +9,7 @@ use Rattle.crs_model.specs.Matching.{Binding, TermIs}
 use Rattle.crs_model.specs.Verdicts.{IsDatedIn, IsHeld}
 use Rattle.crs_model.specs.HasProgress.{Spares}
 use Rattle.crs_model.proofs.Beginning.{IsPlain, same_attribute}
-use Rattle.crs_model.specs.Ready.{NamesOne}
+use Rattle.crs_model.specs.ProperModels.{IsDefinite}
 
 pub each_at : {A B : Type 0} (P : B → Type 0) (f : A → B) (xs : List A) → AllByRecursion P (map f xs) → (k : ℕ) (d : A) → k < length xs → P (f (get_or xs k d))
 each_at P f [] h k d l = absurd (omega arith)
@@ -23,12 +23,12 @@ zip_from R f (x ∷ xs) [] e h = absurd (omega arith)
 zip_from R f (x ∷ xs) (y ∷ ys) e h = (h 0 x y (omega arith), zip_from R f xs ys (omega arith) (λ k d z l. h (suc k) d z (omega arith)))
 
 module _ {S : Type 0} where
-  pub plain_one : (t : Term S) → NamesOne t → IsPlain t
+  pub plain_one : (t : Term S) → IsDefinite t → IsPlain t
   plain_one (Value x) h = tt
   plain_one (Var v) h = tt
   plain_one Any h = absurd h
 
-  pub plain_all : (ts : List (Term S)) → AllByRecursion NamesOne ts → AllByRecursion IsPlain ts
+  pub plain_all : (ts : List (Term S)) → AllByRecursion IsDefinite ts → AllByRecursion IsPlain ts
   plain_all [] h = tt
   plain_all (t ∷ ts) h = (plain_one t h.0, plain_all ts h.1)
 
@@ -39,7 +39,7 @@ module _ {S : Type 0} where
     pub held_by : IsHeld look name terms value named v
     held_by = record { name_is = refl; args_are = has_args; value_is = has_value }
 
-    pub spared_by : (from to : ℤ) (x : Entry S) → AllByRecursion NamesOne terms → NamesOne value → (IsChange named x → IsDatedIn from to x → NewIs v x) → Spares look (Hold name terms value) from to x
+    pub spared_by : (from to : ℤ) (x : Entry S) → AllByRecursion IsDefinite terms → IsDefinite value → (IsChange named x → IsDatedIn from to x → NewIs v x) → Spares look (Hold name terms value) from to x
     spared_by from to x p q h a w is =
         let s = same_attribute look name terms value named a v w (plain_all terms p) (plain_one value q) held_by is in
         subst (λ (z : Attribute S). IsChange z x → IsDatedIn from to x → NewIs w x) s.0 (subst (λ (z : S). IsChange named x → IsDatedIn from to x → NewIs z x) s.1 h)

@@ -4,7 +4,7 @@ ghost use Rattle.crs_model.specs.Bindings.{look_of};
 ghost use Rattle.crs_model.specs.Matching.{TermIs};
 ghost use Rattle.crs_model.specs.Seen.{term_of};
 ghost use Rattle.crs_model.specs.Verdicts.{TermIsBound};
-ghost use Rattle.crs_model.specs.Ready.{NamesOne};
+ghost use Rattle.crs_model.specs.ProperModels.{IsDefinite};
 
 use crs_base::{Sym, SymList};
 use crs_model::{Binding, Term};
@@ -12,7 +12,7 @@ use crs_model::{Binding, Term};
 /// The symbol that a term names.
 pub(crate) fn value_of(term: Term, binding: &Binding) -> Sym
     requires bound { TermIsBound (look_of binding.now) (term_of term) }
-    requires one { NamesOne (term_of term) }
+    requires one { IsDefinite (term_of term) }
     ensures { TermIs (look_of binding.now) (term_of term) result }
 {
     match term {
@@ -29,7 +29,7 @@ pub(crate) fn value_of(term: Term, binding: &Binding) -> Sym
 pub(crate) fn args_of(terms: &[Term], binding: &Binding) -> SymList
     requires few { length terms.now ≤ 8 }
     requires bound { AllByRecursion (TermIsBound (look_of binding.now)) (map term_of terms.now) }
-    requires one { AllByRecursion NamesOne (map term_of terms.now) }
+    requires one { AllByRecursion IsDefinite (map term_of terms.now) }
     ensures { AllZip (TermIs (look_of binding.now)) (map term_of terms.now) result }
 {
     let mut all = [Sym(0); 8];

@@ -5,4 +5,4 @@ use Rattle.crs_store.proofs.Leaving.{leaves_by}
 use Rattle.crs_store.proofs.staying.keep_waiting.Goals as goal
 
 pub returns : goal.returns
-returns c = λ plan proper all. leaves_by _ (CanWait plan c.args.h) (IsOf plan) _ (λ x b g of k. search rules) _ _ all c.retain.ensures.filtered
+returns c = leaves_by _ (CanWait c.args.plan.now c.args.h) (IsOf c.args.plan.now) _ (λ x b g of k. search rules) _ _ c.requires.of c.retain.ensures.filtered

@@ -1,32 +1,21 @@
-use Rattle.std.proofs.Common.{◌≡◌, refl, []}
+use Rattle.std.proofs.Common.{refl}
 use Rattle.std.proofs.lemmas.Result.{err_from_is_err_and}
-use Rattle.crs_model.specs.Plans.{IsProper, chronicle}
-use Rattle.crs_top.proofs.Preparing.{by_value, compile_faulty, faulty_is_refused, plans_windowless, rejected_windowed, accepted, represented, frame}
+use Rattle.crs_model.specs.Plans.{IsProper}
+use Rattle.crs_top.proofs.Preparing.{by_value, compile_faulty, accepted, represented, frame}
 use Rattle.crs_top.proofs.models.prepare.Goals as goal
 
 pub returns-in_err-models-clause-refused : goal.returns-in_err-models-clause-refused
 returns-in_err-models-clause-refused c =
     let p = err_from_is_err_and c.from_residual.result c.from_residual.ensures.1 in
-    rw (p.1, p.2) (faulty_is_refused c.args.limits.symbols c.args.text.now c.in_err-models.field-0.0 c.in_err-models.ensures.refused)
+    rw (p.1, p.2) c.in_err-models.ensures.refused
 
 pub returns-in_err-plans-clause-refused : goal.returns-in_err-plans-clause-refused
 returns-in_err-plans-clause-refused c =
     let p = err_from_is_err_and c.from_residual-in_err-plans.result c.from_residual-in_err-plans.ensures.1 in
-    rw (p.1, p.2) (faulty_is_refused c.args.limits.symbols c.args.text.now c.in_err-plans.field-0.0 (compile_faulty c.args.limits.symbols c.args.text.now c.in_ok-models.models c.in_ok-models.symbols.texts c.in_ok-models.ensures.ok.read c.in_err-plans.field-0.0 c.in_err-plans.ensures.refused))
-
-pub returns-in-Some-clause-refused : goal.returns-in-Some-clause-refused
-returns-in-Some-clause-refused c =
-    let e = c.in_ok-plans.ensures in
-    rejected_windowed c.args.limits.symbols c.args.limits.entries c.args.text.now c.in_ok-models.models c.in_ok-models.symbols c.in_ok-plans.plans c.in_ok-models.ensures.ok e.names e.chronicles e.plans c.in-Some.line (rw c.as_slice.ensures at c.in-Some.ensures)
+    rw (p.1, p.2) (compile_faulty c.args.limits.symbols c.args.text.now c.in_ok-models.models c.in_ok-models.symbols.texts c.in_ok-models.ensures.ok.read c.in_err-plans.field-0.0 c.in_err-plans.ensures.refused)
 
 pub new-requires-clause-proper : goal.new-requires-clause-proper
 new-requires-clause-proper c = by_value IsProper c.in_ok-plans.plans.plans c.in_ok-plans.ensures.plans
-
-pub new-requires-clause-windowless : goal.new-requires-clause-windowless
-new-requires-clause-windowless c =
-    let e = c.in_ok-plans.ensures in
-    by_value (λ p. (chronicle p).windows ≡ []) c.in_ok-plans.plans.plans
-    (plans_windowless c.args.limits.symbols c.args.limits.entries c.args.text.now c.in_ok-models.models c.in_ok-models.symbols c.in_ok-plans.plans c.in_ok-models.ensures.ok e.names e.chronicles e.plans (rw (c.as_slice.ensures, c.in_default.is) at c.first_windowed.ensures))
 
 pub returns-clause-ok : goal.returns-clause-ok
 returns-clause-ok c =
@@ -35,12 +24,11 @@ returns-clause-ok c =
     let plans = c.in_ok-plans.plans in
     let r = c.in_ok-models.ensures.ok in
     let e = c.in_ok-plans.ensures in
-    let none = rw (c.as_slice.ensures, c.in_default.is) at c.first_windowed.ensures in
     let n = c.in_ok-engine.ensures in
     record {
       frame = frame c.args.limits.symbols c.args.limits.entries c.args.text.now m table plans r e.names e.chronicles e.plans;
-      accepted = accepted c.args.limits.symbols c.args.limits.entries c.args.text.now m table plans r e.names e.chronicles e.plans none;
+      accepted = accepted c.args.limits.symbols c.args.limits.entries c.args.text.now m table plans r e.names e.chronicles e.plans;
       represents =
-          represented c.args.limits.symbols c.args.limits.entries c.args.text.now m table plans r e.names e.chronicles e.plans none c.in_ok-engine.engine n.new.same_plans n.new.no_delay n.new.no_clock n.new.at_start n.new.none_accepted n.new.same_limit n.new.running n.stands;
+          represented c.args.limits.symbols c.args.limits.entries c.args.text.now m table plans r e.names e.chronicles e.plans c.in_ok-engine.engine n.new.same_plans n.new.no_delay n.new.no_clock n.new.at_start n.new.none_accepted n.new.same_limit n.new.running n.stands;
       unrefused = refl;
     }

@@ -7,7 +7,7 @@ use Rattle.crs_model.specs.Bindings.{look_of}
 use Rattle.crs_model.specs.Matching.{TermIs}
 use Rattle.crs_model.specs.Seen.{term_of}
 use Rattle.crs_model.specs.Verdicts.{TermIsBound}
-use Rattle.crs_model.specs.Ready.{NamesOne}
+use Rattle.crs_model.specs.ProperModels.{IsDefinite}
 use Rattle.crs_watch.proofs.Terms.{each_at, zip_from}
 use Rattle.crs_watch.proofs.naming.args_of.Goals as goal
 
@@ -15,7 +15,7 @@ pub value_of-requires-clause-bound : goal.value_of-requires-clause-bound
 value_of-requires-clause-bound c = each_at (TermIsBound (look_of c.args.binding.now)) term_of c.args.terms.now c.requires.bound c.loop-i.i _ c.loop-i-test.true
 
 pub value_of-requires-clause-one : goal.value_of-requires-clause-one
-value_of-requires-clause-one c = each_at NamesOne term_of c.args.terms.now c.requires.one c.loop-i.i _ c.loop-i-test.true
+value_of-requires-clause-one c = each_at IsDefinite term_of c.args.terms.now c.requires.one c.loop-i.i _ c.loop-i-test.true
 
 pub returns : goal.returns
 returns c =

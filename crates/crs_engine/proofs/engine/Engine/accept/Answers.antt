@@ -16,6 +16,7 @@ invariant_of-self c =
       waiting = subst (λ (t : List (Entry Sym)). AllByRecursion (IsWaiting (c.self.inside.accepted + 1)) t)
           (sym put)
           (waiting_more c.self.inside.accepted c.self.inside.buffer (entry_of c.args.entry) next c.requires.date c.self.invariant.waiting);
+      limited = c.self.invariant.limited;
       few = (let few = c.self.invariant.few in let not_full = c.if-self-2.false in omega arith);
       not_late = c.self.invariant.not_late;
       behind = c.self.invariant.behind;

@@ -6,9 +6,9 @@ use Rattle.crs_instance.proofs.instance.Instance.root.Goals as goal
 
 pub returns-clause-of : goal.returns-clause-of
 returns-clause-of c =
-    root_of c.args.plan.now c.requires (partial_of c.in_ok-entries.entries.items) c.new.result c.in_ok-windows.windows.items 0 0
-    (ap partial_of (c.in_ok-entries.ensures {u = tt}) ∙ map-none c.len-events.result ∙ ap (λ n. replicate n None) c.len-events.ensures)
-    (search rules) (search rules)
+    root_of c.args.plan.now c.requires (partial_of c.in_ok-entries.entries.items) c.new.result c.in_ok-windows.windows.items c.in_ok-progress.progress.items
+    (ap partial_of c.in_ok-entries.ensures.none ∙ map-none c.len-events.result ∙ ap (λ n. replicate n None) c.len-events.ensures)
+    (search rules) (search rules) (search rules)
 
 pub returns-clause-none : goal.returns-clause-none
-returns-clause-none c = ap partial_of (c.in_ok-entries.ensures {u = tt}) ∙ map-none c.len-events.result ∙ ap (λ n. replicate n None) c.len-events.ensures
+returns-clause-none c = ap partial_of c.in_ok-entries.ensures.none ∙ map-none c.len-events.result ∙ ap (λ n. replicate n None) c.len-events.ensures

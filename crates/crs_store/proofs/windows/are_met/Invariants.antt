@@ -1,0 +1,5 @@
+use Rattle.crs_store.specs.Judged.{IsMetTo}
+use Rattle.crs_store.proofs.windows.are_met.Given as goal
+
+abbrev pub invariant-loop-k : goal.invariant-loop-k
+invariant-loop-k l = IsMetTo l.plan l.h l.instance l.k

@@ -1,0 +1,6 @@
+use Rattle.crs_store.specs.Windows.{Begins}
+use Rattle.crs_store.specs.Judged.{AreStepped}
+use Rattle.crs_store.proofs.windows.begin_windows.Given as goal
+
+abbrev pub invariant-loop-k : goal.invariant-loop-k
+invariant-loop-k l = AreStepped (λ k q. Begins l.plan l.history l.h l.parent l.initial.fork k q) l.k l.initial.fork l.fork

@@ -1,0 +1,5 @@
+use Rattle.crs_store.specs.Judged.{IsLostNowhere}
+use Rattle.crs_store.proofs.windows.has_lost.Given as goal
+
+abbrev pub invariant-loop-k : goal.invariant-loop-k
+invariant-loop-k l = IsLostNowhere l.plan l.h l.instance l.k
