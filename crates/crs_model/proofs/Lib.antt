@@ -17,6 +17,7 @@ pub mod RenamedAssignments
 pub mod RenamedLive
 pub mod Agreed
 pub mod Unique
+pub mod Twins
 pub mod InOrder
 pub mod Settled
 pub mod Parted
