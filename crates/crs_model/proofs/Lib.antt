@@ -18,6 +18,7 @@ pub mod RenamedLive
 pub mod Agreed
 pub mod Unique
 pub mod Twins
+pub mod TwinLists
 pub mod InOrder
 pub mod Settled
 pub mod Parted
