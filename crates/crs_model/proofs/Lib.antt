@@ -19,6 +19,7 @@ pub mod Agreed
 pub mod Unique
 pub mod Twins
 pub mod TwinLists
+pub mod Ties
 pub mod InOrder
 pub mod Settled
 pub mod Parted
