@@ -20,6 +20,7 @@ pub mod Unique
 pub mod Twins
 pub mod TwinLists
 pub mod Ties
+pub mod TwinPools
 pub mod InOrder
 pub mod Settled
 pub mod Parted
