@@ -13,6 +13,8 @@ pub mod Wanting
 pub mod Completes
 pub mod Preparing
 pub mod OneText
+pub mod Parting
+pub mod Rearranging
 pub mod Loads
 pub mod Listed
 mod Rows

@@ -10,3 +10,4 @@ pub mod Prepared
 pub mod Run
 pub mod Listings
 pub mod Commands
+pub mod Rearranged
