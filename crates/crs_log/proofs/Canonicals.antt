@@ -1,11 +1,11 @@
 -- An event is told by its date and its canonical text.
-use Rattle.std.proofs.Common.{◌≡◌, ℕ, Bool, true, false, ◌&&◌, List, [], ◌∷◌, ◌++◌, refl, sym, ap, ◌∙◌, Option, Some, None, true≢false, arith, append_assoc}
-use Rattle.std.specs.Prelude.{codes, nat_le, length}
+use Rattle.std.proofs.Common.{◌≡◌, ℕ, true, false, ◌&&◌, List, [], ◌∷◌, ◌++◌, refl, sym, ap, ◌∙◌, Option, Some, None, true≢false, arith, append_assoc}
+use Rattle.std.specs.Prelude.{nat_le, length}
 use Rattle.std.specs.List.{list_all}
 use Rattle.std.proofs.lemmas.Bool.{and_parts}
 use Rattle.crs_base.specs.Symbols.{is_symbol, is_symbol_byte}
 use Rattle.crs_base.specs.Entry.{more_text, args_text, change_text, canonical}
-use Rattle.crs_log.specs.Items.{Change, Event, AreSymbols, IsChange, IsEvent, Happens}
+use Rattle.crs_log.specs.Items.{Change, Event, AreSymbols, IsChange, Happens}
 use Rattle.crs_log.specs.ItemOf.{item_of}
 use Rattle.crs_log.proofs.ItemLaw.{item_sound}
 
@@ -22,7 +22,8 @@ abbrev behind : List ℕ → List ℕ
 behind [] = []
 behind (x ∷ xs) = xs
 
-all_bytes : (x : ℕ) (xs : List ℕ) → list_all is_symbol_byte (x ∷ xs) ≡ true → (is_symbol_byte x ≡ true) × (list_all is_symbol_byte xs ≡ true)
+all_bytes : (x : ℕ) (xs : List ℕ) → list_all is_symbol_byte (x ∷ xs) ≡ true
+    → (is_symbol_byte x ≡ true) × (list_all is_symbol_byte xs ≡ true)
 all_bytes x xs h = and_parts (is_symbol_byte x) (list_all is_symbol_byte xs) h
 
 not_stopped : (x : ℕ) (xs s : List ℕ) → is_symbol_byte x ≡ true → Stops s → s ≡ x ∷ xs → ⊥
@@ -30,7 +31,8 @@ not_stopped x xs [] h k e = cc
 not_stopped x xs (y ∷ s) h k e = true≢false (sym h ∙ ap is_symbol_byte (sym (ap first e)) ∙ k)
 
 -- bytes of symbols, as far as they go
-cut : (a b r s : List ℕ) → list_all is_symbol_byte a ≡ true → list_all is_symbol_byte b ≡ true → Stops r → Stops s → a ++ r ≡ b ++ s → (a ≡ b) × (r ≡ s)
+cut : (a b r s : List ℕ) → list_all is_symbol_byte a ≡ true → list_all is_symbol_byte b ≡ true → Stops r → Stops s → a ++ r ≡ b ++ s
+    → (a ≡ b) × (r ≡ s)
 cut [] [] r s h k m n e = (refl, e)
 cut [] (y ∷ b) r s h k m n e = absurd (not_stopped y (b ++ s) r (all_bytes y b k).0 m e)
 cut (x ∷ a) [] r s h k m n e = absurd (not_stopped x (a ++ r) s (all_bytes x a h).0 n (sym e))
@@ -45,7 +47,8 @@ stops_more : (ps : List (List ℕ)) (t : List ℕ) → Stops (more_text ps ++ t)
 stops_more [] t = refl
 stops_more (p ∷ ps) t = refl
 
-more_same : (ps qs : List (List ℕ)) (t u : List ℕ) → AreSymbols ps → AreSymbols qs → more_text ps ++ t ≡ more_text qs ++ u → (ps ≡ qs) × (t ≡ u)
+more_same : (ps qs : List (List ℕ)) (t u : List ℕ) → AreSymbols ps → AreSymbols qs → more_text ps ++ t ≡ more_text qs ++ u
+    → (ps ≡ qs) × (t ≡ u)
 more_same [] [] t u h k e = (refl, ap behind e)
 more_same [] (q ∷ qs) t u h k e = absurd (let n : 93 ≡ 44 = ap first e in omega arith)
 more_same (p ∷ ps) [] t u h k e = absurd (let n : 44 ≡ 93 = ap first e in omega arith)
@@ -59,7 +62,8 @@ change_first : (c : Option Change) (t : List ℕ) → change_text c ≡ 91 ∷ t
 change_first None t e = cc
 change_first (Some c) t e = absurd (let n : 58 ≡ 91 = ap first e in omega arith)
 
-args_same : (ps qs : List (List ℕ)) (c d : Option Change) → AreSymbols ps → AreSymbols qs → args_text ps ++ change_text c ≡ args_text qs ++ change_text d → (ps ≡ qs) × (change_text c ≡ change_text d)
+args_same : (ps qs : List (List ℕ)) (c d : Option Change) → AreSymbols ps → AreSymbols qs
+    → args_text ps ++ change_text c ≡ args_text qs ++ change_text d → (ps ≡ qs) × (change_text c ≡ change_text d)
 args_same [] [] c d h k e = (refl, e)
 args_same [] (q ∷ qs) c d h k e = absurd (change_first c ((q ++ more_text qs) ++ change_text d) e)
 args_same (p ∷ ps) [] c d h k e = absurd (change_first d ((p ++ more_text ps) ++ change_text c) (sym e))
@@ -97,7 +101,8 @@ pub record IsOfSymbols (e : Event) : Type 0 where
   pub change : IsChange e.change
 
 -- events of one date and one canonical text are the same
-pub same_event : (e f : Event) → IsOfSymbols e → IsOfSymbols f → e.date ≡ f.date → canonical e.name e.args e.change ≡ canonical f.name f.args f.change → e ≡ f
+pub same_event : (e f : Event) → IsOfSymbols e → IsOfSymbols f → e.date ≡ f.date
+    → canonical e.name e.args e.change ≡ canonical f.name f.args f.change → e ≡ f
 same_event e f h k date text =
     let parts : e.name ++ (args_text e.args ++ change_text e.change) ≡ f.name ++ (args_text f.args ++ change_text f.change) =
     sym (append_assoc e.name (args_text e.args) (change_text e.change)) ∙ text ∙ append_assoc f.name (args_text f.args) (change_text f.change) in

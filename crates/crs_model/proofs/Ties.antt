@@ -2,7 +2,6 @@
 use Rattle.std.proofs.Common.{◌≡◌, ◌≢◌, ◌<◌, ◌⊎◌, ℕ, ◌+◌, Bool, true, false, cond, List, [], ◌∷◌, ◌++◌, refl, sym, ap, subst, ◌∙◌, inl, inr, arith, Ordering, Less, Equal, Greater, nat_cmp}
 use Rattle.std.specs.List.{AllZip, AllByRecursion}
 use Rattle.std.specs.Ordering.{is_lt, ordering_reverse, ordering_then}
-use Rattle.std.specs.Cmp.{IsTotalOrder}
 use Rattle.crs_base.specs.Words.{IsIn, Ordered}
 use Rattle.crs_base.specs.Entry.{Key, key_cmp, Entry, entry_cmp}
 use Rattle.crs_base.proofs.KeyOrder.{key_total, key_exact, entry_total}
@@ -87,7 +86,8 @@ module _ {S : Type 0} where
   some_here : (x : Entry S) (xs : List (Entry S)) → 0 < ties (said x) (x ∷ xs)
   some_here x xs = let e = tie_itself (said x) in omega (arith, e)
 
-  first_below : (x y : Entry S) (xs ys : List (Entry S)) → AllByRecursion (Rises y) ys → ties (said x) (x ∷ xs) ≡ ties (said x) (y ∷ ys) → Rises y x
+  first_below : (x y : Entry S) (xs ys : List (Entry S)) → AllByRecursion (Rises y) ys → ties (said x) (x ∷ xs) ≡ ties (said x) (y ∷ ys)
+      → Rises y x
   first_below x y xs ys o e =
       let f = found (said x) (y ∷ ys) (subst (λ (n : ℕ). 0 < n) e (some_here x xs)) in
       subst (λ (k : Key). key_cmp (said y) k ≢ Greater) f.2 (not_above y f.0 ys o f.1)
@@ -107,7 +107,8 @@ module _ {S : Type 0} where
   ties_put z e [] = refl
   ties_put z e (x ∷ xs) = by (is_lt (entry_cmp e x)) (ties_put z e xs)
     where
-      by : (b : Bool) → ties z (put_in_order e xs) ≡ tie z (said e) + ties z xs → ties z (cond b (e ∷ x ∷ xs) (x ∷ put_in_order e xs)) ≡ tie z (said e) + (tie z (said x) + ties z xs)
+      by : (b : Bool) → ties z (put_in_order e xs) ≡ tie z (said e) + ties z xs
+          → ties z (cond b (e ∷ x ∷ xs) (x ∷ put_in_order e xs)) ≡ tie z (said e) + (tie z (said x) + ties z xs)
       by true h = refl
       by false h = omega (arith, h)
 
@@ -163,7 +164,8 @@ module _ {S : Type 0} where
   ordered xs d = ordered_all [] xs tt d (λ x y i j. absurd j)
 
   -- in key order, two lists that say all as often say the same one by one
-  pub same_in_order : (xs ys : List (Entry S)) → AreDistinct xs → AreDistinct ys → ((z : Key) → ties z xs ≡ ties z ys) → AllZip Says (in_key_order xs) (in_key_order ys)
+  pub same_in_order : (xs ys : List (Entry S)) → AreDistinct xs → AreDistinct ys → ((z : Key) → ties z xs ≡ ties z ys)
+      → AllZip Says (in_key_order xs) (in_key_order ys)
   same_in_order xs ys d e h = same_said (in_key_order xs) (in_key_order ys)
       (ordered_to (λ a b. entry_cmp a b ≡ Less) Rises rises (in_key_order xs) (ordered xs d))
       (ordered_to (λ a b. entry_cmp a b ≡ Less) Rises rises (in_key_order ys) (ordered ys e))

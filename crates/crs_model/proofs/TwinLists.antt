@@ -1,16 +1,16 @@
 -- The lists of new assignments over entries that say the same under other arrival numbers.
-use Rattle.std.proofs.Common.{◌≡◌, ℕ, List, [], ◌∷◌, refl, sym, ap, subst, ◌∙◌, Less, inl, inr}
+use Rattle.std.proofs.Common.{◌≡◌, ℕ, List, [], ◌∷◌, refl, sym, subst, ◌∙◌, Less, inl, inr}
 use Rattle.std.specs.List.{AllZip, AllByRecursion}
 use Rattle.std.specs.Cmp.{IsTotalOrder}
 use Rattle.std.proofs.lemmas.Cmp.{on_total, lists_total}
 use Rattle.crs_base.specs.Words.{IsIn, Ordered}
 use Rattle.crs_base.specs.Entry.{Entry}
 use Rattle.crs_base.proofs.KeyOrder.{entry_total}
-use Rattle.crs_base.proofs.Words.{each_from_in, in_from_each}
+use Rattle.crs_base.proofs.Words.{in_from_each}
 use Rattle.crs_model.specs.Models.{Chronicle}
 use Rattle.crs_model.specs.Matching.{Assignment}
 use Rattle.crs_model.specs.Order.{Lists, assignment_cmp}
-use Rattle.crs_model.specs.Open.{IsNew, IsRecognised}
+use Rattle.crs_model.specs.Open.{IsNew}
 use Rattle.crs_model.proofs.Unique.{same_members}
 use Rattle.crs_model.proofs.Twins.{Twins, flip, turned, zip_turned, row_of, one_row, rows_cmp, recognised_on}
 
@@ -30,7 +30,8 @@ module _ {S : Type 0} where
   IsNewOver c was g now h b = IsNew c was was g now now h b
 
   -- what is new of entries is new of their twins
-  new_on : (T : Entry S → Entry S → Type 0) → Twins T → (was was_other now now_other : List (Entry S)) → AllZip T was was_other → AllZip T now now_other
+  new_on : (T : Entry S → Entry S → Type 0) → Twins T → (was was_other now now_other : List (Entry S)) → AllZip T was was_other
+      → AllZip T now now_other
       → (c : Chronicle S) (g h : ℕ) (a b : Assignment S) → Paired T a b → IsNewOver c was g now h a → IsNewOver c was_other g now_other h b
   new_on T t was was_other now now_other z y c g h a b p n = (
     recognised_on T t now now_other y c h a b p.entries p.values n.0,
@@ -45,14 +46,16 @@ module _ {S : Type 0} where
         let r = row_of T t now now_other a.entries y n.0.assignment.given in
         (record { entries = r.0; values = a.values }, record { entries = r.1; values = refl })
 
-    others : (xs : List (Assignment S)) → AllByRecursion (IsNewOver c was g now h) xs → (ys : List (Assignment S)) × AllZip (Paired T) xs ys
+    others : (xs : List (Assignment S)) → AllByRecursion (IsNewOver c was g now h) xs
+        → (ys : List (Assignment S)) × AllZip (Paired T) xs ys
     others [] n = ([], tt)
     others (x ∷ xs) n =
         let first = other x n.0 in
         let rest = others xs n.1 in
         (first.0 ∷ rest.0, (first.1, rest.1))
 
-    each_new : (xs ys : List (Assignment S)) → AllZip (Paired T) xs ys → AllByRecursion (IsNewOver c was g now h) xs → AllByRecursion (IsNewOver c was_other g now_other h) ys
+    each_new : (xs ys : List (Assignment S)) → AllZip (Paired T) xs ys → AllByRecursion (IsNewOver c was g now h) xs
+        → AllByRecursion (IsNewOver c was_other g now_other h) ys
     each_new [] [] p n = tt
     each_new [] (b ∷ ys) p n = absurd p
     each_new (a ∷ xs) [] p n = absurd p
@@ -65,7 +68,8 @@ module _ {S : Type 0} where
     above a b (x ∷ xs) [] p q k = absurd q
     above a b (x ∷ xs) (d ∷ ys) p q k = (sym (rows_cmp T t a.entries b.entries x.entries d.entries p.entries q.0.entries) ∙ k.0, above a b xs ys p q.1 k.1)
 
-    ascends : (xs ys : List (Assignment S)) → AllZip (Paired T) xs ys → Ordered (λ a b. assignment_cmp a b ≡ Less) xs → Ordered (λ a b. assignment_cmp a b ≡ Less) ys
+    ascends : (xs ys : List (Assignment S)) → AllZip (Paired T) xs ys → Ordered (λ a b. assignment_cmp a b ≡ Less) xs
+        → Ordered (λ a b. assignment_cmp a b ≡ Less) ys
     ascends [] [] p k = tt
     ascends [] (b ∷ ys) p k = absurd p
     ascends (a ∷ xs) [] p k = absurd p
@@ -84,7 +88,8 @@ module _ {S : Type 0} where
     pair_in (x ∷ xs) (d ∷ ys) p a b (inr i) q = inr (pair_in xs ys p.1 a b i q)
 
   -- the lists of the new ones are paired
-  pub new_paired : (T : Entry S → Entry S → Type 0) → Twins T → (was was_other now now_other : List (Entry S)) → AllZip T was was_other → AllZip T now now_other
+  pub new_paired : (T : Entry S → Entry S → Type 0) → Twins T → (was was_other now now_other : List (Entry S)) → AllZip T was was_other
+      → AllZip T now now_other
       → (c : Chronicle S) (g h : ℕ) (xs ys : List (Assignment S)) → Lists assignment_cmp (IsNewOver c was g now h) xs → Lists assignment_cmp (IsNewOver c was_other g now_other h) ys
       → AllZip (Paired T) xs ys
   new_paired T t was was_other now now_other z y c g h xs ys l m =

@@ -1,9 +1,9 @@
 -- Two lists of entries that say all as often, paired in key order.
-use Rattle.std.proofs.Common.{◌≡◌, ◌≢◌, ◌<◌, ◌⊎◌, ℕ, Bool, true, false, cond, List, [], ◌∷◌, nat_lt, refl, sym, ap, subst, ◌∙◌, inl, inr, Less, Equal}
+use Rattle.std.proofs.Common.{◌≡◌, ◌≢◌, ◌⊎◌, ℕ, Bool, true, false, cond, List, [], ◌∷◌, nat_lt, refl, sym, ap, subst, ◌∙◌, inl, inr, Less, Equal}
 use Rattle.std.specs.List.{AllZip, AllByRecursion}
 use Rattle.std.specs.Ordering.{ordering_reverse}
 use Rattle.crs_base.specs.Words.{IsIn, Ordered}
-use Rattle.crs_base.specs.Entry.{Key, key_of, key_cmp, Entry, entry_cmp}
+use Rattle.crs_base.specs.Entry.{Key, Entry, entry_cmp}
 use Rattle.crs_base.proofs.KeyOrder.{entry_total}
 use Rattle.crs_base.proofs.Words.{in_from_each}
 use Rattle.crs_model.specs.Matching.{AreDistinct}
@@ -23,7 +23,8 @@ module _ {S : Type 0} where
   AtOnePlace (a ∷ xs) [] x y = ⊥
   AtOnePlace (a ∷ xs) (b ∷ ys) x y = ((x ≡ a) × (y ≡ b)) ⊎ AtOnePlace xs ys x y
 
-  zip_to : (P Q : Entry S → Entry S → Type 0) → ((x y : Entry S) → P x y → Q x y) → (xs ys : List (Entry S)) → AllZip P xs ys → AllZip Q xs ys
+  zip_to : (P Q : Entry S → Entry S → Type 0) → ((x y : Entry S) → P x y → Q x y) → (xs ys : List (Entry S)) → AllZip P xs ys
+      → AllZip Q xs ys
   zip_to P Q f [] [] z = tt
   zip_to P Q f [] (y ∷ ys) z = absurd z
   zip_to P Q f (x ∷ xs) [] z = absurd z
@@ -57,13 +58,15 @@ module _ {S : Type 0} where
   abbrev InOneOrder : Entry S → Entry S → Entry S → Entry S → Type 0
   InOneOrder x y a b = ((x ≡ a) × (y ≡ b)) ⊎ ((Below x a × Below y b) ⊎ (Below a x × Below b y))
 
-  above_first : (a b x y : Entry S) (xs ys : List (Entry S)) → AllByRecursion (Below a) xs → AllByRecursion (Below b) ys → AtOnePlace xs ys x y → Below a x × Below b y
+  above_first : (a b x y : Entry S) (xs ys : List (Entry S)) → AllByRecursion (Below a) xs → AllByRecursion (Below b) ys
+      → AtOnePlace xs ys x y → Below a x × Below b y
   above_first a b x y xs ys o p i = (in_from_each (Below a) xs o x (placed_left xs ys x y i), in_from_each (Below b) ys p y (placed_right xs ys x y i))
 
   at_firsts : (x y a b : Entry S) → x ≡ a → y ≡ b → (p : Entry S) (q : Entry S) → Below a p × Below b q → Below x p × Below y q
   at_firsts x y a b e f p q h = (subst (λ (w : Entry S). Below w p) (sym e) h.0, subst (λ (w : Entry S). Below w q) (sym f) h.1)
 
-  in_one_order : (xs ys : List (Entry S)) → Ordered Below xs → Ordered Below ys → (x y a b : Entry S) → AtOnePlace xs ys x y → AtOnePlace xs ys a b → InOneOrder x y a b
+  in_one_order : (xs ys : List (Entry S)) → Ordered Below xs → Ordered Below ys → (x y a b : Entry S) → AtOnePlace xs ys x y
+      → AtOnePlace xs ys a b → InOneOrder x y a b
   in_one_order [] ys o p x y a b i j = absurd i
   in_one_order (c ∷ xs) [] o p x y a b i j = absurd i
   in_one_order (c ∷ xs) (d ∷ ys) o p x y a b (inl i) (inl j) = inl (i.0 ∙ sym j.0, i.1 ∙ sym j.1)
@@ -103,13 +106,15 @@ module _ {S : Type 0} where
   one_arrival (a ∷ xs) d x y (inr i) (inl q) e = absurd (in_from_each (λ z. a.arrival ≢ z.arrival) xs d.0 x i (sym (ap (λ z. z.arrival) q) ∙ sym e))
   one_arrival (a ∷ xs) d x y (inr i) (inr j) e = one_arrival xs d.1 x y i j e
 
-  before_step : (p q : Bool) (T : Entry S → Entry S → Type 0) (a b : Entry S) (xs ys : List (Entry S)) → p ≡ q → T a b → AllZip T xs ys → AllZip T (cond p (a ∷ xs) xs) (cond q (b ∷ ys) ys)
+  before_step : (p q : Bool) (T : Entry S → Entry S → Type 0) (a b : Entry S) (xs ys : List (Entry S)) → p ≡ q → T a b → AllZip T xs ys
+      → AllZip T (cond p (a ∷ xs) xs) (cond q (b ∷ ys) ys)
   before_step true true T a b xs ys e t z = (t, z)
   before_step true false T a b xs ys e t z = absurd (cc)
   before_step false true T a b xs ys e t z = absurd (cc)
   before_step false false T a b xs ys e t z = z
 
-  before_zip : (T : Entry S → Entry S → Type 0) → Twins T → (h : ℕ) (xs ys : List (Entry S)) → AllZip T xs ys → AllZip T (before h xs) (before h ys)
+  before_zip : (T : Entry S → Entry S → Type 0) → Twins T → (h : ℕ) (xs ys : List (Entry S)) → AllZip T xs ys
+      → AllZip T (before h xs) (before h ys)
   before_zip T t h [] [] z = tt
   before_zip T t h [] (y ∷ ys) z = absurd z
   before_zip T t h (x ∷ xs) [] z = absurd z

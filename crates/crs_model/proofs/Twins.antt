@@ -1,21 +1,18 @@
 -- Entries that say the same under other arrival numbers, and what is recognised of them.
 use Rattle.std.proofs.Common.{◌≡◌, ◌≢◌, inl, inr, ℕ, zero, suc, ◌≤◌, ℤ, pos, ◌≤ℤ◌, ◌<ℤ◌, ◌+ℤ◌, List, [], ◌∷◌, map, refl, sym, ap, subst, ◌∙◌}
-use Rattle.std.specs.Prelude.{Option, Some, None, IsSome, IsSomeAnd, slice_get}
+use Rattle.std.specs.Prelude.{Option, Some, IsSome, IsSomeAnd, slice_get}
 use Rattle.std.specs.List.{AllZip, AllByRecursion}
-use Rattle.std.specs.declared.cmp.Ordering.{Ordering}
-use Rattle.std.specs.declared.cmp.Ordering.TheVariants.{Equal}
 use Rattle.std.specs.Cmp.Lexicographic.{slice_cmp}
 use Rattle.std.specs.Ordering.{ordering_then}
-use Rattle.crs_base.specs.Words.{IsIn, Ordered}
+use Rattle.crs_base.specs.Words.{IsIn}
 use Rattle.crs_base.specs.Entry.{Entry, entry_cmp}
-use Rattle.crs_base.specs.Values.{Attribute, IsChange, NewIs, IsLastChange, HasValue}
+use Rattle.crs_base.specs.Values.{Attribute, IsChange, IsLastChange, HasValue}
 use Rattle.crs_stn.specs.Bound.{MeetsInPart}
 use Rattle.crs_model.specs.Models.{Pattern, EventDef, Body, NoEvent, Occurs, Hold, Window, Chronicle}
 use Rattle.crs_model.specs.Matching.{Binding, PatternIs, Assignment, ChangeIs, TermIs, AreDistinct}
-use Rattle.crs_model.specs.Partial.{Partial, at, dates_of}
-use Rattle.crs_model.specs.Order.{assignment_cmp, entries_cmp}
-use Rattle.crs_model.specs.Open.{whole, IsRecognised}
-use Rattle.crs_model.specs.Verdicts.{Count, IsDatedIn, IsCount, IsSo, IsStretch, IsMet}
+use Rattle.crs_model.specs.Partial.{at, dates_of}
+use Rattle.crs_model.specs.Open.{IsRecognised}
+use Rattle.crs_model.specs.Verdicts.{Count, IsDatedIn, IsCount, IsSo, IsMet}
 
 module _ {S : Type 0} where
   -- all but the arrival number is the same
@@ -64,14 +61,16 @@ module _ {S : Type 0} where
     pub partner_in : (xs ys : List (Entry S)) → AllZip T xs ys → (x y : Entry S) → IsIn x xs → T x y → IsIn y ys
     partner_in xs ys z x y i p = let r = partner xs ys z x i in subst (λ (w : Entry S). IsIn w ys) (twins.one x r.0 y r.2 p) r.1
 
-    rows_in : (xs ys ds es : List (Entry S)) → AllZip T xs ys → AllZip T ds es → AllByRecursion (λ e. IsIn e xs) ds → AllByRecursion (λ e. IsIn e ys) es
+    rows_in : (xs ys ds es : List (Entry S)) → AllZip T xs ys → AllZip T ds es → AllByRecursion (λ e. IsIn e xs) ds
+        → AllByRecursion (λ e. IsIn e ys) es
     rows_in xs ys [] [] z p k = tt
     rows_in xs ys [] (b ∷ es) z p k = absurd p
     rows_in xs ys (a ∷ ds) [] z p k = absurd p
     rows_in xs ys (a ∷ ds) (b ∷ es) z p k = (partner_in xs ys z a b k.0 p.0, rows_in xs ys ds es z p.1 k.1)
 
     -- the rows that are twins of these
-    pub row_of : (xs ys ds : List (Entry S)) → AllZip T xs ys → AllByRecursion (λ e. IsIn e xs) ds → (es : List (Entry S)) × AllZip T ds es
+    pub row_of : (xs ys ds : List (Entry S)) → AllZip T xs ys → AllByRecursion (λ e. IsIn e xs) ds
+        → (es : List (Entry S)) × AllZip T ds es
     row_of xs ys [] z k = ([], tt)
     row_of xs ys (a ∷ ds) z k =
         let first = partner xs ys z a k.0 in
@@ -89,7 +88,8 @@ module _ {S : Type 0} where
         let r : es ≡ gs = one_row ds es gs p.1 q.1 in
         λ i. e i ∷ r i
 
-    pub rows_cmp : (xs ys ds es : List (Entry S)) → AllZip T xs ys → AllZip T ds es → slice_cmp entry_cmp xs ds ≡ slice_cmp entry_cmp ys es
+    pub rows_cmp : (xs ys ds es : List (Entry S)) → AllZip T xs ys → AllZip T ds es
+        → slice_cmp entry_cmp xs ds ≡ slice_cmp entry_cmp ys es
     rows_cmp [] [] [] [] z p = refl
     rows_cmp [] [] [] (b ∷ es) z p = absurd p
     rows_cmp [] [] (a ∷ ds) [] z p = absurd p
@@ -101,7 +101,8 @@ module _ {S : Type 0} where
     rows_cmp (x ∷ xs) (y ∷ ys) (a ∷ ds) [] z p = absurd p
     rows_cmp (x ∷ xs) (y ∷ ys) (a ∷ ds) (b ∷ es) z p = λ i. ordering_then (twins.keeps x y a b z.0 p.0 i) (rows_cmp xs ys ds es z.1 p.1 i)
 
-    apart_from : (x y : Entry S) (ds es : List (Entry S)) → T x y → AllZip T ds es → AllByRecursion (λ e. x.arrival ≢ e.arrival) ds → AllByRecursion (λ e. y.arrival ≢ e.arrival) es
+    apart_from : (x y : Entry S) (ds es : List (Entry S)) → T x y → AllZip T ds es → AllByRecursion (λ e. x.arrival ≢ e.arrival) ds
+        → AllByRecursion (λ e. y.arrival ≢ e.arrival) es
     apart_from x y [] [] t p k = tt
     apart_from x y [] (b ∷ es) t p k = absurd p
     apart_from x y (a ∷ ds) [] t p k = absurd p
@@ -168,7 +169,8 @@ module _ {S : Type 0} where
     dated_back : (from to : ℤ) (x y : Entry S) → T x y → IsDatedIn from to y → IsDatedIn from to x
     dated_back from to x y t h = subst (λ (n : ℕ). (from ≤ℤ pos n) × (pos n <ℤ to)) (sym (twins.same x y t).date) h
 
-    is_count_on : (xs ys : List (Entry S)) → AllZip T xs ys → (look : Binding S) (p : Pattern S) (from to : ℤ) (n : ℕ) → IsCount xs look p from to n → IsCount ys look p from to n
+    is_count_on : (xs ys : List (Entry S)) → AllZip T xs ys → (look : Binding S) (p : Pattern S) (from to : ℤ) (n : ℕ)
+        → IsCount xs look p from to n → IsCount ys look p from to n
     is_count_on xs ys z look p from to n k = count_on (λ e. IsDatedIn from to e × PatternIs look p e) (λ e. IsDatedIn from to e × PatternIs look p e)
         (λ x y t h. (dated_on from to x y t h.0, pattern_on look p x y t h.1)) (λ x y t h. (dated_back from to x y t h.0, pattern_back look p x y t h.1)) xs ys n z k
 
@@ -234,7 +236,8 @@ module _ {S : Type 0} where
       so_on look (Occurs least most p) from to h = (h.0, is_count_on xs ys z look p from to h.0 h.1, h.2, h.3)
       so_on look (Hold name terms value) from to h = λ a v held t l m. value_on a t v (h a v held t l m)
 
-      met_on : (look : Binding S) (ds es : List (Entry S)) → AllZip T ds es → (h : ℕ) (w : Window S) → IsMet look (map Some ds) xs h w → IsMet look (map Some es) ys h w
+      met_on : (look : Binding S) (ds es : List (Entry S)) → AllZip T ds es → (h : ℕ) (w : Window S) → IsMet look (map Some ds) xs h w
+          → IsMet look (map Some es) ys h w
       met_on look ds es p h w m = record {
         from = m.from;
         to = m.to;

@@ -85,7 +85,8 @@ module _ (c : Setting) (cs : List (Chronicle (List ℕ))) where
         omega (arith, one, two, more, first, none);
   }
 
-  led : (e : Event) (ps : List Part) (d h : ℕ) (xs ys : List LogEntry) (text : List ℕ) → Follow (e ∷ []) xs ys → IsPartsText ps d h ys text → IsPartsText (led_by e ps) d h xs text
+  led : (e : Event) (ps : List Part) (d h : ℕ) (xs ys : List LogEntry) (text : List ℕ) → Follow (e ∷ []) xs ys
+      → IsPartsText ps d h ys text → IsPartsText (led_by e ps) d h xs text
   led e [] d h xs ys text f k = (ys, f, k)
   led e (p ∷ ps) d h xs ys text f k = (k.0, follow_on e p.events xs ys k.0 f k.1, k.2)
 
@@ -96,12 +97,14 @@ module _ (c : Setting) (cs : List (Chronicle (List ℕ))) where
   abbrev Steps : ℕ → State → List Item → What → State × Outcome → Type 0
   Steps n s items w r = is_refused r.1 ≡ false → (first rest text : List ℕ) → IsLineText cs n s r first → IsToldFrom r.0 items rest → text ≡ first ++ rest → IsToldFrom s (items_in w ++ items) text
 
-  nothing_first : (s : State) (items : List Item) (first rest text : List ℕ) → first ≡ [] → text ≡ first ++ rest → IsToldFrom s items rest → IsToldFrom s items text
+  nothing_first : (s : State) (items : List Item) (first rest text : List ℕ) → first ≡ [] → text ≡ first ++ rest → IsToldFrom s items rest
+      → IsToldFrom s items text
   nothing_first s items first rest text e t k =
       let same : text ≡ rest = t ∙ ap (λ (w : List ℕ). w ++ rest) e in
       subst (IsToldFrom s items) (sym same) k
 
-  weight_by : (z : Key) (e : Event) (v : Verdict) → known_of c.names e ≡ v → sum_by (weight z) (e ∷ []) ≡ taken v (tie z (said (entry_of_event 0 e)))
+  weight_by : (z : Key) (e : Event) (v : Verdict) → known_of c.names e ≡ v
+      → sum_by (weight z) (e ∷ []) ≡ taken v (tie z (said (entry_of_event 0 e)))
   weight_by z e v k =
       let one : sum_by (weight z) (e ∷ []) ≡ weight z e + sum_by (weight z) [] = sum_by-cons (weight z) e [] in
       let same : weight z e ≡ taken v (tie z (said (entry_of_event 0 e))) = ap (λ (v : Verdict). taken v (tie z (said (entry_of_event 0 e)))) k in
@@ -130,7 +133,8 @@ module _ (c : Setting) (cs : List (Chronicle (List ℕ))) where
         ]);
       }
 
-  added : (e : Event) (xs : List LogEntry) (place : ℕ) → IsOfSymbols e → known_of c.names e ≡ Named place → Follow (e ∷ []) xs (xs ++ entry_of_event (length xs) e ∷ [])
+  added : (e : Event) (xs : List LogEntry) (place : ℕ) → IsOfSymbols e → known_of c.names e ≡ Named place
+      → Follow (e ∷ []) xs (xs ++ entry_of_event (length xs) e ∷ [])
   added e xs place s k = record {
     accepted = one_more e xs s;
     ties = λ z.
@@ -143,38 +147,45 @@ module _ (c : Setting) (cs : List (Chronicle (List ℕ))) where
     never : (w : What) (after : State) (f : run.Fault) → Steps n s items w (after, Refused f)
     never w after f r = absurd (true≢false r)
 
-    steps_named : (e : Event) (place : ℕ) → IsOfSymbols e → known_of c.names e ≡ Named place → Steps n s items (Is (Happens e)) (after_named c s e)
+    steps_named : (e : Event) (place : ℕ) → IsOfSymbols e → known_of c.names e ≡ Named place
+        → Steps n s items (Is (Happens e)) (after_named c s e)
     steps_named e place k v = by (nat_lt (length s.accepted) c.entries) (nat_le (length s.texts + length (new_texts s.texts (texts_of e))) c.symbols)
       where
-        by : (p q : Bool) → Steps n s items (Is (Happens e)) (cond p (cond q (with_entry s (entry_of_event (length s.accepted) e) e, Accepted (entry_of_event (length s.accepted) e)) (s, Refused (run.Values c.symbols))) (s, Refused (run.Full c.entries)))
+        by : (p q : Bool)
+            → Steps n s items (Is (Happens e)) (cond p (cond q (with_entry s (entry_of_event (length s.accepted) e) e, Accepted (entry_of_event (length s.accepted) e)) (s, Refused (run.Values c.symbols))) (s, Refused (run.Full c.entries)))
         by true true = λ r first rest text o t x.
             led e (parts_of items) s.delay s.horizon s.accepted (s.accepted ++ entry_of_event (length s.accepted) e ∷ []) text (added e s.accepted place k v)
             (nothing_first (with_entry s (entry_of_event (length s.accepted) e) e) items first rest text o x t)
         by true false = never (Is (Happens e)) s (run.Values c.symbols)
         by false q = never (Is (Happens e)) s (run.Full c.entries)
 
-    steps_verdict : (e : Event) (v : Verdict) → IsOfSymbols e → known_of c.names e ≡ v → Steps n s items (Is (Happens e)) (after_verdict c s e v)
+    steps_verdict : (e : Event) (v : Verdict) → IsOfSymbols e → known_of c.names e ≡ v
+        → Steps n s items (Is (Happens e)) (after_verdict c s e v)
     steps_verdict e Other k v = λ r first rest text o t x.
         led e (parts_of items) s.delay s.horizon s.accepted s.accepted text (passed e s.accepted v) (nothing_first s items first rest text o x t)
     steps_verdict e BadArity k v = never (Is (Happens e)) s run.Arity
     steps_verdict e BadValue k v = never (Is (Happens e)) s run.Value
     steps_verdict e (Named place) k v = steps_named e place k v
 
-    steps_ordered : (item : Item) → ((e : Event) → Is item ≡ Is (Happens e) → IsOfSymbols e) → Steps n s items (Is item) (after_ordered c s item)
+    steps_ordered : (item : Item) → ((e : Event) → Is item ≡ Is (Happens e) → IsOfSymbols e)
+        → Steps n s items (Is item) (after_ordered c s item)
     steps_ordered (Delay d) k = λ r first rest text o t x. (s.accepted, same_follow s.accepted, nothing_first (record s { delay = d }) items first rest text o x t)
     steps_ordered (Clock t) k = by (nat_lt t s.last)
       where
-        by : (b : Bool) → Steps n s items (Is (Clock t)) (cond b (s, Refused (run.Back t s.last)) (record s { last = t; horizon = t - s.delay }, Marked (AtClock t)))
+        by : (b : Bool)
+            → Steps n s items (Is (Clock t)) (cond b (s, Refused (run.Back t s.last)) (record s { last = t; horizon = t - s.delay }, Marked (AtClock t)))
         by true = never (Is (Clock t)) s (run.Back t s.last)
         by false = λ r first rest text o u x. (s.accepted, same_follow s.accepted, (first, rest, o, u, x))
     steps_ordered Finish k = λ r first rest text o t x. (s.accepted, same_follow s.accepted, (first, rest, o, t, x))
     steps_ordered (Happens e) k = by (nat_lt e.date s.horizon)
       where
-        by : (b : Bool) → Steps n s items (Is (Happens e)) (cond b (s, Refused (run.Late e.date s.horizon)) (after_verdict c s e (known_of c.names e)))
+        by : (b : Bool)
+            → Steps n s items (Is (Happens e)) (cond b (s, Refused (run.Late e.date s.horizon)) (after_verdict c s e (known_of c.names e)))
         by true = never (Is (Happens e)) s (run.Late e.date s.horizon)
         by false = steps_verdict e (known_of c.names e) (k e refl) refl
 
-  steps_what : (n : ℕ) (s : State) (items : List Item) (w : What) → ((e : Event) → w ≡ Is (Happens e) → IsOfSymbols e) → Steps n s items w (after_what c s w)
+  steps_what : (n : ℕ) (s : State) (items : List Item) (w : What) → ((e : Event) → w ≡ Is (Happens e) → IsOfSymbols e)
+      → Steps n s items w (after_what c s w)
   steps_what n s items Empty k = λ r first rest text o t x. nothing_first s items first rest text o x t
   steps_what n s items Faulty k = never n s items Faulty s run.Form
   steps_what n s items (Is item) k = by (is_out_of_order s item)
@@ -200,7 +211,8 @@ module _ (c : Setting) (cs : List (Chronicle (List ℕ))) where
       by false h = item_read line (item_of line) refl e h
 
   -- what is written for lines of which none is refused is written for their parts
-  pub parted_text : (n : ℕ) (s : State) (ls : List Line) (text : List ℕ) → list_any is_refused (outcomes c s ls) ≡ false → IsTextFrom c cs n s ls text
+  pub parted_text : (n : ℕ) (s : State) (ls : List Line) (text : List ℕ) → list_any is_refused (outcomes c s ls) ≡ false
+      → IsTextFrom c cs n s ls text
       → IsPartsText (parts_of (items_of ls)) s.delay s.horizon s.accepted text
   parted_text n s [] text r t = t
   parted_text n s (l ∷ ls) text r t =

@@ -38,18 +38,21 @@ same_read x y a b s =
       change = ap (λ z. z.change) a.2 ∙ ap (λ (v : Event). v.change) e ∙ sym (ap (λ z. z.change) b.2);
     }
 
-points_same : (T : LogEntry → LogEntry → Type 0) → Twins T → (vs : List (EventDef (List ℕ))) (xs ys : List LogEntry) → AllZip T xs ys → flat_map point_text (zip vs xs) ≡ flat_map point_text (zip vs ys)
+points_same : (T : LogEntry → LogEntry → Type 0) → Twins T → (vs : List (EventDef (List ℕ))) (xs ys : List LogEntry) → AllZip T xs ys
+    → flat_map point_text (zip vs xs) ≡ flat_map point_text (zip vs ys)
 points_same T t [] xs ys z = refl
 points_same T t (v ∷ vs) [] [] z = refl
 points_same T t (v ∷ vs) [] (y ∷ ys) z = absurd z
 points_same T t (v ∷ vs) (x ∷ xs) [] z = absurd z
 points_same T t (v ∷ vs) (x ∷ xs) (y ∷ ys) z = λ i. (codes " " ++ v.point ++ codes "=" ++ decimal ((t.same x y z.0).date i)) ++ points_same T t vs xs ys z.1 i
 
-line_same : (T : LogEntry → LogEntry → Type 0) → Twins T → (c : Chronicle (List ℕ)) (mark : Mark) (a b : Assignment (List ℕ)) → Paired T a b → recognition_line c mark a ≡ recognition_line c mark b
+line_same : (T : LogEntry → LogEntry → Type 0) → Twins T → (c : Chronicle (List ℕ)) (mark : Mark) (a b : Assignment (List ℕ))
+    → Paired T a b → recognition_line c mark a ≡ recognition_line c mark b
 line_same T t c mark a b p = λ i.
     c.name ++ codes " at " ++ mark_text mark ++ points_same T t c.events a.entries b.entries p.entries i ++ flat_map value_text (zip c.variables (p.values i)) ++ 10 ∷ []
 
-lines_same : (T : LogEntry → LogEntry → Type 0) → Twins T → (c : Chronicle (List ℕ)) (mark : Mark) (xs ys : List (Assignment (List ℕ))) → AllZip (Paired T) xs ys
+lines_same : (T : LogEntry → LogEntry → Type 0) → Twins T → (c : Chronicle (List ℕ)) (mark : Mark) (xs ys : List (Assignment (List ℕ)))
+    → AllZip (Paired T) xs ys
     → flat_map (recognition_line c mark) xs ≡ flat_map (recognition_line c mark) ys
 lines_same T t c mark [] [] z = refl
 lines_same T t c mark [] (y ∷ ys) z = absurd z
@@ -57,7 +60,8 @@ lines_same T t c mark (x ∷ xs) [] z = absurd z
 lines_same T t c mark (x ∷ xs) (y ∷ ys) z = λ i. line_same T t c mark x y z.0 i ++ lines_same T t c mark xs ys z.1 i
 
 -- what is written at a mark
-one_mark : (T : LogEntry → LogEntry → Type 0) → Twins T → (xs ys : List LogEntry) → ((h : ℕ) → AllZip T (dated_before h xs) (dated_before h ys))
+one_mark : (T : LogEntry → LogEntry → Type 0) → Twins T → (xs ys : List LogEntry)
+    → ((h : ℕ) → AllZip T (dated_before h xs) (dated_before h ys))
     → (cs : List (Chronicle (List ℕ))) (mark : Mark) (g h : ℕ) (a b : List ℕ) → IsMarkText cs mark (view g xs) (view h xs) a → IsMarkText cs mark (view g ys) (view h ys) b → a ≡ b
 one_mark T t xs ys z [] mark g h a b p q = p ∙ sym q
 one_mark T t xs ys z (c ∷ cs) mark g h a b p q =
@@ -80,10 +84,12 @@ module _ (c : Setting) (cs : List (Chronicle (List ℕ))) where
     same = λ x y i j s. same_read x y (in_from_each IsRead xs m.left.read x i) (in_from_each IsRead ys m.right.read y j) s;
   }
 
-  marks : (xs ys : List LogEntry) → Match xs ys → (mark : Mark) (g h : ℕ) (a b : List ℕ) → IsMarkText cs mark (view g xs) (view h xs) a → IsMarkText cs mark (view g ys) (view h ys) b → a ≡ b
+  marks : (xs ys : List LogEntry) → Match xs ys → (mark : Mark) (g h : ℕ) (a b : List ℕ) → IsMarkText cs mark (view g xs) (view h xs) a
+      → IsMarkText cs mark (view g ys) (view h ys) b → a ≡ b
   marks xs ys m mark g h a b p q = let k = pairing xs ys (alike xs ys m) in one_mark k.0 k.1 xs ys k.2 cs mark g h a b p q
 
-  followed : (es fs : List Event) (xs ys us vs : List LogEntry) → ((z : Key) → sum_by (weight c cs z) fs ≡ sum_by (weight c cs z) es) → Match xs ys → Follow c cs es xs us → Follow c cs fs ys vs → Match us vs
+  followed : (es fs : List Event) (xs ys us vs : List LogEntry) → ((z : Key) → sum_by (weight c cs z) fs ≡ sum_by (weight c cs z) es)
+      → Match xs ys → Follow c cs es xs us → Follow c cs fs ys vs → Match us vs
   followed es fs xs ys us vs perm m f g = record {
     left = f.accepted m.left;
     right = g.accepted m.right;
@@ -102,7 +108,8 @@ module _ (c : Setting) (cs : List (Chronicle (List ℕ))) where
       let two : p.1 ≡ q.1 = rest p.1 q.1 p.3 q.3 in
       p.4 ∙ (λ i. one i ++ two i) ∙ sym q.4
 
-  ends : (o : Option Item) (d h : ℕ) (xs ys : List LogEntry) → Match xs ys → (R Q : ℕ → ℕ → List ℕ → Type 0) → ((d h : ℕ) (a b : List ℕ) → R d h a → Q d h b → a ≡ b)
+  ends : (o : Option Item) (d h : ℕ) (xs ys : List LogEntry) → Match xs ys → (R Q : ℕ → ℕ → List ℕ → Type 0)
+      → ((d h : ℕ) (a b : List ℕ) → R d h a → Q d h b → a ≡ b)
       → (a b : List ℕ) → IsEndText c cs o d h xs R a → IsEndText c cs o d h ys Q b → a ≡ b
   ends None d h xs ys m R Q rest a b p q = p ∙ sym q
   ends (Some (Delay n)) d h xs ys m R Q rest a b p q = rest n h a b p q
@@ -111,7 +118,8 @@ module _ (c : Setting) (cs : List (Chronicle (List ℕ))) where
   ends (Some (Happens e)) d h xs ys m R Q rest a b p q = absurd p
 
   -- parts that are rearranged have one text
-  one_text : (ps qs : List Part) → AllZip IsRearranged ps qs → (d h : ℕ) (xs ys : List LogEntry) → Match xs ys → (a b : List ℕ) → IsPartsText c cs ps d h xs a → IsPartsText c cs qs d h ys b → a ≡ b
+  one_text : (ps qs : List Part) → AllZip IsRearranged ps qs → (d h : ℕ) (xs ys : List LogEntry) → Match xs ys → (a b : List ℕ)
+      → IsPartsText c cs ps d h xs a → IsPartsText c cs qs d h ys b → a ≡ b
   one_text [] [] z d h xs ys m a b p q = p ∙ sym q
   one_text [] (r ∷ qs) z d h xs ys m a b p q = absurd z
   one_text (r ∷ ps) [] z d h xs ys m a b p q = absurd z
