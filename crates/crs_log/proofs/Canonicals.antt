@@ -1,5 +1,6 @@
 -- An event is told by its date and its canonical text.
-use Rattle.std.proofs.Common.{◌≡◌, ℕ, true, false, ◌&&◌, List, [], ◌∷◌, ◌++◌, refl, sym, ap, ◌∙◌, Option, Some, None, true≢false, arith, append_assoc}
+use Rattle.std.proofs.Common.{◌≡◌, ℕ, true, false, ◌&&◌, List, [], ◌∷◌, ◌++◌, refl, sym, ap, ◌∙◌, Option, Some, None, true≢false, arith}
+use Rattle.std.proofs.Common.{append_assoc}
 use Rattle.std.specs.Prelude.{nat_le, length}
 use Rattle.std.specs.List.{list_all}
 use Rattle.std.proofs.lemmas.Bool.{and_parts}
@@ -47,14 +48,21 @@ stops_more : (ps : List (List ℕ)) (t : List ℕ) → Stops (more_text ps ++ t)
 stops_more [] t = refl
 stops_more (p ∷ ps) t = refl
 
+-- a first argument
+first_same : (p q : List ℕ) (ps qs : List (List ℕ)) (t u : List ℕ) → is_symbol p ≡ true → is_symbol q ≡ true
+    → (p ++ more_text ps) ++ t ≡ (q ++ more_text qs) ++ u → (p ≡ q) × (more_text ps ++ t ≡ more_text qs ++ u)
+first_same p q ps qs t u h k e =
+    let inside : p ++ (more_text ps ++ t) ≡ q ++ (more_text qs ++ u) =
+    sym (append_assoc p (more_text ps) t) ∙ e ∙ append_assoc q (more_text qs) u in
+    cut p q (more_text ps ++ t) (more_text qs ++ u) (bytes_of_symbol p h) (bytes_of_symbol q k) (stops_more ps t) (stops_more qs u) inside
+
 more_same : (ps qs : List (List ℕ)) (t u : List ℕ) → AreSymbols ps → AreSymbols qs → more_text ps ++ t ≡ more_text qs ++ u
     → (ps ≡ qs) × (t ≡ u)
 more_same [] [] t u h k e = (refl, ap behind e)
 more_same [] (q ∷ qs) t u h k e = absurd (let n : 93 ≡ 44 = ap first e in omega arith)
 more_same (p ∷ ps) [] t u h k e = absurd (let n : 44 ≡ 93 = ap first e in omega arith)
 more_same (p ∷ ps) (q ∷ qs) t u h k e =
-    let inside : p ++ (more_text ps ++ t) ≡ q ++ (more_text qs ++ u) = sym (append_assoc p (more_text ps) t) ∙ ap behind e ∙ append_assoc q (more_text qs) u in
-    let one = cut p q (more_text ps ++ t) (more_text qs ++ u) (bytes_of_symbol p h.0) (bytes_of_symbol q k.0) (stops_more ps t) (stops_more qs u) inside in
+    let one = first_same p q ps qs t u h.0 k.0 (ap behind e) in
     let rest = more_same ps qs t u h.1 k.1 one.1 in
     ((λ i. one.0 i ∷ rest.0 i), rest.1)
 
@@ -68,11 +76,8 @@ args_same [] [] c d h k e = (refl, e)
 args_same [] (q ∷ qs) c d h k e = absurd (change_first c ((q ++ more_text qs) ++ change_text d) e)
 args_same (p ∷ ps) [] c d h k e = absurd (change_first d ((p ++ more_text ps) ++ change_text c) (sym e))
 args_same (p ∷ ps) (q ∷ qs) c d h k e =
-    let t : List ℕ = change_text c in
-    let u : List ℕ = change_text d in
-    let inside : p ++ (more_text ps ++ t) ≡ q ++ (more_text qs ++ u) = sym (append_assoc p (more_text ps) t) ∙ ap behind e ∙ append_assoc q (more_text qs) u in
-    let one = cut p q (more_text ps ++ t) (more_text qs ++ u) (bytes_of_symbol p h.0) (bytes_of_symbol q k.0) (stops_more ps t) (stops_more qs u) inside in
-    let rest = more_same ps qs t u h.1 k.1 one.1 in
+    let one = first_same p q ps qs (change_text c) (change_text d) h.0 k.0 (ap behind e) in
+    let rest = more_same ps qs (change_text c) (change_text d) h.1 k.1 one.1 in
     ((λ i. one.0 i ∷ rest.0 i), rest.1)
 
 change_same : (c d : Option Change) → IsChange c → IsChange d → change_text c ≡ change_text d → c ≡ d
@@ -82,7 +87,8 @@ change_same (Some c) None h k e = cc
 change_same (Some c) (Some d) h k e =
     let inside : c.0 ++ (44 ∷ (c.1 ++ 41 ∷ [])) ≡ d.0 ++ (44 ∷ (d.1 ++ 41 ∷ [])) =
     sym (append_assoc c.0 (44 ∷ c.1) (41 ∷ [])) ∙ ap behind (ap behind e) ∙ append_assoc d.0 (44 ∷ d.1) (41 ∷ []) in
-    let old = cut c.0 d.0 (44 ∷ (c.1 ++ 41 ∷ [])) (44 ∷ (d.1 ++ 41 ∷ [])) (bytes_of_symbol c.0 h.0) (bytes_of_symbol d.0 k.0) refl refl inside in
+    let old =
+    cut c.0 d.0 (44 ∷ (c.1 ++ 41 ∷ [])) (44 ∷ (d.1 ++ 41 ∷ [])) (bytes_of_symbol c.0 h.0) (bytes_of_symbol d.0 k.0) refl refl inside in
     let new = cut c.1 d.1 (41 ∷ []) (41 ∷ []) (bytes_of_symbol c.1 h.1) (bytes_of_symbol d.1 k.1) refl refl (ap behind old.1) in
     λ i. Some (old.0 i, new.0 i)
 
@@ -105,7 +111,8 @@ pub same_event : (e f : Event) → IsOfSymbols e → IsOfSymbols f → e.date �
     → canonical e.name e.args e.change ≡ canonical f.name f.args f.change → e ≡ f
 same_event e f h k date text =
     let parts : e.name ++ (args_text e.args ++ change_text e.change) ≡ f.name ++ (args_text f.args ++ change_text f.change) =
-    sym (append_assoc e.name (args_text e.args) (change_text e.change)) ∙ text ∙ append_assoc f.name (args_text f.args) (change_text f.change) in
+    sym (append_assoc e.name (args_text e.args) (change_text e.change))
+    ∙ text ∙ append_assoc f.name (args_text f.args) (change_text f.change) in
     let one = cut e.name f.name (args_text e.args ++ change_text e.change) (args_text f.args ++ change_text f.change)
     (bytes_of_symbol e.name h.name) (bytes_of_symbol f.name k.name) (stops_args e.args e.change) (stops_args f.args f.change) parts in
     let two = args_same e.args f.args e.change f.change h.args k.args one.1 in

@@ -1,9 +1,10 @@
 -- How often a date and a text are said in a list of entries, and lists in key order that say all as often.
-use Rattle.std.proofs.Common.{◌≡◌, ◌≢◌, ◌<◌, ◌⊎◌, ℕ, ◌+◌, Bool, true, false, cond, List, [], ◌∷◌, ◌++◌, refl, sym, ap, subst, ◌∙◌, inl, inr, arith, Ordering, Less, Equal, Greater, nat_cmp}
+use Rattle.std.proofs.Common.{◌≡◌, ◌≢◌, ◌<◌, ◌⊎◌, ℕ, ◌+◌, Bool, true, false, cond, List, [], ◌∷◌, ◌++◌, refl, sym, ap, subst, ◌∙◌, inl}
+use Rattle.std.proofs.Common.{inr, arith, Ordering, Less, Equal, Greater, nat_cmp}
 use Rattle.std.specs.List.{AllZip, AllByRecursion}
 use Rattle.std.specs.Ordering.{is_lt, ordering_reverse, ordering_then}
 use Rattle.crs_base.specs.Words.{IsIn, Ordered}
-use Rattle.crs_base.specs.Entry.{Key, key_cmp, Entry, entry_cmp}
+use Rattle.crs_base.specs.Entry.{Key, key_of, key_cmp, Entry, entry_cmp}
 use Rattle.crs_base.proofs.KeyOrder.{key_total, key_exact, entry_total}
 use Rattle.crs_base.proofs.Words.{each_from_in, in_from_each, ordered_to}
 use Rattle.crs_model.specs.Matching.{AreDistinct}
@@ -80,7 +81,8 @@ module _ {S : Type 0} where
 
   -- what is said by one that stands behind the first isn't below it
   not_above : (y x : Entry S) (ys : List (Entry S)) → AllByRecursion (Rises y) ys → IsIn x (y ∷ ys) → Rises y x
-  not_above y x ys o (inl e) g = absurd (let k : key_cmp (said y) (said x) ≡ Equal = ap (λ (w : Entry S). key_cmp (said y) (said w)) e ∙ key_itself (said y) in cc)
+  not_above y x ys o (inl e) g =
+      absurd (let k : key_cmp (said y) (said x) ≡ Equal = ap (λ (w : Entry S). key_cmp (said y) (said w)) e ∙ key_itself (said y) in cc)
   not_above y x ys o (inr i) g = in_from_each (Rises y) ys o x i g
 
   some_here : (x : Entry S) (xs : List (Entry S)) → 0 < ties (said x) (x ∷ xs)
@@ -100,7 +102,9 @@ module _ {S : Type 0} where
   same_said (x ∷ xs) (y ∷ ys) o p e =
       let below : Rises y x = first_below x y xs ys p.0 (e (said x)) in
       let above : Rises x y = first_below y x ys xs o.0 (sym (e (said y))) in
-      let first : said x ≡ said y = key_exact (said x) (said y) (neither_above (key_cmp (said x) (said y)) (key_cmp (said y) (said x)) (key_total.antisymm (said x) (said y)) above below) in
+      let first : said x ≡ said y =
+      key_exact (said x) (said y)
+      (neither_above (key_cmp (said x) (said y)) (key_cmp (said y) (said x)) (key_total.antisymm (said x) (said y)) above below) in
       (first, same_said xs ys o.1 p.1 (λ z. let m = e z in let k = ap (tie z) first in omega (arith, m, k)))
 
   ties_put : (z : Key) (e : Entry S) (xs : List (Entry S)) → ties z (put_in_order e xs) ≡ tie z (said e) + ties z xs
@@ -147,13 +151,15 @@ module _ {S : Type 0} where
   }
 
   same_arrival : (e y : Entry S) → entry_cmp e y ≡ Equal → e.arrival ≡ y.arrival
-  same_arrival e y h = ap (λ (k : Key). k.arrival) (key_exact (record { date = e.date; text = e.text; arrival = e.arrival }) (record { date = y.date; text = y.text; arrival = y.arrival }) h)
+  same_arrival e y h =
+      ap (λ (k : Key). k.arrival) (key_exact (key_of e) (key_of y) h)
 
   ordered_all : (sorted xs : List (Entry S)) → Ordered (λ a b. entry_cmp a b ≡ Less) sorted → AreDistinct xs
       → ((x y : Entry S) → IsIn x xs → IsIn y sorted → x.arrival ≢ y.arrival) → Ordered (λ a b. entry_cmp a b ≡ Less) (put_all sorted xs)
   ordered_all sorted [] o d k = o
   ordered_all sorted (e ∷ xs) o d k = ordered_all (put_in_order e sorted) xs
-      (ordered_put entry_total e sorted (each_from_in (λ y. entry_cmp e y ≢ Equal) sorted (λ y i q. k e y (inl refl) i (same_arrival e y q))) o)
+      (ordered_put entry_total e sorted
+      (each_from_in (λ y. entry_cmp e y ≢ Equal) sorted (λ y i q. k e y (inl refl) i (same_arrival e y q))) o)
       d.1
       (λ x y i j. elim (in_put entry_total e y sorted j) [
         | inl q ↦ (λ m. in_from_each (λ x. e.arrival ≢ x.arrival) xs d.0 x i (sym (m ∙ ap (λ z. z.arrival) q)))

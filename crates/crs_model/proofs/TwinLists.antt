@@ -32,13 +32,17 @@ module _ {S : Type 0} where
   -- what is new of entries is new of their twins
   new_on : (T : Entry S → Entry S → Type 0) → Twins T → (was was_other now now_other : List (Entry S)) → AllZip T was was_other
       → AllZip T now now_other
-      → (c : Chronicle S) (g h : ℕ) (a b : Assignment S) → Paired T a b → IsNewOver c was g now h a → IsNewOver c was_other g now_other h b
+      → (c : Chronicle S) (g h : ℕ) (a b : Assignment S) → Paired T a b → IsNewOver c was g now h a
+      → IsNewOver c was_other g now_other h b
   new_on T t was was_other now now_other z y c g h a b p n = (
     recognised_on T t now now_other y c h a b p.entries p.values n.0,
-    λ r. n.1 (recognised_on (flip T) (turned T t) was_other was (zip_turned T was was_other z) c g b a (zip_turned T a.entries b.entries p.entries) (sym p.values) r),
+    λ r.
+        let back : AllZip (flip T) b.entries a.entries = zip_turned T a.entries b.entries p.entries in
+        n.1 (recognised_on (flip T) (turned T t) was_other was (zip_turned T was was_other z) c g b a back (sym p.values) r),
   )
 
-  module _ (T : Entry S → Entry S → Type 0) (t : Twins T) (was was_other now now_other : List (Entry S)) (z : AllZip T was was_other) (y : AllZip T now now_other)
+  module _ (T : Entry S → Entry S → Type 0) (t : Twins T) (was was_other now now_other : List (Entry S)) (z : AllZip T was was_other)
+      (y : AllZip T now now_other)
       (c : Chronicle S) (g h : ℕ) where
     -- the assignment that is paired with a new one
     other : (a : Assignment S) → IsNewOver c was g now h a → (b : Assignment S) × Paired T a b
@@ -66,7 +70,8 @@ module _ {S : Type 0} where
     above a b [] [] p q k = tt
     above a b [] (d ∷ ys) p q k = absurd q
     above a b (x ∷ xs) [] p q k = absurd q
-    above a b (x ∷ xs) (d ∷ ys) p q k = (sym (rows_cmp T t a.entries b.entries x.entries d.entries p.entries q.0.entries) ∙ k.0, above a b xs ys p q.1 k.1)
+    above a b (x ∷ xs) (d ∷ ys) p q k =
+        (sym (rows_cmp T t a.entries b.entries x.entries d.entries p.entries q.0.entries) ∙ k.0, above a b xs ys p q.1 k.1)
 
     ascends : (xs ys : List (Assignment S)) → AllZip (Paired T) xs ys → Ordered (λ a b. assignment_cmp a b ≡ Less) xs
         → Ordered (λ a b. assignment_cmp a b ≡ Less) ys
@@ -90,17 +95,22 @@ module _ {S : Type 0} where
   -- the lists of the new ones are paired
   pub new_paired : (T : Entry S → Entry S → Type 0) → Twins T → (was was_other now now_other : List (Entry S)) → AllZip T was was_other
       → AllZip T now now_other
-      → (c : Chronicle S) (g h : ℕ) (xs ys : List (Assignment S)) → Lists assignment_cmp (IsNewOver c was g now h) xs → Lists assignment_cmp (IsNewOver c was_other g now_other h) ys
+      → (c : Chronicle S) (g h : ℕ) (xs ys : List (Assignment S)) → Lists assignment_cmp (IsNewOver c was g now h) xs
+      → Lists assignment_cmp (IsNewOver c was_other g now_other h) ys
       → AllZip (Paired T) xs ys
   new_paired T t was was_other now now_other z y c g h xs ys l m =
       let o = others T t was was_other now now_other z y c g h xs l.each in
       let each = each_new T t was was_other now now_other z y c g h xs o.0 o.1 l.each in
-      let same : o.0 ≡ ys = same_members assignments_total o.0 ys (ascends T t was was_other now now_other z y c g h xs o.0 o.1 l.ascending) m.ascending
+      let up = ascends T t was was_other now now_other z y c g h xs o.0 o.1 l.ascending in
+      let same : o.0 ≡ ys = same_members assignments_total o.0 ys up m.ascending
       (λ b i. m.all b (in_from_each (IsNewOver c was_other g now_other h) o.0 each b i))
       (λ b i.
       let n = in_from_each (IsNewOver c was_other g now_other h) ys m.each b i in
       let s = turned T t in
-      let back = other (flip T) s was_other was now_other now (zip_turned T was was_other z) (zip_turned T now now_other y) c g h b n in
-      let old = new_on (flip T) s was_other was now_other now (zip_turned T was was_other z) (zip_turned T now now_other y) c g h b back.0 back.1 n in
-      pair_in T t was was_other now now_other z y c g h xs o.0 o.1 back.0 b (l.all back.0 old) (paired_turned (flip T) b back.0 back.1)) in
-      subst (λ (bs : List (Assignment S)). AllZip (Paired T) xs bs) same o.1
+      let u = zip_turned T was was_other z in
+      let v = zip_turned T now now_other y in
+      let back = other (flip T) s was_other was now_other now u v c g h b n in
+      let old = new_on (flip T) s was_other was now_other now u v c g h b back.0 back.1 n in
+      let pair : Paired T back.0 b = paired_turned (flip T) b back.0 back.1 in
+      pair_in T t was was_other now now_other z y c g h xs o.0 o.1 back.0 b (l.all back.0 old) pair) in
+      subst (λ (zs : List (Assignment S)). AllZip (Paired T) xs zs) same o.1

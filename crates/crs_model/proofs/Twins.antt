@@ -1,12 +1,13 @@
 -- Entries that say the same under other arrival numbers, and what is recognised of them.
-use Rattle.std.proofs.Common.{◌≡◌, ◌≢◌, inl, inr, ℕ, zero, suc, ◌≤◌, ℤ, pos, ◌≤ℤ◌, ◌<ℤ◌, ◌+ℤ◌, List, [], ◌∷◌, map, refl, sym, ap, subst, ◌∙◌}
+use Rattle.std.proofs.Common.{◌≡◌, ◌≢◌, inl, inr, ℕ, zero, suc, ◌≤◌, ℤ, pos, ◌≤ℤ◌, ◌<ℤ◌, ◌+ℤ◌, List, [], ◌∷◌, map, refl, sym, ap, subst}
+use Rattle.std.proofs.Common.{◌∙◌}
 use Rattle.std.specs.Prelude.{Option, Some, IsSome, IsSomeAnd, slice_get}
 use Rattle.std.specs.List.{AllZip, AllByRecursion}
 use Rattle.std.specs.Cmp.Lexicographic.{slice_cmp}
 use Rattle.std.specs.Ordering.{ordering_then}
 use Rattle.crs_base.specs.Words.{IsIn}
 use Rattle.crs_base.specs.Entry.{Entry, entry_cmp}
-use Rattle.crs_base.specs.Values.{Attribute, IsChange, IsLastChange, HasValue}
+use Rattle.crs_base.specs.Values.{Attribute, IsChange, NewIs, IsLastChange, HasValue}
 use Rattle.crs_stn.specs.Bound.{MeetsInPart}
 use Rattle.crs_model.specs.Models.{Pattern, EventDef, Body, NoEvent, Occurs, Hold, Window, Chronicle}
 use Rattle.crs_model.specs.Matching.{Binding, PatternIs, Assignment, ChangeIs, TermIs, AreDistinct}
@@ -117,7 +118,11 @@ module _ {S : Type 0} where
     pattern_on : (look : Binding S) (p : Pattern S) (x y : Entry S) → T x y → PatternIs look p x → PatternIs look p y
     pattern_on look p x y t k =
         let s = twins.same x y t in
-        record { name = k.name ∙ s.name; terms = subst (AllZip (TermIs look) p.terms) s.args k.terms; change = subst (ChangeIs look p.change) s.change k.change }
+        record {
+          name = k.name ∙ s.name;
+          terms = subst (AllZip (TermIs look) p.terms) s.args k.terms;
+          change = subst (ChangeIs look p.change) s.change k.change;
+        }
 
     pattern_back : (look : Binding S) (p : Pattern S) (x y : Entry S) → T x y → PatternIs look p y → PatternIs look p x
     pattern_back look p x y t k =
@@ -148,7 +153,8 @@ module _ {S : Type 0} where
     all_dates ds es z = λ i p. date_at ds es z p i
 
     anchored : (ds es : List (Entry S)) → AllZip T ds es → (e : ℕ) (from offset : ℤ)
-        → IsSomeAnd (at (map Some ds) e) (λ x. from ≡ pos x.date +ℤ offset) → IsSomeAnd (at (map Some es) e) (λ x. from ≡ pos x.date +ℤ offset)
+        → IsSomeAnd (at (map Some ds) e) (λ x. from ≡ pos x.date +ℤ offset)
+        → IsSomeAnd (at (map Some es) e) (λ x. from ≡ pos x.date +ℤ offset)
     anchored [] [] z e from offset h = h
     anchored [] (b ∷ es) z e from offset h = absurd z
     anchored (a ∷ ds) [] z e from offset h = absurd z
@@ -171,8 +177,10 @@ module _ {S : Type 0} where
 
     is_count_on : (xs ys : List (Entry S)) → AllZip T xs ys → (look : Binding S) (p : Pattern S) (from to : ℤ) (n : ℕ)
         → IsCount xs look p from to n → IsCount ys look p from to n
-    is_count_on xs ys z look p from to n k = count_on (λ e. IsDatedIn from to e × PatternIs look p e) (λ e. IsDatedIn from to e × PatternIs look p e)
-        (λ x y t h. (dated_on from to x y t h.0, pattern_on look p x y t h.1)) (λ x y t h. (dated_back from to x y t h.0, pattern_back look p x y t h.1)) xs ys n z k
+    is_count_on xs ys z look p from to n k =
+        count_on (λ e. IsDatedIn from to e × PatternIs look p e) (λ e. IsDatedIn from to e × PatternIs look p e)
+        (λ x y t h. (dated_on from to x y t h.0, pattern_on look p x y t h.1))
+        (λ x y t h. (dated_back from to x y t h.0, pattern_back look p x y t h.1)) xs ys n z k
 
     change_on : (a : Attribute S) (x y : Entry S) → T x y → IsChange a x → IsChange a y
     change_on a x y t c =
@@ -205,7 +213,8 @@ module _ {S : Type 0} where
             greatest = λ d i c b.
                 let m = other d i in
                 let same = twins.same m.0 d m.2 in
-                let less : m.0.date ≤ x.date = l.greatest m.0 m.1 (change_back a m.0 d m.2 c) (subst (λ (n : ℕ). pos n ≤ℤ t) (sym same.date) b) in
+                let less : m.0.date ≤ x.date =
+                l.greatest m.0 m.1 (change_back a m.0 d m.2 c) (subst (λ (n : ℕ). pos n ≤ℤ t) (sym same.date) b) in
                 subst (λ (n : ℕ). d.date ≤ n) s.date (subst (λ (n : ℕ). n ≤ x.date) same.date less);
           }
 
@@ -228,7 +237,8 @@ module _ {S : Type 0} where
         changed = let m = partner xs ys z h.changed.0 h.changed.1.given in (m.0, last_on a t h.changed.0 m.0 m.2 h.changed.1);
         agreed = λ d l.
             let m = other d l.given in
-            subst (λ (c : Option (S × S)). IsSomeAnd c (λ c. c.1 ≡ v)) (twins.same m.0 d m.2).change (h.agreed m.0 (last_back a t m.0 d m.2 m.1 l));
+            let brings : NewIs v m.0 = h.agreed m.0 (last_back a t m.0 d m.2 m.1 l) in
+            subst (λ (c : Option (S × S)). IsSomeAnd c (λ c. c.1 ≡ v)) (twins.same m.0 d m.2).change brings;
       }
 
       so_on : (look : Binding S) (b : Body S) (from to : ℤ) → IsSo xs look b from to → IsSo ys look b from to
@@ -253,14 +263,15 @@ module _ {S : Type 0} where
       -- what is recognised of entries is recognised of their twins
       pub recognised_on : (c : Chronicle S) (h : ℕ) (a b : Assignment S) → AllZip T a.entries b.entries → a.values ≡ b.values
           → IsRecognised c xs xs h a → IsRecognised c ys ys h b
-      recognised_on c h a b p e r = subst (λ (vs : List S). IsRecognised c ys ys h (record { entries = b.entries; values = vs })) e (record {
-        assignment = record {
-          given = rows_in xs ys a.entries b.entries z p r.assignment.given;
-          distinct = distinct_on a.entries b.entries p r.assignment.distinct;
-          bound = r.assignment.bound;
-          equal = patterns_on (slice_get a.values) c.events a.entries b.entries p r.assignment.equal;
-          allowed = r.assignment.allowed;
-        };
-        bounds = subst (λ (d : ℕ → Option ℤ). MeetsInPart c.bounds d) (all_dates a.entries b.entries p) r.bounds;
-        windows = λ w i. met_on (slice_get a.values) a.entries b.entries p h w (r.windows w i);
-      })
+      recognised_on c h a b p e r =
+          subst (λ (vs : List S). IsRecognised c ys ys h (record { entries = b.entries; values = vs })) e (record {
+            assignment = record {
+              given = rows_in xs ys a.entries b.entries z p r.assignment.given;
+              distinct = distinct_on a.entries b.entries p r.assignment.distinct;
+              bound = r.assignment.bound;
+              equal = patterns_on (slice_get a.values) c.events a.entries b.entries p r.assignment.equal;
+              allowed = r.assignment.allowed;
+            };
+            bounds = subst (λ (d : ℕ → Option ℤ). MeetsInPart c.bounds d) (all_dates a.entries b.entries p) r.bounds;
+            windows = λ w i. met_on (slice_get a.values) a.entries b.entries p h w (r.windows w i);
+          })

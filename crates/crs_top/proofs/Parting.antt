@@ -1,5 +1,6 @@
 -- What is written for a log without refused lines, part by part.
-use Rattle.std.proofs.Common.{◌≡◌, ◌≢◌, ℕ, ◌+◌, ◌-◌, ◌<◌, Bool, true, false, cond, List, [], ◌∷◌, ◌++◌, length, refl, sym, ap, subst, ◌∙◌, arith, true≢false, Option, Some, None, inl, inr, length-append}
+use Rattle.std.proofs.Common.{◌≡◌, ◌≢◌, ℕ, ◌+◌, ◌-◌, ◌<◌, Bool, true, false, cond, List, [], ◌∷◌, ◌++◌, length, refl, sym, ap, subst, ◌∙◌}
+use Rattle.std.proofs.Common.{arith, true≢false, Option, Some, None, inl, inr, length-append}
 use Rattle.std.specs.Prelude.{◌||◌, nat_lt, nat_le, flat_map}
 use Rattle.std.specs.List.{AllZip, AllByRecursion, list_any, sum_by}
 use Rattle.std.proofs.lemmas.Bool.{or_parts}
@@ -19,7 +20,8 @@ use Rattle.crs_log.specs.ItemOf.{What, Empty, Is, Faulty, what_of, what_is, item
 use Rattle.crs_base.specs.Lines.{is_passed_over}
 use Rattle.crs_log.specs.Known.{Verdict, Other, Named, BadArity, BadValue, known_of, entry_of_event, texts_of, new_texts}
 use Rattle.crs_log.specs.Run as run
-use Rattle.crs_log.specs.Run.{Setting, State, Outcome, Passed, Refused, Accepted, Marked, is_met, is_out_of_order, after_line, after_what, after_item, after_ordered, after_verdict, after_named, outcomes, end_date, with_entry}
+use Rattle.crs_log.specs.Run.{Setting, State, Outcome, Passed, Refused, Accepted, Marked, is_met, is_out_of_order, after_line, after_what}
+use Rattle.crs_log.specs.Run.{after_item, after_ordered, after_verdict, after_named, outcomes, end_date, with_entry}
 use Rattle.crs_log.specs.Recognitions.{View, view_of}
 use Rattle.crs_log.proofs.Canonicals.{IsOfSymbols, read_of_symbols}
 use Rattle.crs_top.specs.Texts.{LogEntry, IsMarkText, IsLineText, IsTextFrom, is_refused}
@@ -56,7 +58,8 @@ module _ (c : Setting) (cs : List (Chronicle (List ℕ))) where
 
   -- what is written at a mark, where the horizon rises from g to h, and behind it
   abbrev pub IsMarkedText : Mark → ℕ → ℕ → List LogEntry → (List ℕ → Type 0) → List ℕ → Type 0
-  IsMarkedText mark g h xs Rest text = (first : List ℕ) × (rest : List ℕ) × IsMarkText cs mark (view g xs) (view h xs) first × Rest rest × (text ≡ first ++ rest)
+  IsMarkedText mark g h xs Rest text =
+      (first : List ℕ) × (rest : List ℕ) × IsMarkText cs mark (view g xs) (view h xs) first × Rest rest × (text ≡ first ++ rest)
 
   -- what is written for the item behind the events, and for the rest, by its delay and horizon
   abbrev pub IsEndText : Option Item → ℕ → ℕ → List LogEntry → (ℕ → ℕ → List ℕ → Type 0) → List ℕ → Type 0
@@ -68,7 +71,8 @@ module _ (c : Setting) (cs : List (Chronicle (List ℕ))) where
 
   abbrev pub IsPartsText : List Part → ℕ → ℕ → List LogEntry → List ℕ → Type 0
   IsPartsText [] d h xs text = text ≡ []
-  IsPartsText (p ∷ ps) d h xs text = (ys : List LogEntry) × Follow p.events xs ys × IsEndText p.ending d h ys (λ d h t. IsPartsText ps d h ys t) text
+  IsPartsText (p ∷ ps) d h xs text =
+      (ys : List LogEntry) × Follow p.events xs ys × IsEndText p.ending d h ys (λ d h t. IsPartsText ps d h ys t) text
 
   same_follow : (xs : List LogEntry) → Follow [] xs xs
   same_follow xs = record { accepted = λ a. a; ties = λ z. omega arith }
@@ -95,7 +99,9 @@ module _ (c : Setting) (cs : List (Chronicle (List ℕ))) where
 
   -- from what is told behind a line to what is told of it too
   abbrev Steps : ℕ → State → List Item → What → State × Outcome → Type 0
-  Steps n s items w r = is_refused r.1 ≡ false → (first rest text : List ℕ) → IsLineText cs n s r first → IsToldFrom r.0 items rest → text ≡ first ++ rest → IsToldFrom s (items_in w ++ items) text
+  Steps n s items w r =
+      is_refused r.1 ≡ false → (first rest text : List ℕ) → IsLineText cs n s r first → IsToldFrom r.0 items rest → text ≡ first ++ rest
+      → IsToldFrom s (items_in w ++ items) text
 
   nothing_first : (s : State) (items : List Item) (first rest text : List ℕ) → first ≡ [] → text ≡ first ++ rest → IsToldFrom s items rest
       → IsToldFrom s items text
@@ -107,7 +113,8 @@ module _ (c : Setting) (cs : List (Chronicle (List ℕ))) where
       → sum_by (weight z) (e ∷ []) ≡ taken v (tie z (said (entry_of_event 0 e)))
   weight_by z e v k =
       let one : sum_by (weight z) (e ∷ []) ≡ weight z e + sum_by (weight z) [] = sum_by-cons (weight z) e [] in
-      let same : weight z e ≡ taken v (tie z (said (entry_of_event 0 e))) = ap (λ (v : Verdict). taken v (tie z (said (entry_of_event 0 e)))) k in
+      let same : weight z e ≡ taken v (tie z (said (entry_of_event 0 e))) =
+      ap (λ (v : Verdict). taken v (tie z (said (entry_of_event 0 e)))) k in
       let none : sum_by (weight z) [] ≡ 0 = refl in
       omega (arith, one, same, none)
 
@@ -120,12 +127,18 @@ module _ (c : Setting) (cs : List (Chronicle (List ℕ))) where
       let long : length (xs ++ new ∷ []) ≡ length xs + 1 = length-append xs (new ∷ []) in
       record {
         distinct = ordered_append (λ d e. d.arrival ≢ e.arrival) xs (new ∷ []) a.distinct (tt, tt) (λ x y i j. elim j [
-          | inl q ↦ (λ m. let b = in_from_each (λ x. x.arrival < length xs) xs a.below x i in let k : y.arrival ≡ length xs = ap (λ z. z.arrival) q in absurd (omega (arith, b, k, m)))
+          | inl q ↦ (λ m.
+              let b = in_from_each (λ x. x.arrival < length xs) xs a.below x i in
+              let k : y.arrival ≡ length xs = ap (λ z. z.arrival) q in
+              absurd (omega (arith, b, k, m)))
           | inr n ↦ absurd n
         ]);
         below = each_from_in (λ x. x.arrival < length (xs ++ new ∷ [])) (xs ++ new ∷ []) (λ x i. elim (in_append xs (new ∷ []) x i) [
           | inl k ↦ (let b = in_from_each (λ x. x.arrival < length xs) xs a.below x k in omega (arith, b, long))
-          | inr k ↦ (elim k [ inl q ↦ (let m : x.arrival ≡ length xs = ap (λ z. z.arrival) q in omega (arith, m, long)) | inr n ↦ absurd n ])
+          | inr k ↦ (elim k [
+            | inl q ↦ (let m : x.arrival ≡ length xs = ap (λ z. z.arrival) q in omega (arith, m, long))
+            | inr n ↦ absurd n
+          ])
         ]);
         read = each_from_in IsRead (xs ++ new ∷ []) (λ x i. elim (in_append xs (new ∷ []) x i) [
           | inl k ↦ in_from_each IsRead xs a.read x k
@@ -139,7 +152,8 @@ module _ (c : Setting) (cs : List (Chronicle (List ℕ))) where
     accepted = one_more e xs s;
     ties = λ z.
         let w : sum_by (weight z) (e ∷ []) ≡ tie z (said (entry_of_event 0 e)) = weight_by z e (Named place) k in
-        let l : ties z (xs ++ entry_of_event (length xs) e ∷ []) ≡ ties z xs + tie z (said (entry_of_event 0 e)) = ties_last z xs (entry_of_event (length xs) e) in
+        let l : ties z (xs ++ entry_of_event (length xs) e ∷ []) ≡ ties z xs + tie z (said (entry_of_event 0 e)) =
+        ties_last z xs (entry_of_event (length xs) e) in
         omega (arith, w, l);
   }
 
@@ -147,57 +161,60 @@ module _ (c : Setting) (cs : List (Chronicle (List ℕ))) where
     never : (w : What) (after : State) (f : run.Fault) → Steps n s items w (after, Refused f)
     never w after f r = absurd (true≢false r)
 
+    unless : (w : What) (b : Bool) (after : State) (f : run.Fault) (r : State × Outcome) → Steps n s items w r
+        → Steps n s items w (cond b (after, Refused f) r)
+    unless w true after f r h = never w after f
+    unless w false after f r h = h
+
+    provided : (w : What) (b : Bool) (f : run.Fault) (r : State × Outcome) → Steps n s items w r
+        → Steps n s items w (cond b r (s, Refused f))
+    provided w true f r h = h
+    provided w false f r h = never w s f
+
+    abbrev new : Event → LogEntry
+    new e = entry_of_event (length s.accepted) e
+
+    abbrev has_place : Event → Bool
+    has_place e = nat_le (length s.texts + length (new_texts s.texts (texts_of e))) c.symbols
+
     steps_named : (e : Event) (place : ℕ) → IsOfSymbols e → known_of c.names e ≡ Named place
         → Steps n s items (Is (Happens e)) (after_named c s e)
-    steps_named e place k v = by (nat_lt (length s.accepted) c.entries) (nat_le (length s.texts + length (new_texts s.texts (texts_of e))) c.symbols)
-      where
-        by : (p q : Bool)
-            → Steps n s items (Is (Happens e)) (cond p (cond q (with_entry s (entry_of_event (length s.accepted) e) e, Accepted (entry_of_event (length s.accepted) e)) (s, Refused (run.Values c.symbols))) (s, Refused (run.Full c.entries)))
-        by true true = λ r first rest text o t x.
-            led e (parts_of items) s.delay s.horizon s.accepted (s.accepted ++ entry_of_event (length s.accepted) e ∷ []) text (added e s.accepted place k v)
-            (nothing_first (with_entry s (entry_of_event (length s.accepted) e) e) items first rest text o x t)
-        by true false = never (Is (Happens e)) s (run.Values c.symbols)
-        by false q = never (Is (Happens e)) s (run.Full c.entries)
+    steps_named e place k v =
+        provided (Is (Happens e)) (nat_lt (length s.accepted) c.entries) (run.Full c.entries)
+        (cond (has_place e) (with_entry s (new e) e, Accepted (new e)) (s, Refused (run.Values c.symbols)))
+        (provided (Is (Happens e)) (has_place e) (run.Values c.symbols) (with_entry s (new e) e, Accepted (new e))
+        (λ r first rest text o t x.
+            led e (parts_of items) s.delay s.horizon s.accepted (s.accepted ++ new e ∷ []) text (added e s.accepted place k v)
+            (nothing_first (with_entry s (new e) e) items first rest text o x t)))
 
     steps_verdict : (e : Event) (v : Verdict) → IsOfSymbols e → known_of c.names e ≡ v
         → Steps n s items (Is (Happens e)) (after_verdict c s e v)
     steps_verdict e Other k v = λ r first rest text o t x.
-        led e (parts_of items) s.delay s.horizon s.accepted s.accepted text (passed e s.accepted v) (nothing_first s items first rest text o x t)
+        led e (parts_of items) s.delay s.horizon s.accepted s.accepted text (passed e s.accepted v)
+        (nothing_first s items first rest text o x t)
     steps_verdict e BadArity k v = never (Is (Happens e)) s run.Arity
     steps_verdict e BadValue k v = never (Is (Happens e)) s run.Value
     steps_verdict e (Named place) k v = steps_named e place k v
 
     steps_ordered : (item : Item) → ((e : Event) → Is item ≡ Is (Happens e) → IsOfSymbols e)
         → Steps n s items (Is item) (after_ordered c s item)
-    steps_ordered (Delay d) k = λ r first rest text o t x. (s.accepted, same_follow s.accepted, nothing_first (record s { delay = d }) items first rest text o x t)
-    steps_ordered (Clock t) k = by (nat_lt t s.last)
-      where
-        by : (b : Bool)
-            → Steps n s items (Is (Clock t)) (cond b (s, Refused (run.Back t s.last)) (record s { last = t; horizon = t - s.delay }, Marked (AtClock t)))
-        by true = never (Is (Clock t)) s (run.Back t s.last)
-        by false = λ r first rest text o u x. (s.accepted, same_follow s.accepted, (first, rest, o, u, x))
+    steps_ordered (Delay d) k = λ r first rest text o t x.
+        (s.accepted, same_follow s.accepted, nothing_first (record s { delay = d }) items first rest text o x t)
+    steps_ordered (Clock t) k =
+        unless (Is (Clock t)) (nat_lt t s.last) s (run.Back t s.last) (record s { last = t; horizon = t - s.delay }, Marked (AtClock t))
+        (λ r first rest text o u x. (s.accepted, same_follow s.accepted, (first, rest, o, u, x)))
     steps_ordered Finish k = λ r first rest text o t x. (s.accepted, same_follow s.accepted, (first, rest, o, t, x))
-    steps_ordered (Happens e) k = by (nat_lt e.date s.horizon)
-      where
-        by : (b : Bool)
-            → Steps n s items (Is (Happens e)) (cond b (s, Refused (run.Late e.date s.horizon)) (after_verdict c s e (known_of c.names e)))
-        by true = never (Is (Happens e)) s (run.Late e.date s.horizon)
-        by false = steps_verdict e (known_of c.names e) (k e refl) refl
+    steps_ordered (Happens e) k =
+        unless (Is (Happens e)) (nat_lt e.date s.horizon) s (run.Late e.date s.horizon) (after_verdict c s e (known_of c.names e))
+        (steps_verdict e (known_of c.names e) (k e refl) refl)
 
   steps_what : (n : ℕ) (s : State) (items : List Item) (w : What) → ((e : Event) → w ≡ Is (Happens e) → IsOfSymbols e)
       → Steps n s items w (after_what c s w)
   steps_what n s items Empty k = λ r first rest text o t x. nothing_first s items first rest text o x t
   steps_what n s items Faulty k = never n s items Faulty s run.Form
-  steps_what n s items (Is item) k = by (is_out_of_order s item)
-    where
-      by : (b : Bool) → Steps n s items (Is item) (cond b (is_met s, Refused run.Order) (after_ordered c (is_met s) item))
-      by true = never n s items (Is item) (is_met s) run.Order
-      by false = steps_ordered n (is_met s) items item k
-
-  steps_line : (n : ℕ) (s : State) (items : List Item) (w : What) (b : Bool) → ((e : Event) → w ≡ Is (Happens e) → IsOfSymbols e)
-      → Steps n s items w (cond b (s, Refused run.TooLong) (after_what c s w))
-  steps_line n s items w true k = never n s items w s run.TooLong
-  steps_line n s items w false k = steps_what n s items w k
+  steps_what n s items (Is item) k =
+      unless n s items (Is item) (is_out_of_order s item) (is_met s) run.Order (after_ordered c (is_met s) item)
+      (steps_ordered n (is_met s) items item k)
 
   item_read : (line : List ℕ) (o : Option Item) → item_of line ≡ o → (e : Event) → what_is o ≡ Is (Happens e) → IsOfSymbols e
   item_read line None k e h = cc
@@ -218,4 +235,5 @@ module _ (c : Setting) (cs : List (Chronicle (List ℕ))) where
   parted_text n s (l ∷ ls) text r t =
       let fine = or_parts (is_refused (after_line c s l).1) (list_any is_refused (outcomes c (after_line c s l).0 ls)) r in
       let rest = parted_text (n + 1) (after_line c s l).0 ls t.1 fine.1 t.3 in
-      steps_line n s (items_of ls) (what_of (bytes_of l)) (is_long l) (line_read (bytes_of l)) fine.0 t.0 t.1 text t.2 rest t.4
+      unless n s (items_of ls) (what_of (bytes_of l)) (is_long l) s run.TooLong (after_what c s (what_of (bytes_of l)))
+      (steps_what n s (items_of ls) (what_of (bytes_of l)) (line_read (bytes_of l))) fine.0 t.0 t.1 text t.2 rest t.4

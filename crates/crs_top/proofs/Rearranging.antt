@@ -29,7 +29,8 @@ use Rattle.crs_top.proofs.Parting.{IsRead, AreAccepted, view, weight, Follow, Is
 same_read : (x y : LogEntry) → IsRead x → IsRead y → Says x y → Same x y
 same_read x y a b s =
     let date : a.0.date ≡ b.0.date = sym (ap (λ z. z.date) a.2) ∙ ap (λ (k : Key). k.date) s ∙ ap (λ z. z.date) b.2 in
-    let text : canonical a.0.name a.0.args a.0.change ≡ canonical b.0.name b.0.args b.0.change = sym (ap (λ z. z.text) a.2) ∙ ap (λ (k : Key). k.text) s ∙ ap (λ z. z.text) b.2 in
+    let text : canonical a.0.name a.0.args a.0.change ≡ canonical b.0.name b.0.args b.0.change =
+    sym (ap (λ z. z.text) a.2) ∙ ap (λ (k : Key). k.text) s ∙ ap (λ z. z.text) b.2 in
     let e : a.0 ≡ b.0 = same_event a.0 b.0 a.1 b.1 date text in
     record {
       date = ap (λ (k : Key). k.date) s;
@@ -44,12 +45,14 @@ points_same T t [] xs ys z = refl
 points_same T t (v ∷ vs) [] [] z = refl
 points_same T t (v ∷ vs) [] (y ∷ ys) z = absurd z
 points_same T t (v ∷ vs) (x ∷ xs) [] z = absurd z
-points_same T t (v ∷ vs) (x ∷ xs) (y ∷ ys) z = λ i. (codes " " ++ v.point ++ codes "=" ++ decimal ((t.same x y z.0).date i)) ++ points_same T t vs xs ys z.1 i
+points_same T t (v ∷ vs) (x ∷ xs) (y ∷ ys) z =
+    λ i. (codes " " ++ v.point ++ codes "=" ++ decimal ((t.same x y z.0).date i)) ++ points_same T t vs xs ys z.1 i
 
 line_same : (T : LogEntry → LogEntry → Type 0) → Twins T → (c : Chronicle (List ℕ)) (mark : Mark) (a b : Assignment (List ℕ))
     → Paired T a b → recognition_line c mark a ≡ recognition_line c mark b
 line_same T t c mark a b p = λ i.
-    c.name ++ codes " at " ++ mark_text mark ++ points_same T t c.events a.entries b.entries p.entries i ++ flat_map value_text (zip c.variables (p.values i)) ++ 10 ∷ []
+    c.name ++ codes " at " ++ mark_text mark ++ points_same T t c.events a.entries b.entries p.entries i
+    ++ flat_map value_text (zip c.variables (p.values i)) ++ 10 ∷ []
 
 lines_same : (T : LogEntry → LogEntry → Type 0) → Twins T → (c : Chronicle (List ℕ)) (mark : Mark) (xs ys : List (Assignment (List ℕ)))
     → AllZip (Paired T) xs ys
@@ -62,10 +65,12 @@ lines_same T t c mark (x ∷ xs) (y ∷ ys) z = λ i. line_same T t c mark x y z
 -- what is written at a mark
 one_mark : (T : LogEntry → LogEntry → Type 0) → Twins T → (xs ys : List LogEntry)
     → ((h : ℕ) → AllZip T (dated_before h xs) (dated_before h ys))
-    → (cs : List (Chronicle (List ℕ))) (mark : Mark) (g h : ℕ) (a b : List ℕ) → IsMarkText cs mark (view g xs) (view h xs) a → IsMarkText cs mark (view g ys) (view h ys) b → a ≡ b
+    → (cs : List (Chronicle (List ℕ))) (mark : Mark) (g h : ℕ) (a b : List ℕ) → IsMarkText cs mark (view g xs) (view h xs) a
+    → IsMarkText cs mark (view g ys) (view h ys) b → a ≡ b
 one_mark T t xs ys z [] mark g h a b p q = p ∙ sym q
 one_mark T t xs ys z (c ∷ cs) mark g h a b p q =
-    let new = new_paired T t (dated_before g xs) (dated_before g ys) (dated_before h xs) (dated_before h ys) (z g) (z h) c g h p.0 q.0 p.2 q.2 in
+    let new =
+    new_paired T t (dated_before g xs) (dated_before g ys) (dated_before h xs) (dated_before h ys) (z g) (z h) c g h p.0 q.0 p.2 q.2 in
     let rest : p.1 ≡ q.1 = one_mark T t xs ys z cs mark g h p.1 q.1 p.3 q.3 in
     p.4 ∙ (λ i. lines_same T t c mark p.0 q.0 new i ++ rest i) ∙ sym q.4
 
@@ -113,8 +118,10 @@ module _ (c : Setting) (cs : List (Chronicle (List ℕ))) where
       → (a b : List ℕ) → IsEndText c cs o d h xs R a → IsEndText c cs o d h ys Q b → a ≡ b
   ends None d h xs ys m R Q rest a b p q = p ∙ sym q
   ends (Some (Delay n)) d h xs ys m R Q rest a b p q = rest n h a b p q
-  ends (Some (Clock t)) d h xs ys m R Q rest a b p q = marked xs ys m (AtClock t) h (t - d) (R d (t - d)) (Q d (t - d)) (rest d (t - d)) a b p q
-  ends (Some Finish) d h xs ys m R Q rest a b p q = marked xs ys m AtEnd h end_date (R d end_date) (Q d end_date) (rest d end_date) a b p q
+  ends (Some (Clock t)) d h xs ys m R Q rest a b p q =
+      marked xs ys m (AtClock t) h (t - d) (R d (t - d)) (Q d (t - d)) (rest d (t - d)) a b p q
+  ends (Some Finish) d h xs ys m R Q rest a b p q =
+      marked xs ys m AtEnd h end_date (R d end_date) (Q d end_date) (rest d end_date) a b p q
   ends (Some (Happens e)) d h xs ys m R Q rest a b p q = absurd p
 
   -- parts that are rearranged have one text
@@ -124,7 +131,8 @@ module _ (c : Setting) (cs : List (Chronicle (List ℕ))) where
   one_text [] (r ∷ qs) z d h xs ys m a b p q = absurd z
   one_text (r ∷ ps) [] z d h xs ys m a b p q = absurd z
   one_text (r ∷ ps) (s ∷ qs) z d h xs ys m a b p q =
-      let n : Match p.0 q.0 = followed r.events s.events xs ys p.0 q.0 (λ k. sum_by-IsPermutation (weight c cs k) r.events s.events z.0.events) m p.1 q.1 in
+      let n : Match p.0 q.0 =
+      followed r.events s.events xs ys p.0 q.0 (λ k. sum_by-IsPermutation (weight c cs k) r.events s.events z.0.events) m p.1 q.1 in
       let other : IsEndText c cs r.ending d h q.0 (λ d h t. IsPartsText c cs qs d h q.0 t) b =
       subst (λ (o : Option Item). IsEndText c cs o d h q.0 (λ d h t. IsPartsText c cs qs d h q.0 t) b) (sym z.0.ending) q.2 in
       ends r.ending d h p.0 q.0 n (λ d h t. IsPartsText c cs ps d h p.0 t) (λ d h t. IsPartsText c cs qs d h q.0 t)
@@ -135,5 +143,6 @@ rearranged_logs_have_one_text f xs ys a b r s z p q =
     let c : Setting = setting_of f in
     let cs : List (Chronicle (List ℕ)) = f.models.chronicles in
     let none : AreAccepted [] = record { distinct = tt; below = tt; read = tt } in
-    one_text c cs (parts_of (items_of xs)) (parts_of (items_of ys)) z 0 0 [] [] (record { left = none; right = none; ties = λ z. refl }) a b
+    let start : Match c cs [] [] = record { left = none; right = none; ties = λ z. refl } in
+    one_text c cs (parts_of (items_of xs)) (parts_of (items_of ys)) z 0 0 [] [] start a b
     (parted_text c cs 1 (at_start f.texts) xs a r p) (parted_text c cs 1 (at_start f.texts) ys b s q)

@@ -57,4 +57,5 @@ NoneIsRefused f lines = list_any is_refused (outcomes (setting_of f) (at_start f
 -- what is written for two logs without refused lines that are rearranged is the same
 abbrev pub RearrangedLogsHaveOneText : Type 0
 RearrangedLogsHaveOneText =
-    (f : Frame) (xs ys : List Line) (a b : List ℕ) → NoneIsRefused f xs → NoneIsRefused f ys → AreRearranged xs ys → IsTextOf f xs a → IsTextOf f ys b → a ≡ b
+    (f : Frame) (xs ys : List Line) (a b : List ℕ) → NoneIsRefused f xs → NoneIsRefused f ys → AreRearranged xs ys
+    → IsTextOf f xs a → IsTextOf f ys b → a ≡ b
