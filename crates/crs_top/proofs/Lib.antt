@@ -15,6 +15,7 @@ pub mod Preparing
 pub mod OneText
 pub mod Parting
 pub mod Rearranging
+mod RearrangedRows
 pub mod Loads
 pub mod Listed
 mod Rows

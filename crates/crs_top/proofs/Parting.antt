@@ -1,17 +1,16 @@
 -- What is written for a log without refused lines, part by part.
 use Rattle.std.proofs.Common.{◌≡◌, ◌≢◌, ℕ, ◌+◌, ◌-◌, ◌<◌, Bool, true, false, cond, List, [], ◌∷◌, ◌++◌, length, refl, sym, ap, subst, ◌∙◌}
 use Rattle.std.proofs.Common.{arith, true≢false, Option, Some, None, inl, inr, length-append}
-use Rattle.std.specs.Prelude.{◌||◌, nat_lt, nat_le, flat_map}
-use Rattle.std.specs.List.{AllZip, AllByRecursion, list_any, sum_by}
+use Rattle.std.specs.Prelude.{nat_lt, nat_le}
+use Rattle.std.specs.List.{AllByRecursion, list_any, sum_by}
 use Rattle.std.proofs.lemmas.Bool.{or_parts}
 use Rattle.std.proofs.lemmas.List.Sums.{sum_by-cons}
-use Rattle.crs_base.specs.Entry.{Key, Entry, canonical}
+use Rattle.crs_base.specs.Entry.{Key}
 use Rattle.crs_base.specs.Lines.{Line, bytes_of, is_long}
-use Rattle.crs_base.specs.Words.{IsIn, Ordered}
 use Rattle.crs_base.proofs.Words.{each_from_in, in_from_each, in_append, ordered_append}
 use Rattle.crs_model.specs.declared.recognition.Mark.{Mark}
 use Rattle.crs_model.specs.declared.recognition.Mark.TheVariants.{Clock as AtClock, Finish as AtEnd}
-use Rattle.crs_model.specs.Models.{Chronicle, Name}
+use Rattle.crs_model.specs.Models.{Chronicle}
 use Rattle.crs_model.specs.Matching.{AreDistinct}
 use Rattle.crs_model.specs.Order.{dated_before}
 use Rattle.crs_model.proofs.Ties.{tie, said, ties, ties_last}
@@ -22,7 +21,7 @@ use Rattle.crs_log.specs.Known.{Verdict, Other, Named, BadArity, BadValue, known
 use Rattle.crs_log.specs.Run as run
 use Rattle.crs_log.specs.Run.{Setting, State, Outcome, Passed, Refused, Accepted, Marked, is_met, is_out_of_order, after_line, after_what}
 use Rattle.crs_log.specs.Run.{after_item, after_ordered, after_verdict, after_named, outcomes, end_date, with_entry}
-use Rattle.crs_log.specs.Recognitions.{View, view_of}
+use Rattle.crs_log.specs.Recognitions.{View}
 use Rattle.crs_log.proofs.Canonicals.{IsOfSymbols, read_of_symbols}
 use Rattle.crs_top.specs.Texts.{LogEntry, IsMarkText, IsLineText, IsTextFrom, is_refused}
 use Rattle.crs_top.specs.Rearranged.{Part, items_in, items_of, led_by, parts_of}
@@ -184,8 +183,8 @@ module _ (c : Setting) (cs : List (Chronicle (List ℕ))) where
         (cond (has_place e) (with_entry s (new e) e, Accepted (new e)) (s, Refused (run.Values c.symbols)))
         (provided (Is (Happens e)) (has_place e) (run.Values c.symbols) (with_entry s (new e) e, Accepted (new e))
         (λ r first rest text o t x.
-            led e (parts_of items) s.delay s.horizon s.accepted (s.accepted ++ new e ∷ []) text (added e s.accepted place k v)
-            (nothing_first (with_entry s (new e) e) items first rest text o x t)))
+        led e (parts_of items) s.delay s.horizon s.accepted (s.accepted ++ new e ∷ []) text (added e s.accepted place k v)
+        (nothing_first (with_entry s (new e) e) items first rest text o x t)))
 
     steps_verdict : (e : Event) (v : Verdict) → IsOfSymbols e → known_of c.names e ≡ v
         → Steps n s items (Is (Happens e)) (after_verdict c s e v)

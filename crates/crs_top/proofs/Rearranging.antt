@@ -1,27 +1,24 @@
 -- Logs that are rearranged have one text.
-use Rattle.std.proofs.Common.{◌≡◌, ℕ, ◌+◌, List, [], ◌∷◌, ◌++◌, length, refl, sym, ap, subst, ◌∙◌, arith, Option, Some, None}
+use Rattle.std.proofs.Common.{◌≡◌, ℕ, ◌+◌, List, [], ◌∷◌, ◌++◌, refl, sym, ap, subst, ◌∙◌, arith, Option, Some, None}
 use Rattle.std.specs.Prelude.{flat_map, zip, decimal, codes, ◌-◌}
-use Rattle.std.specs.List.{AllZip, AllByRecursion, sum_by}
+use Rattle.std.specs.List.{AllZip, sum_by}
 use Rattle.std.proofs.lemmas.List.Sorted.{sum_by-IsPermutation}
-use Rattle.crs_base.specs.Entry.{Key, Entry, canonical}
-use Rattle.crs_base.specs.Lines.{Line}
-use Rattle.crs_base.specs.Words.{IsIn}
+use Rattle.crs_base.specs.Entry.{Key, canonical}
 use Rattle.crs_base.proofs.Words.{in_from_each}
 use Rattle.crs_model.specs.declared.recognition.Mark.{Mark}
 use Rattle.crs_model.specs.declared.recognition.Mark.TheVariants.{Clock as AtClock, Finish as AtEnd}
 use Rattle.crs_model.specs.Models.{Chronicle, EventDef}
 use Rattle.crs_model.specs.Matching.{Assignment}
 use Rattle.crs_model.specs.Order.{dated_before}
-use Rattle.crs_model.proofs.Ties.{said, ties, Says}
+use Rattle.crs_model.proofs.Ties.{ties, Says}
 use Rattle.crs_model.proofs.Twins.{Same, Twins}
 use Rattle.crs_model.proofs.TwinLists.{Paired, new_paired}
 use Rattle.crs_model.proofs.TwinPools.{AreAlike, pairing}
 use Rattle.crs_log.specs.Items.{Item, Delay, Clock, Finish, Happens, Event}
-use Rattle.crs_log.specs.Known.{entry_of_event}
 use Rattle.crs_log.specs.Run.{Setting, at_start, end_date}
 use Rattle.crs_log.proofs.Canonicals.{same_event}
 use Rattle.crs_report.specs.Lines.{recognition_line, point_text, value_text, mark_text}
-use Rattle.crs_top.specs.Texts.{LogEntry, Frame, IsMarkText, IsTextOf, setting_of}
+use Rattle.crs_top.specs.Texts.{LogEntry, IsMarkText, setting_of}
 use Rattle.crs_top.specs.Rearranged.{Part, IsRearranged, parts_of, items_of, RearrangedLogsHaveOneText}
 use Rattle.crs_top.proofs.Parting.{IsRead, AreAccepted, view, weight, Follow, IsMarkedText, IsEndText, IsPartsText, parted_text}
 
