@@ -17,7 +17,7 @@ items_in Faulty = []
 abbrev pub items_of : List Line → List Item
 items_of lines = flat_map (λ l. items_in (what_of (bytes_of l))) lines
 
--- events, and the item behind them that is none: there is no such item at the end of a log
+-- events, and the delay, clock mark or end behind them: none stands behind the last events of a log
 pub record Part : Type 0 where
   pub events : List Event
   pub ending : Option Item
