@@ -11,3 +11,4 @@ pub mod Prompt
 pub mod Held
 pub mod Numbered
 pub mod GivenLaw
+pub mod Canonicals

@@ -17,6 +17,10 @@ pub mod RenamedAssignments
 pub mod RenamedLive
 pub mod Agreed
 pub mod Unique
+pub mod Twins
+pub mod TwinLists
+pub mod Ties
+pub mod TwinPools
 pub mod InOrder
 pub mod Settled
 pub mod Parted

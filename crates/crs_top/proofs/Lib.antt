@@ -14,6 +14,9 @@ pub mod Completes
 pub mod Preparing
 pub mod Tables
 pub mod OneText
+pub mod Parting
+pub mod Rearranging
+mod RearrangedRows
 pub mod Loads
 pub mod Listed
 mod Rows

@@ -11,3 +11,4 @@ pub mod Run
 pub mod Listings
 pub mod Imports
 pub mod Commands
+pub mod Rearranged

@@ -16,7 +16,7 @@ mod table;
 #[cfg(test)]
 mod tests;
 
-pub use laws::{log_text_is_one, recognised_stays};
+pub use laws::{log_text_is_one, rearranged_logs_have_one_text, recognised_stays};
 pub use limits::{Limits, STANDARD};
 pub use run::{run_program, run_with};
 pub use status::Status;

@@ -1,0 +1,238 @@
+-- What is written for a log without refused lines, part by part.
+use Rattle.std.proofs.Common.{◌≡◌, ◌≢◌, ℕ, ◌+◌, ◌-◌, ◌<◌, Bool, true, false, cond, List, [], ◌∷◌, ◌++◌, length, refl, sym, ap, subst, ◌∙◌}
+use Rattle.std.proofs.Common.{arith, true≢false, Option, Some, None, inl, inr, length-append}
+use Rattle.std.specs.Prelude.{nat_lt, nat_le}
+use Rattle.std.specs.List.{AllByRecursion, list_any, sum_by}
+use Rattle.std.proofs.lemmas.Bool.{or_parts}
+use Rattle.std.proofs.lemmas.List.Sums.{sum_by-cons}
+use Rattle.crs_base.specs.Entry.{Key}
+use Rattle.crs_base.specs.Lines.{Line, bytes_of, is_long}
+use Rattle.crs_base.proofs.Words.{each_from_in, in_from_each, in_append, ordered_append}
+use Rattle.crs_model.specs.declared.recognition.Mark.{Mark}
+use Rattle.crs_model.specs.declared.recognition.Mark.TheVariants.{Clock as AtClock, Finish as AtEnd}
+use Rattle.crs_model.specs.Models.{Chronicle}
+use Rattle.crs_model.specs.Matching.{AreDistinct}
+use Rattle.crs_model.specs.Order.{dated_before}
+use Rattle.crs_model.proofs.Ties.{tie, said, ties, ties_last}
+use Rattle.crs_log.specs.Items.{Item, Delay, Clock, Finish, Happens, Event}
+use Rattle.crs_log.specs.ItemOf.{What, Empty, Is, Faulty, what_of, what_is, item_of}
+use Rattle.crs_base.specs.Lines.{is_passed_over}
+use Rattle.crs_log.specs.Known.{Verdict, Other, Named, BadArity, BadValue, known_of, entry_of_event, texts_of, new_texts}
+use Rattle.crs_log.specs.Run as run
+use Rattle.crs_log.specs.Run.{Setting, State, Outcome, Passed, Refused, Accepted, Marked, is_met, is_out_of_order, after_line, after_what}
+use Rattle.crs_log.specs.Run.{after_item, after_ordered, after_verdict, after_named, outcomes, end_date, with_entry}
+use Rattle.crs_log.specs.Recognitions.{View}
+use Rattle.crs_log.proofs.Canonicals.{IsOfSymbols, read_of_symbols}
+use Rattle.crs_top.specs.Texts.{LogEntry, IsMarkText, IsLineText, IsTextFrom, is_refused}
+use Rattle.crs_top.specs.Rearranged.{Part, items_in, items_of, led_by, parts_of}
+
+-- the entry is that of an event that was read
+abbrev pub IsRead : LogEntry → Type 0
+IsRead x = (e : Event) × IsOfSymbols e × (x ≡ entry_of_event x.arrival e)
+
+-- what the accepted entries of a run are
+pub record AreAccepted (xs : List LogEntry) : Type 0 where
+  pub distinct : AreDistinct xs
+  pub below : AllByRecursion (λ x. x.arrival < length xs) xs
+  pub read : AllByRecursion IsRead xs
+
+abbrev pub view : ℕ → List LogEntry → View
+view h xs = record { settled = dated_before h xs; horizon = h }
+
+abbrev pub taken : Verdict → ℕ → ℕ
+taken Other n = 0
+taken (Named place) n = n
+taken BadArity n = 0
+taken BadValue n = 0
+
+module _ (c : Setting) (cs : List (Chronicle (List ℕ))) where
+  -- how often an event's entry says it
+  abbrev pub weight : Key → Event → ℕ
+  weight z e = taken (known_of c.names e) (tie z (said (entry_of_event 0 e)))
+
+  -- the entries behind these events
+  pub record Follow (es : List Event) (xs ys : List LogEntry) : Type 0 where
+    pub accepted : AreAccepted xs → AreAccepted ys
+    pub ties : (z : Key) → ties z ys ≡ ties z xs + sum_by (weight z) es
+
+  -- what is written at a mark, where the horizon rises from g to h, and behind it
+  abbrev pub IsMarkedText : Mark → ℕ → ℕ → List LogEntry → (List ℕ → Type 0) → List ℕ → Type 0
+  IsMarkedText mark g h xs Rest text =
+      (first : List ℕ) × (rest : List ℕ) × IsMarkText cs mark (view g xs) (view h xs) first × Rest rest × (text ≡ first ++ rest)
+
+  -- what is written for the item behind the events, and for the rest, by its delay and horizon
+  abbrev pub IsEndText : Option Item → ℕ → ℕ → List LogEntry → (ℕ → ℕ → List ℕ → Type 0) → List ℕ → Type 0
+  IsEndText None d h xs Rest text = text ≡ []
+  IsEndText (Some (Delay n)) d h xs Rest text = Rest n h text
+  IsEndText (Some (Clock t)) d h xs Rest text = IsMarkedText (AtClock t) h (t - d) xs (Rest d (t - d)) text
+  IsEndText (Some Finish) d h xs Rest text = IsMarkedText AtEnd h end_date xs (Rest d end_date) text
+  IsEndText (Some (Happens e)) d h xs Rest text = ⊥
+
+  abbrev pub IsPartsText : List Part → ℕ → ℕ → List LogEntry → List ℕ → Type 0
+  IsPartsText [] d h xs text = text ≡ []
+  IsPartsText (p ∷ ps) d h xs text =
+      (ys : List LogEntry) × Follow p.events xs ys × IsEndText p.ending d h ys (λ d h t. IsPartsText ps d h ys t) text
+
+  same_follow : (xs : List LogEntry) → Follow [] xs xs
+  same_follow xs = record { accepted = λ a. a; ties = λ z. omega arith }
+
+  follow_on : (e : Event) (es : List Event) (xs ys zs : List LogEntry) → Follow (e ∷ []) xs ys → Follow es ys zs → Follow (e ∷ es) xs zs
+  follow_on e es xs ys zs a b = record {
+    accepted = λ k. b.accepted (a.accepted k);
+    ties = λ z.
+        let one : ties z ys ≡ ties z xs + sum_by (weight z) (e ∷ []) = a.ties z in
+        let two : ties z zs ≡ ties z ys + sum_by (weight z) es = b.ties z in
+        let more : sum_by (weight z) (e ∷ es) ≡ weight z e + sum_by (weight z) es = sum_by-cons (weight z) e es in
+        let first : sum_by (weight z) (e ∷ []) ≡ weight z e + sum_by (weight z) [] = sum_by-cons (weight z) e [] in
+        let none : sum_by (weight z) [] ≡ 0 = refl in
+        omega (arith, one, two, more, first, none);
+  }
+
+  led : (e : Event) (ps : List Part) (d h : ℕ) (xs ys : List LogEntry) (text : List ℕ) → Follow (e ∷ []) xs ys
+      → IsPartsText ps d h ys text → IsPartsText (led_by e ps) d h xs text
+  led e [] d h xs ys text f k = (ys, f, k)
+  led e (p ∷ ps) d h xs ys text f k = (k.0, follow_on e p.events xs ys k.0 f k.1, k.2)
+
+  abbrev IsToldFrom : State → List Item → List ℕ → Type 0
+  IsToldFrom s items text = IsPartsText (parts_of items) s.delay s.horizon s.accepted text
+
+  -- from what is told behind a line to what is told of it too
+  abbrev Steps : ℕ → State → List Item → What → State × Outcome → Type 0
+  Steps n s items w r =
+      is_refused r.1 ≡ false → (first rest text : List ℕ) → IsLineText cs n s r first → IsToldFrom r.0 items rest → text ≡ first ++ rest
+      → IsToldFrom s (items_in w ++ items) text
+
+  nothing_first : (s : State) (items : List Item) (first rest text : List ℕ) → first ≡ [] → text ≡ first ++ rest → IsToldFrom s items rest
+      → IsToldFrom s items text
+  nothing_first s items first rest text e t k =
+      let same : text ≡ rest = t ∙ ap (λ (w : List ℕ). w ++ rest) e in
+      subst (IsToldFrom s items) (sym same) k
+
+  weight_by : (z : Key) (e : Event) (v : Verdict) → known_of c.names e ≡ v
+      → sum_by (weight z) (e ∷ []) ≡ taken v (tie z (said (entry_of_event 0 e)))
+  weight_by z e v k =
+      let one : sum_by (weight z) (e ∷ []) ≡ weight z e + sum_by (weight z) [] = sum_by-cons (weight z) e [] in
+      let same : weight z e ≡ taken v (tie z (said (entry_of_event 0 e))) =
+      ap (λ (v : Verdict). taken v (tie z (said (entry_of_event 0 e)))) k in
+      let none : sum_by (weight z) [] ≡ 0 = refl in
+      omega (arith, one, same, none)
+
+  passed : (e : Event) (xs : List LogEntry) → known_of c.names e ≡ Other → Follow (e ∷ []) xs xs
+  passed e xs k = record { accepted = λ a. a; ties = λ z. let w = weight_by z e Other k in omega (arith, w) }
+
+  one_more : (e : Event) (xs : List LogEntry) → IsOfSymbols e → AreAccepted xs → AreAccepted (xs ++ entry_of_event (length xs) e ∷ [])
+  one_more e xs s a =
+      let new : LogEntry = entry_of_event (length xs) e in
+      let long : length (xs ++ new ∷ []) ≡ length xs + 1 = length-append xs (new ∷ []) in
+      record {
+        distinct = ordered_append (λ d e. d.arrival ≢ e.arrival) xs (new ∷ []) a.distinct (tt, tt) (λ x y i j. elim j [
+          | inl q ↦ (λ m.
+              let b = in_from_each (λ x. x.arrival < length xs) xs a.below x i in
+              let k : y.arrival ≡ length xs = ap (λ z. z.arrival) q in
+              absurd (omega (arith, b, k, m)))
+          | inr n ↦ absurd n
+        ]);
+        below = each_from_in (λ x. x.arrival < length (xs ++ new ∷ [])) (xs ++ new ∷ []) (λ x i. elim (in_append xs (new ∷ []) x i) [
+          | inl k ↦ (let b = in_from_each (λ x. x.arrival < length xs) xs a.below x k in omega (arith, b, long))
+          | inr k ↦ (elim k [
+            | inl q ↦ (let m : x.arrival ≡ length xs = ap (λ z. z.arrival) q in omega (arith, m, long))
+            | inr n ↦ absurd n
+          ])
+        ]);
+        read = each_from_in IsRead (xs ++ new ∷ []) (λ x i. elim (in_append xs (new ∷ []) x i) [
+          | inl k ↦ in_from_each IsRead xs a.read x k
+          | inr k ↦ (elim k [ inl q ↦ subst IsRead (sym q) (e, s, refl) | inr n ↦ absurd n ])
+        ]);
+      }
+
+  added : (e : Event) (xs : List LogEntry) (place : ℕ) → IsOfSymbols e → known_of c.names e ≡ Named place
+      → Follow (e ∷ []) xs (xs ++ entry_of_event (length xs) e ∷ [])
+  added e xs place s k = record {
+    accepted = one_more e xs s;
+    ties = λ z.
+        let w : sum_by (weight z) (e ∷ []) ≡ tie z (said (entry_of_event 0 e)) = weight_by z e (Named place) k in
+        let l : ties z (xs ++ entry_of_event (length xs) e ∷ []) ≡ ties z xs + tie z (said (entry_of_event 0 e)) =
+        ties_last z xs (entry_of_event (length xs) e) in
+        omega (arith, w, l);
+  }
+
+  module _ (n : ℕ) (s : State) (items : List Item) where
+    never : (w : What) (after : State) (f : run.Fault) → Steps n s items w (after, Refused f)
+    never w after f r = absurd (true≢false r)
+
+    unless : (w : What) (b : Bool) (after : State) (f : run.Fault) (r : State × Outcome) → Steps n s items w r
+        → Steps n s items w (cond b (after, Refused f) r)
+    unless w true after f r h = never w after f
+    unless w false after f r h = h
+
+    provided : (w : What) (b : Bool) (f : run.Fault) (r : State × Outcome) → Steps n s items w r
+        → Steps n s items w (cond b r (s, Refused f))
+    provided w true f r h = h
+    provided w false f r h = never w s f
+
+    abbrev new : Event → LogEntry
+    new e = entry_of_event (length s.accepted) e
+
+    abbrev has_place : Event → Bool
+    has_place e = nat_le (length s.texts + length (new_texts s.texts (texts_of e))) c.symbols
+
+    steps_named : (e : Event) (place : ℕ) → IsOfSymbols e → known_of c.names e ≡ Named place
+        → Steps n s items (Is (Happens e)) (after_named c s e)
+    steps_named e place k v =
+        provided (Is (Happens e)) (nat_lt (length s.accepted) c.entries) (run.Full c.entries)
+        (cond (has_place e) (with_entry s (new e) e, Accepted (new e)) (s, Refused (run.Values c.symbols)))
+        (provided (Is (Happens e)) (has_place e) (run.Values c.symbols) (with_entry s (new e) e, Accepted (new e))
+        (λ r first rest text o t x.
+        led e (parts_of items) s.delay s.horizon s.accepted (s.accepted ++ new e ∷ []) text (added e s.accepted place k v)
+        (nothing_first (with_entry s (new e) e) items first rest text o x t)))
+
+    steps_verdict : (e : Event) (v : Verdict) → IsOfSymbols e → known_of c.names e ≡ v
+        → Steps n s items (Is (Happens e)) (after_verdict c s e v)
+    steps_verdict e Other k v = λ r first rest text o t x.
+        led e (parts_of items) s.delay s.horizon s.accepted s.accepted text (passed e s.accepted v)
+        (nothing_first s items first rest text o x t)
+    steps_verdict e BadArity k v = never (Is (Happens e)) s run.Arity
+    steps_verdict e BadValue k v = never (Is (Happens e)) s run.Value
+    steps_verdict e (Named place) k v = steps_named e place k v
+
+    steps_ordered : (item : Item) → ((e : Event) → Is item ≡ Is (Happens e) → IsOfSymbols e)
+        → Steps n s items (Is item) (after_ordered c s item)
+    steps_ordered (Delay d) k = λ r first rest text o t x.
+        (s.accepted, same_follow s.accepted, nothing_first (record s { delay = d }) items first rest text o x t)
+    steps_ordered (Clock t) k =
+        unless (Is (Clock t)) (nat_lt t s.last) s (run.Back t s.last) (record s { last = t; horizon = t - s.delay }, Marked (AtClock t))
+        (λ r first rest text o u x. (s.accepted, same_follow s.accepted, (first, rest, o, u, x)))
+    steps_ordered Finish k = λ r first rest text o t x. (s.accepted, same_follow s.accepted, (first, rest, o, t, x))
+    steps_ordered (Happens e) k =
+        unless (Is (Happens e)) (nat_lt e.date s.horizon) s (run.Late e.date s.horizon) (after_verdict c s e (known_of c.names e))
+        (steps_verdict e (known_of c.names e) (k e refl) refl)
+
+  steps_what : (n : ℕ) (s : State) (items : List Item) (w : What) → ((e : Event) → w ≡ Is (Happens e) → IsOfSymbols e)
+      → Steps n s items w (after_what c s w)
+  steps_what n s items Empty k = λ r first rest text o t x. nothing_first s items first rest text o x t
+  steps_what n s items Faulty k = never n s items Faulty s run.Form
+  steps_what n s items (Is item) k =
+      unless n s items (Is item) (is_out_of_order s item) (is_met s) run.Order (after_ordered c (is_met s) item)
+      (steps_ordered n (is_met s) items item k)
+
+  item_read : (line : List ℕ) (o : Option Item) → item_of line ≡ o → (e : Event) → what_is o ≡ Is (Happens e) → IsOfSymbols e
+  item_read line None k e h = cc
+  item_read line (Some item) k e h = let same : item ≡ Happens e = cc in read_of_symbols line e (k ∙ ap Some same)
+
+  line_read : (line : List ℕ) (e : Event) → what_of line ≡ Is (Happens e) → IsOfSymbols e
+  line_read line e = by (is_passed_over line)
+    where
+      by : (b : Bool) → cond b Empty (what_is (item_of line)) ≡ Is (Happens e) → IsOfSymbols e
+      by true h = cc
+      by false h = item_read line (item_of line) refl e h
+
+  -- what is written for lines of which none is refused is written for their parts
+  pub parted_text : (n : ℕ) (s : State) (ls : List Line) (text : List ℕ) → list_any is_refused (outcomes c s ls) ≡ false
+      → IsTextFrom c cs n s ls text
+      → IsPartsText (parts_of (items_of ls)) s.delay s.horizon s.accepted text
+  parted_text n s [] text r t = t
+  parted_text n s (l ∷ ls) text r t =
+      let fine = or_parts (is_refused (after_line c s l).1) (list_any is_refused (outcomes c (after_line c s l).0 ls)) r in
+      let rest = parted_text (n + 1) (after_line c s l).0 ls t.1 fine.1 t.3 in
+      unless n s (items_of ls) (what_of (bytes_of l)) (is_long l) s run.TooLong (after_what c s (what_of (bytes_of l)))
+      (steps_what n s (items_of ls) (what_of (bytes_of l)) (line_read (bytes_of l))) fine.0 t.0 t.1 text t.2 rest t.4

@@ -1,0 +1,145 @@
+-- Logs that are rearranged have one text.
+use Rattle.std.proofs.Common.{◌≡◌, ℕ, ◌+◌, List, [], ◌∷◌, ◌++◌, refl, sym, ap, subst, ◌∙◌, arith, Option, Some, None}
+use Rattle.std.specs.Prelude.{flat_map, zip, decimal, codes, ◌-◌}
+use Rattle.std.specs.List.{AllZip, sum_by}
+use Rattle.std.proofs.lemmas.List.Sorted.{sum_by-IsPermutation}
+use Rattle.crs_base.specs.Entry.{Key, canonical}
+use Rattle.crs_base.proofs.Words.{in_from_each}
+use Rattle.crs_model.specs.declared.recognition.Mark.{Mark}
+use Rattle.crs_model.specs.declared.recognition.Mark.TheVariants.{Clock as AtClock, Finish as AtEnd}
+use Rattle.crs_model.specs.Models.{Chronicle, EventDef}
+use Rattle.crs_model.specs.Matching.{Assignment}
+use Rattle.crs_model.specs.Order.{dated_before}
+use Rattle.crs_model.proofs.Ties.{ties, Says}
+use Rattle.crs_model.proofs.Twins.{Same, Twins}
+use Rattle.crs_model.proofs.TwinLists.{Paired, new_paired}
+use Rattle.crs_model.proofs.TwinPools.{AreAlike, pairing}
+use Rattle.crs_log.specs.Items.{Item, Delay, Clock, Finish, Happens, Event}
+use Rattle.crs_log.specs.Run.{Setting, at_start, end_date}
+use Rattle.crs_log.proofs.Canonicals.{same_event}
+use Rattle.crs_report.specs.Lines.{recognition_line, point_text, value_text, mark_text}
+use Rattle.crs_top.specs.Texts.{LogEntry, IsMarkText, setting_of}
+use Rattle.crs_top.specs.Rearranged.{Part, IsRearranged, parts_of, items_of, RearrangedLogsHaveOneText}
+use Rattle.crs_top.proofs.Parting.{IsRead, AreAccepted, view, weight, Follow, IsMarkedText, IsEndText, IsPartsText, parted_text}
+
+-- entries that were read, and say the same, are the same but for their arrival numbers
+same_read : (x y : LogEntry) → IsRead x → IsRead y → Says x y → Same x y
+same_read x y a b s =
+    let date : a.0.date ≡ b.0.date = sym (ap (λ z. z.date) a.2) ∙ ap (λ (k : Key). k.date) s ∙ ap (λ z. z.date) b.2 in
+    let text : canonical a.0.name a.0.args a.0.change ≡ canonical b.0.name b.0.args b.0.change =
+    sym (ap (λ z. z.text) a.2) ∙ ap (λ (k : Key). k.text) s ∙ ap (λ z. z.text) b.2 in
+    let e : a.0 ≡ b.0 = same_event a.0 b.0 a.1 b.1 date text in
+    record {
+      date = ap (λ (k : Key). k.date) s;
+      name = ap (λ z. z.name) a.2 ∙ ap (λ (v : Event). v.name) e ∙ sym (ap (λ z. z.name) b.2);
+      args = ap (λ z. z.args) a.2 ∙ ap (λ (v : Event). v.args) e ∙ sym (ap (λ z. z.args) b.2);
+      change = ap (λ z. z.change) a.2 ∙ ap (λ (v : Event). v.change) e ∙ sym (ap (λ z. z.change) b.2);
+    }
+
+points_same : (T : LogEntry → LogEntry → Type 0) → Twins T → (vs : List (EventDef (List ℕ))) (xs ys : List LogEntry) → AllZip T xs ys
+    → flat_map point_text (zip vs xs) ≡ flat_map point_text (zip vs ys)
+points_same T t [] xs ys z = refl
+points_same T t (v ∷ vs) [] [] z = refl
+points_same T t (v ∷ vs) [] (y ∷ ys) z = absurd z
+points_same T t (v ∷ vs) (x ∷ xs) [] z = absurd z
+points_same T t (v ∷ vs) (x ∷ xs) (y ∷ ys) z =
+    λ i. (codes " " ++ v.point ++ codes "=" ++ decimal ((t.same x y z.0).date i)) ++ points_same T t vs xs ys z.1 i
+
+line_same : (T : LogEntry → LogEntry → Type 0) → Twins T → (c : Chronicle (List ℕ)) (mark : Mark) (a b : Assignment (List ℕ))
+    → Paired T a b → recognition_line c mark a ≡ recognition_line c mark b
+line_same T t c mark a b p = λ i.
+    c.name ++ codes " at " ++ mark_text mark ++ points_same T t c.events a.entries b.entries p.entries i
+    ++ flat_map value_text (zip c.variables (p.values i)) ++ 10 ∷ []
+
+lines_same : (T : LogEntry → LogEntry → Type 0) → Twins T → (c : Chronicle (List ℕ)) (mark : Mark) (xs ys : List (Assignment (List ℕ)))
+    → AllZip (Paired T) xs ys
+    → flat_map (recognition_line c mark) xs ≡ flat_map (recognition_line c mark) ys
+lines_same T t c mark [] [] z = refl
+lines_same T t c mark [] (y ∷ ys) z = absurd z
+lines_same T t c mark (x ∷ xs) [] z = absurd z
+lines_same T t c mark (x ∷ xs) (y ∷ ys) z = λ i. line_same T t c mark x y z.0 i ++ lines_same T t c mark xs ys z.1 i
+
+-- what is written at a mark
+one_mark : (T : LogEntry → LogEntry → Type 0) → Twins T → (xs ys : List LogEntry)
+    → ((h : ℕ) → AllZip T (dated_before h xs) (dated_before h ys))
+    → (cs : List (Chronicle (List ℕ))) (mark : Mark) (g h : ℕ) (a b : List ℕ) → IsMarkText cs mark (view g xs) (view h xs) a
+    → IsMarkText cs mark (view g ys) (view h ys) b → a ≡ b
+one_mark T t xs ys z [] mark g h a b p q = p ∙ sym q
+one_mark T t xs ys z (c ∷ cs) mark g h a b p q =
+    let new =
+    new_paired T t (dated_before g xs) (dated_before g ys) (dated_before h xs) (dated_before h ys) (z g) (z h) c g h p.0 q.0 p.2 q.2 in
+    let rest : p.1 ≡ q.1 = one_mark T t xs ys z cs mark g h p.1 q.1 p.3 q.3 in
+    p.4 ∙ (λ i. lines_same T t c mark p.0 q.0 new i ++ rest i) ∙ sym q.4
+
+module _ (c : Setting) (cs : List (Chronicle (List ℕ))) where
+  -- the accepted entries of two runs that say all as often
+  record Match (xs ys : List LogEntry) : Type 0 where
+    left : AreAccepted xs
+    right : AreAccepted ys
+    ties : (z : Key) → ties z xs ≡ ties z ys
+
+  alike : (xs ys : List LogEntry) → Match xs ys → AreAlike xs ys
+  alike xs ys m = record {
+    distinct = m.left.distinct;
+    other_distinct = m.right.distinct;
+    ties = m.ties;
+    same = λ x y i j s. same_read x y (in_from_each IsRead xs m.left.read x i) (in_from_each IsRead ys m.right.read y j) s;
+  }
+
+  marks : (xs ys : List LogEntry) → Match xs ys → (mark : Mark) (g h : ℕ) (a b : List ℕ) → IsMarkText cs mark (view g xs) (view h xs) a
+      → IsMarkText cs mark (view g ys) (view h ys) b → a ≡ b
+  marks xs ys m mark g h a b p q = let k = pairing xs ys (alike xs ys m) in one_mark k.0 k.1 xs ys k.2 cs mark g h a b p q
+
+  followed : (es fs : List Event) (xs ys us vs : List LogEntry) → ((z : Key) → sum_by (weight c cs z) fs ≡ sum_by (weight c cs z) es)
+      → Match xs ys → Follow c cs es xs us → Follow c cs fs ys vs → Match us vs
+  followed es fs xs ys us vs perm m f g = record {
+    left = f.accepted m.left;
+    right = g.accepted m.right;
+    ties = λ z.
+        let a : ties z us ≡ ties z xs + sum_by (weight c cs z) es = f.ties z in
+        let b : ties z vs ≡ ties z ys + sum_by (weight c cs z) fs = g.ties z in
+        let s : ties z xs ≡ ties z ys = m.ties z in
+        let p : sum_by (weight c cs z) fs ≡ sum_by (weight c cs z) es = perm z in
+        omega (arith, a, b, s, p);
+  }
+
+  marked : (xs ys : List LogEntry) → Match xs ys → (mark : Mark) (g h : ℕ) (R Q : List ℕ → Type 0) → ((a b : List ℕ) → R a → Q b → a ≡ b)
+      → (a b : List ℕ) → IsMarkedText c cs mark g h xs R a → IsMarkedText c cs mark g h ys Q b → a ≡ b
+  marked xs ys m mark g h R Q rest a b p q =
+      let one : p.0 ≡ q.0 = marks xs ys m mark g h p.0 q.0 p.2 q.2 in
+      let two : p.1 ≡ q.1 = rest p.1 q.1 p.3 q.3 in
+      p.4 ∙ (λ i. one i ++ two i) ∙ sym q.4
+
+  ends : (o : Option Item) (d h : ℕ) (xs ys : List LogEntry) → Match xs ys → (R Q : ℕ → ℕ → List ℕ → Type 0)
+      → ((d h : ℕ) (a b : List ℕ) → R d h a → Q d h b → a ≡ b)
+      → (a b : List ℕ) → IsEndText c cs o d h xs R a → IsEndText c cs o d h ys Q b → a ≡ b
+  ends None d h xs ys m R Q rest a b p q = p ∙ sym q
+  ends (Some (Delay n)) d h xs ys m R Q rest a b p q = rest n h a b p q
+  ends (Some (Clock t)) d h xs ys m R Q rest a b p q =
+      marked xs ys m (AtClock t) h (t - d) (R d (t - d)) (Q d (t - d)) (rest d (t - d)) a b p q
+  ends (Some Finish) d h xs ys m R Q rest a b p q =
+      marked xs ys m AtEnd h end_date (R d end_date) (Q d end_date) (rest d end_date) a b p q
+  ends (Some (Happens e)) d h xs ys m R Q rest a b p q = absurd p
+
+  -- parts that are rearranged have one text
+  one_text : (ps qs : List Part) → AllZip IsRearranged ps qs → (d h : ℕ) (xs ys : List LogEntry) → Match xs ys → (a b : List ℕ)
+      → IsPartsText c cs ps d h xs a → IsPartsText c cs qs d h ys b → a ≡ b
+  one_text [] [] z d h xs ys m a b p q = p ∙ sym q
+  one_text [] (r ∷ qs) z d h xs ys m a b p q = absurd z
+  one_text (r ∷ ps) [] z d h xs ys m a b p q = absurd z
+  one_text (r ∷ ps) (s ∷ qs) z d h xs ys m a b p q =
+      let n : Match p.0 q.0 =
+      followed r.events s.events xs ys p.0 q.0 (λ k. sum_by-IsPermutation (weight c cs k) r.events s.events z.0.events) m p.1 q.1 in
+      let other : IsEndText c cs r.ending d h q.0 (λ d h t. IsPartsText c cs qs d h q.0 t) b =
+      subst (λ (o : Option Item). IsEndText c cs o d h q.0 (λ d h t. IsPartsText c cs qs d h q.0 t) b) (sym z.0.ending) q.2 in
+      ends r.ending d h p.0 q.0 n (λ d h t. IsPartsText c cs ps d h p.0 t) (λ d h t. IsPartsText c cs qs d h q.0 t)
+      (λ d h a b u v. one_text ps qs z.1 d h p.0 q.0 n a b u v) a b p.2 other
+
+pub rearranged_logs_have_one_text : RearrangedLogsHaveOneText
+rearranged_logs_have_one_text f xs ys a b r s z p q =
+    let c : Setting = setting_of f in
+    let cs : List (Chronicle (List ℕ)) = f.models.chronicles in
+    let none : AreAccepted [] = record { distinct = tt; below = tt; read = tt } in
+    let start : Match c cs [] [] = record { left = none; right = none; ties = λ z. refl } in
+    one_text c cs (parts_of (items_of xs)) (parts_of (items_of ys)) z 0 0 [] [] start a b
+    (parted_text c cs 1 (at_start f.texts) xs a r p) (parted_text c cs 1 (at_start f.texts) ys b s q)
