@@ -13,16 +13,18 @@ ghost use Rattle.crs_instance.specs.Followed.{IsStretchAt};
 ghost use Rattle.crs_instance.specs.Instances.{no_window, no_progress as none_yet, progress_at, seen_entry, IsBoundBy, IsOf, IsAnswered, IsDeadline, AreAllEntries, window_at};
 ghost use Rattle.crs_instance.specs.Deadlines.{HasBits};
 
+use crate::bound::body_is_bound;
 use crate::entries::{
-    date_of,
-    all_entries, are_all_bound, bits, copies, deadline_of_level, earliest_deadline, gives,
+    all_entries, are_all_bound, bits, copies, date_of, deadline_of_level, earliest_deadline, gives,
     no_entries,
 };
 use crate::fit::Fit;
 use crate::narrowing::{is_inside, is_not_before, narrowed};
 use crs_base::{Entry, List, Steps};
-use crate::bound::body_is_bound;
-use crs_model::{Anchor, Binding, Chronicle, DateWindow, Pattern, Plan, Progress, Stretch, allowed, bind_vars, fits};
+use crs_model::{
+    Anchor, Binding, Chronicle, DateWindow, Pattern, Plan, Progress, Stretch, allowed, bind_vars,
+    fits,
+};
 use std::alloc::{AllocError, Global};
 use std::marker::Model;
 use std::rc::Rc;

@@ -120,12 +120,15 @@ module _ (Fine : Partial Sym → Type 0) (x : Entry Sym) where
 pub forks_on : (plan : Plan) (history : HistoryState) (x : Entry Sym) (i : InstanceState) (n : ℕ) (out new : List InstanceState) (more : Option InstanceState) → n < length i.partial → new ≡ out ++ option_to_list more → AllOf plan out → AreForksBelow plan history x i n out → IfSome more (IsOf plan) → IsForkAt plan history x i n more →
     AllOf plan new × AreForksBelow plan history x i (n + 1) new
 forks_on plan history x i n out new more l q all h of k =
-    rw (q, add-one) (all_append (IsOf plan) out (option_to_list more) all (each_of (IsOf plan) more of), λ entries now over free.
-    let f = h entries now over free in
-    let g = k entries now over in (
-      forks_more (IsOpenNow plan entries x) x i.partial n out (option_to_list more) l free f.0 (fork_image (IsOpenNow plan entries x) x i n more g.0),
-      all_append (IsOverNow plan entries x) out (option_to_list more) f.1 (each_of (IsOverNow plan entries x) more g.1),
-    ))
+    rw (q, add-one) (
+      all_append (IsOf plan) out (option_to_list more) all (each_of (IsOf plan) more of),
+      λ entries now over free.
+          let f = h entries now over free in
+          let g = k entries now over in (
+            forks_more (IsOpenNow plan entries x) x i.partial n out (option_to_list more) l free f.0 (fork_image (IsOpenNow plan entries x) x i n more g.0),
+            all_append (IsOverNow plan entries x) out (option_to_list more) f.1 (each_of (IsOverNow plan entries x) more g.1),
+          ),
+    )
   where
     each_of : (P : InstanceState → Type 0) (o : Option InstanceState) → IfSome o P → AllByRecursion P (option_to_list o)
     each_of P None h = tt

@@ -86,7 +86,10 @@ fn forks<L: Ledger>(
 {
     let mut out = Vec::new(alloc);
     for event in 0..plan.chronicle.events.len() as u8 {
-        push_some(&mut out, fork(plan, instance, event, history, entry, steps)?)?;
+        push_some(
+            &mut out,
+            fork(plan, instance, event, history, entry, steps)?,
+        )?;
     }
     Ok(out)
 }

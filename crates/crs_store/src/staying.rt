@@ -74,13 +74,7 @@ pub(crate) fn follow_all(
 }
 
 /// Passes the dates up to `h` in the windows of each instance.
-pub(crate) fn pass_all(
-    plan: &Plan,
-    held: &mut Vec<Instance>,
-    history: &History,
-    since: u64,
-    h: u64,
-)
+pub(crate) fn pass_all(plan: &Plan, held: &mut Vec<Instance>, history: &History, since: u64, h: u64)
     requires proper { IsProper plan.now }
     requires of { AllOf plan.now held.old.items }
     requires since { since ≤ 2 ^ 42 }

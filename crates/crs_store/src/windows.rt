@@ -133,13 +133,7 @@ pub(crate) fn follow(
 }
 
 /// Passes the dates up to h in each window of the instance.
-pub(crate) fn go_on_to(
-    plan: &Plan,
-    instance: &mut Instance,
-    history: &History,
-    since: u64,
-    h: u64,
-)
+pub(crate) fn go_on_to(plan: &Plan, instance: &mut Instance, history: &History, since: u64, h: u64)
     requires proper { IsProper plan.now }
     requires of { IsOf plan.now instance.old }
     requires since { since ≤ 2 ^ 42 }
