@@ -17,9 +17,6 @@ Either P = P ⊎ (P → ⊥)
 abbrev pub Tells : Type 0 → Type 0
 Tells S = (x y : S) → Either (x ≡ y)
 
-not_later : (d e : ℕ) → pos d ≤ℤ pos e → d ≤ e
-not_later d e h = omega (arith, ints)
-
 -- a number that reaches from one to the other
 far : (from until : ℤ) → (k : ℕ) × (until ≤ℤ (from +ℤ pos k))
 far (pos a) (pos b) = (b, omega (arith, ints))
@@ -192,9 +189,6 @@ module _ {S : Type 0} (tells : Tells S) where
               ])
               (λ l. one_more k all (λ t s u. absurd (not_both t (from +ℤ pos k) l s u)))
         ]
-
-pub number_tells : Tells ℕ
-number_tells x y = elim (eqb_tells x y) [ inl s ↦ inl s.1 | inr o ↦ inr o.1 ]
 
 pub sym_tells : Tells Sym
 sym_tells x y = elim (eqb_tells x.0 y.0) [ inl s ↦ inl (same x y s.1) | inr o ↦ inr (λ (q : x ≡ y). o.1 (ap (λ (t : Sym). t.0) q)) ]

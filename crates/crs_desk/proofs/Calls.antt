@@ -11,9 +11,6 @@ use Rattle.crs_desk.specs.declared.desk.DeskError.TheVariants.{Failed, Memory}
 pub take_on : (k n : ℕ) (xs : List ℕ) → take k xs ++ take n (drop k xs) ≡ take (k + n) xs
 take_on k n xs = sym (take-add k n xs)
 
-pub wrote_none : (t : Told) (bytes : List ℕ) → Wrote t bytes 0 t
-wrote_none t bytes = record { files = refl; opened = refl; left = refl; turns = refl; within = omega arith; written = sym (append-nil t.written) }
-
 pub wrote_more : (old mid new : Told) (bytes : List ℕ) (k n : ℕ) → Wrote old bytes k mid → n ≤ length (drop k bytes) → Writes mid (drop k bytes) (Ok n) new → Wrote old bytes (k + n) new
 wrote_more old mid new bytes k n w le h = record {
   files = h.files ∙ w.files;
@@ -22,16 +19,6 @@ wrote_more old mid new bytes k n w le h = record {
   turns = h.turns ∙ w.turns;
   within = grind (arith, length-drop {A = ℕ}, w.within);
   written = h.written ∙ rw (w.written, append_assoc, take_on) refl;
-}
-
-pub wrote_error : (old mid new : Told) (bytes rest : List ℕ) (k : ℕ) (e : DeskError) → Wrote old bytes k mid → Writes mid rest (Err e) new → Wrote old bytes k new
-wrote_error old mid new bytes rest k e w h = record {
-  files = h.files ∙ w.files;
-  opened = h.opened ∙ w.opened;
-  left = h.left ∙ w.left;
-  turns = h.turns ∙ w.turns;
-  within = w.within;
-  written = h.written ∙ w.written;
 }
 
 pub rises_push : (i low high : ℕ) (ts : List Turn) (t : Turn) → Rises i low high ts → t.input ≡ i → high ≤ t.taken → Rises i low (t.taken + 1) (ts ++ t ∷ [])

@@ -58,4 +58,3 @@ pub record IsScheduled (old new : MemoryDesk) (schedule : Schedule) : Type 0 whe
   pub inputs : memory_inputs new ≡ memory_inputs old
   pub in_faults : memory_in_faults new ≡ memory_in_faults old
   pub out_faults : memory_out_faults new ≡ memory_out_faults old
-  pub schedule_is : memory_schedule new ≡ schedule

@@ -14,10 +14,6 @@ onto_onto : (a b : List ℕ) (log : Result (List ℕ) ImportRefused) → onto a 
 onto_onto a b (Ok log) = rw append_assoc refl
 onto_onto a b (Err e) = refl
 
-pub onto_nothing : (log : Result (List ℕ) ImportRefused) → onto [] log ≡ log
-onto_nothing (Ok log) = refl
-onto_nothing (Err e) = refl
-
 -- no record is left
 pub at_end : (row : ℕ) (rows : List (List (List ℕ))) (out after : List ℕ) → rows ≡ [] → after ≡ out → onto out (log_of row rows) ≡ Ok after
 unfolding log_of

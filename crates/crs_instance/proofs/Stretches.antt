@@ -58,9 +58,6 @@ module _ (plan : Plan) (i : InstanceState) (k : ℕ) (w : Window Sym) (is : slic
   pub at_window : (P : Window Sym → Type 0) → P w → IfSome (slice_get (chronicle plan).windows k) P
   at_window P h = some_if (slice_get (chronicle plan).windows k) P (λ v e. subst P (same v e) h)
 
-  pub stretch_unbound : (BodyIsBound (look_of i.binding) w.body → ⊥) → IsStretchAt plan i k None
-  stretch_unbound none = at_window (λ w. (from to : ℤ) → IsStretch i.partial w from to → BodyIsBound (look_of i.binding) w.body → ⊥) (λ from to s b. none b)
-
   pub stretch_unstarted : anchored (at i.partial w.from.event) w.from.offset ≡ None → IsStretchAt plan i k None
   stretch_unstarted none = at_window (λ w. (from to : ℤ) → IsStretch i.partial w from to → BodyIsBound (look_of i.binding) w.body → ⊥) (λ from to s b. no_date (at i.partial w.from.event) w.from.offset from none s.starts)
 

@@ -77,12 +77,6 @@ module _ {S T : Type 0} (f g : S → T) (P : S → Type 0) (same : (s : S) → P
   pub same_name : (n : Name S) → IsNameOf P n → renamed_name f n ≡ renamed_name g n
   same_name n h = λ i. record { name = same n.name h.name i; arity = n.arity; kind = same_kind n.kind h.kind i }
 
-  pub same_names : (ns : List (Name S)) → AllByRecursion (IsNameOf P) ns → map (renamed_name f) ns ≡ map (renamed_name g) ns
-  same_names ns h = all_same (renamed_name f) (renamed_name g) (IsNameOf P) ns same_name h
-
-  pub same_chronicles : (cs : List (Chronicle S)) → AllByRecursion (IsChronicleOf P) cs → map (renamed_chronicle f) cs ≡ map (renamed_chronicle g) cs
-  same_chronicles cs h = all_same (renamed_chronicle f) (renamed_chronicle g) (IsChronicleOf P) cs same_chronicle h
-
   same_entry : (e : Entry S) → IsEntryOf P e → renamed_entry f e ≡ renamed_entry g e
   same_entry e h = λ i. record { arrival = e.arrival; date = e.date; name = same e.name h.name i; args = same_symbols e.args h.args i; change = same_change e.change h.change i; text = e.text }
 

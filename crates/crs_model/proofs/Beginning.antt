@@ -29,12 +29,6 @@ module _ {S : Type 0} where
   IsPlain (Var v) = Unit {0}
   IsPlain Any = ⊥
 
-  -- Over entries of which those dated at or after the start of the stretch are kept, the count is that of the kept ones.
-  pub counted_of_kept : (Q : Entry S → Type 0) (look : Binding S) (body : Body S) (from to : ℤ) (entries kept : List (Entry S)) (n : ℕ) → ((e : Entry S) → from ≤ℤ pos e.date → Q e) → Sifts Q entries kept → IsCounted kept look body from to n → IsCounted entries look body from to n
-  counted_of_kept Q look (NoEvent p) from to entries kept n sub sifts k = count_sifted _ Q (λ e d. sub e (d.0).0) entries kept n sifts k
-  counted_of_kept Q look (Occurs least most p) from to entries kept n sub sifts k = count_sifted _ Q (λ e d. sub e (d.0).0) entries kept n sifts k
-  counted_of_kept Q look (Hold name terms value) from to entries kept n sub sifts k = k
-
   -- ---- the attribute of a `hold` without `*` is determined
 
   same_term : (look : Binding S) (t : Term S) (x y : S) → IsPlain t → TermIs look t x → TermIs look t y → x ≡ y

@@ -48,6 +48,3 @@ match_then P Q R old mid (Some new) up both one two h k = (
   },
   k.1 ∙ h.1,
 )
-
-pub match_not : (P R : Binding Sym → Type 0) (old : List (Option Sym)) → ((look : Binding Sym) → R look → P look) → IsMatch P old None → IsMatch R old None
-match_not P R old one h = λ other l r. h other l (one other r)

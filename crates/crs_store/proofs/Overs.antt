@@ -95,12 +95,6 @@ floor_early plan proper d floor (inr some) =
 -- ---- a fork
 
 module _ (plan : Plan) (proper : IsProper plan) (history : HistoryState) (x : Entry Sym) (i : InstanceState) (e : ℕ) (of : IsOf plan i) (inside : e < length plan.chronicle.events) where
-  pub fork_bound : (o : Option (Rc CodeEntry Global)) (b : Bool) → seen_entry o ≡ at i.partial e → b ≡ is_some o → b ≡ true → IsForkAt plan history x i e None
-  fork_bound None b s t u = absurd cc
-  fork_bound (Some r) b s t u = λ entries now over. (λ h. not_both (at i.partial e) (s) h.0, tt)
-    where
-      not_both : (o : Option (Entry Sym)) → seen_entry (Some r) ≡ o → o ≡ None → ⊥
-      not_both o a n = absurd cc
 
   never_fork : (CanBe plan (put i.partial e x) → ⊥) → IsForkAt plan history x i e None
   never_fork n = λ entries now over. (λ h. n (open_can plan entries entries x.date (put i.partial e x) h.2), tt)

@@ -285,6 +285,3 @@ judged_by plan h i k w is s o e st p sp v told =
         λ none f. of_some (slice_get (chronicle plan).windows k) w _ is none s.from s.to at.0 at.1 (told_of.lost.0 f),
       );
     }
-
-pub able_by : (plan : Plan) (h : ℕ) (i : InstanceState) → CanGoOn (chronicle plan) flat i.partial h → IsLostNowhere plan h i (length plan.chronicle.windows) → IsAble plan h i
-able_by plan h i goes none = (goes, each_window plan _ none)

@@ -33,13 +33,6 @@ use Rattle.crs_store.proofs.Leaving.{leaves_image, leaves_each}
 use Rattle.crs_store.proofs.Overs.{open_able, floor_early}
 use Rattle.crs_store.proofs.Progress.{still_of}
 
-pub image_as : {A B : Type 0} (F G : A → B → Type 0) (done : List A) (out : List B) → ((x : A) (y : B) → IsIn x done → F x y → G x y) → ((x : A) (y : B) → IsIn x done → G x y → F x y) → IsImage F done out → IsImage G done out
-image_as F G done out to back h = record {
-  distinct = h.distinct;
-  sound = λ y i. let r = h.sound y i in (r.0, r.1, to r.0 y r.1 r.2);
-  complete = λ x y i g. h.complete x y i (back x y i g);
-}
-
 -- ---- lists of instances
 
 pub all_both : {A : Type 0} (P Q : A → Type 0) (xs : List A) → AllByRecursion P xs → AllByRecursion Q xs → AllByRecursion (λ x. P x × Q x) xs

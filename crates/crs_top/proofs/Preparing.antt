@@ -89,12 +89,6 @@ module _ (symbols entries : ℕ) (text : List ℕ) (m : CodeModels) (table : Tab
   consistent : AllByRecursion (λ c. IsConsistent c.bounds) frame.models.chronicles
   consistent = consistent_models table.texts m plans.plans chronicles made
 
-  -- how many plans there are
-  pub plans_few : length plans.plans ≤ 64
-  plans_few =
-      let a : length (chronicles_in plans.plans) ≡ length m.chronicles = ap length chronicles in
-      omega (arith, a, length-map (plans_of plans) (λ (p : Plan). p.chronicle), length-map plans.plans (λ r. r.value), length-map m.chronicles chronicle_of, is.proper.chronicles_few)
-
   pub accepted : IsAccepted symbols entries text frame
   accepted = record {
     read = is.read;

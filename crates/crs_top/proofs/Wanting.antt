@@ -44,13 +44,3 @@ wants base most old (Some (Import table)) =
 wants base most old (Some (Print listing models)) =
     ends_wanting base base (2 ^ 20) (IsListed most.symbols listing (bytes_of old models)) (IsModelLine (IsFaulty most.symbols (bytes_of old models))) old models
     0 0 0 [] old (none_loaded base (2 ^ 20) old models) (omega arith)
-
-pub wants_complete : (most : Most) (old : Told) (command : Option Command) (fault : Type 0) → CompletesCommand most old command fault Memory
-wants_complete most old None fault = λ f. inr refl
-wants_complete most old (Some (Run models log)) fault = record {
-  accepted = λ f a s n. inr (inr refl);
-  too_long = λ f a s n. inr refl;
-  refused = λ line word r n. inr refl;
-}
-wants_complete most old (Some (Import table)) fault = record { written = λ log e n. inr refl; refused = λ e h n. inr refl }
-wants_complete most old (Some (Print listing models)) fault = record { accepted = λ m a n. inr refl; refused = λ line word r n. inr refl }
