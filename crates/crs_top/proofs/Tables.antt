@@ -1,5 +1,5 @@
 -- Tables that are written as logs, or refused.
-use Rattle.std.proofs.Common.{◌≡◌, ◌⊎◌, ◌∙◌, sym, refl, inl, inr, ℕ, ◌+◌, ◌<◌, arith, ◌^◌, false, List, length, codes, nat_le, Err}
+use Rattle.std.proofs.Common.{◌≡◌, ◌⊎◌, ◌∙◌, sym, refl, inl, inr, ℕ, arith, ◌^◌, List, codes, Err}
 use Rattle.std.specs.Fmt.{digits}
 use Rattle.crs_import.specs.Refusals.{refusal_line}
 use Rattle.crs_import.specs.Tables.{table_log}

@@ -2,7 +2,7 @@ use Rattle.std.proofs.Common.{ap, length, codes, ◌^◌}
 use Rattle.crs_top.specs.Imports.{IsTableLog, IsTableLine}
 use Rattle.crs_top.specs.Inputs.{bytes_of}
 use Rattle.crs_top.specs.Loads.{IsTooLong}
-use Rattle.crs_top.proofs.Loads.{ends_weaker, ends_said, ends_printed, all_taken}
+use Rattle.crs_top.proofs.Loads.{ends_weaker, ends_printed, all_taken}
 use Rattle.crs_top.proofs.Tables.{long_is_refused, ends_table}
 use Rattle.crs_top.proofs.table.import_table.Goals as goal
 
