@@ -110,7 +110,8 @@ impl Engine {
 
     /// How many partial instances are held, or 2^64 - 1 where there are more.
     pub fn kept(&self) -> u64
-        ensures { result ≡ kept_of self.now }
+        ensures count { result ≡ kept_of self.now }
+        ensures unfocused { AllByRecursion (λ s. s.focus ≡ false) self.now.stores }
     {
         kept_by(self.stores.as_slice())
     }

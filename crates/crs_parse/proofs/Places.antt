@@ -28,3 +28,7 @@ place_within (u ∷ us) t h = within_step (bytes_eq t u) (is_known us t) (positi
 found_by : (b : Bool) (p n : ℕ) (texts : List (List ℕ)) (t : List ℕ) → cond b (Some p) None ≡ Some n → text_at texts p ≡ t → text_at texts n ≡ t
 found_by true p n texts t e h = let q : p ≡ n = cc in ap (text_at texts) (sym q) ∙ h
 found_by false p n texts t e h = cc
+
+-- the text that a look-up finds
+pub found_text : (texts : List (List ℕ)) (t : List ℕ) (s : Sym) → is_known texts t ≡ true → option_map (λ (x : Sym). x.0) (Some s) ≡ position (bytes_eq t) texts → text_at texts s.0 ≡ t
+found_text texts t s h e = found_by (nat_lt (position_or_len (bytes_eq t) texts) (length texts)) (position_or_len (bytes_eq t) texts) s.0 texts t (sym e) (place_text texts t h)

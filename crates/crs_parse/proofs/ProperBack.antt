@@ -45,6 +45,10 @@ module _ {S T : Type 0} (f : S → T) (Q : S → Type 0) (one : (s t : S) → Q 
   suits_back (Attribute vs) None h = absurd h
   suits_back (Attribute vs) (Some c) h = tt
 
+  attribute_back : (k : Kind S) → IsAttribute (renamed_kind f k) → IsAttribute k
+  attribute_back Message h = absurd h
+  attribute_back (Attribute vs) h = tt
+
   definite_back : (t : Term S) → IsDefinite (renamed_term f t) → IsDefinite t
   definite_back (Value s) h = tt
   definite_back (Var v) h = tt

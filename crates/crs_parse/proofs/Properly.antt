@@ -145,6 +145,10 @@ at_index P [] v l h = absurd (omega arith)
 at_index P (x ∷ xs) zero l h = h.0
 at_index P (x ∷ xs) (suc v) l h = at_index P xs v (omega arith) h.1
 
+place_next : (b : Bool) (n v : ℕ) → b ≡ false → n ≡ v → cond (not b) (1 + n) 0 ≡ suc v
+place_next true n v h e = absurd (true≢false h)
+place_next false n v h e = one-add n ∙ ap suc e
+
 other : (x t : List ℕ) (xs : List (List ℕ)) (b : Bool) → bytes_eq t x ≡ b → is_known xs t ≡ true → is_known xs x ≡ false → b ≡ false
 other x t xs true e k h = absurd (true≢false (sym k ∙ ap (is_known xs) (bytes_same t x e) ∙ h))
 other x t xs false e k h = refl
@@ -239,6 +243,17 @@ anchor_meant c a n e h k = let o = offset_near a.shift k in record { event = sub
 
 negated_near : (z : ℤ) → IsNear z → IsNear (neg_ℤ z)
 negated_near z h = let a = h.not_large in let b = h.not_small in record { not_large = omega (arith, ints, a, b); not_small = omega (arith, ints, a, b) }
+
+bound_meant : (n : ℕ) (b : Bound) → b.from < n → b.to < n → IfSome b.most IsNear → IsBoundBelow n b
+bound_meant n b f t h = record { from_below = f; to_below = t; not_large = large b.most h; not_small = small b.most h }
+  where
+    large : (o : Option ℤ) → IfSome o IsNear → IfSome o (λ m. m ≤ℤ pos (2 ^ 40))
+    large None h = tt
+    large (Some z) h = h.not_large
+
+    small : (o : Option ℤ) → IfSome o IsNear → IfSome o (λ m. pos 0 ≤ℤ (m +ℤ pos (2 ^ 40)))
+    small None h = tt
+    small (Some z) h = h.not_small
 
 low_near : (o : Option ℤ) → IfSome o IsNear → IfSome (option_map neg_ℤ o) IsNear
 low_near None h = tt

@@ -227,7 +227,8 @@ impl Store {
 
     /// How many instances are held.
     pub fn held(&self) -> usize
-        ensures { result ≡ length self.now.held }
+        ensures count { result ≡ length self.now.held }
+        ensures unfocused { self.now.focus ≡ false }
     {
         self.held.len()
     }

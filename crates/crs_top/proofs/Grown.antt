@@ -1,5 +1,5 @@
 -- What a session stands for once an entry is accepted.
-use Rattle.std.proofs.Common.{◌≡◌, ◌≢◌, ◌<◌, ℕ, ◌+◌, zero, suc, Bool, true, false, cond, List, [], ◌∷◌, ◌++◌, map, length, refl, sym, ap, subst, ◌∙◌, arith, append-nil, append_assoc, inl, inr, true≢false, get_or, length-append}
+use Rattle.std.proofs.Common.{◌≡◌, ◌≢◌, ◌<◌, ◌≤◌, nat_lt, filter, ℕ, ◌+◌, zero, suc, Bool, true, false, cond, List, [], ◌∷◌, ◌++◌, map, length, refl, sym, ap, subst, ◌∙◌, arith, append-nil, append_assoc, inl, inr, true≢false, get_or, length-append}
 use Rattle.std.specs.Prelude.{Some, None}
 use Rattle.std.specs.List.{AllByRecursion}
 use Rattle.std.proofs.lemmas.List.{map-append}
@@ -17,7 +17,10 @@ use Rattle.crs_model.specs.declared.models.Name.{Name as CodeName}
 use Rattle.crs_model.specs.declared.models.Kind.{Kind as CodeKind}
 use Rattle.crs_model.specs.declared.models.Kind.TheVariants.{Message as CodeMessage, Attribute as CodeAttribute}
 use Rattle.crs_model.specs.Seen.{name_of}
-use Rattle.crs_model.specs.Order.{put_in_order, HaveSameMembers}
+use Rattle.std.proofs.lemmas.Bool.{le-ltb}
+use Rattle.crs_model.specs.Order.{put_in_order, in_key_order, HaveSameMembers}
+use Rattle.crs_log.specs.Recognitions.{view_of}
+use Rattle.crs_top.specs.Tallies.{IsPeaked}
 use Rattle.crs_model.specs.Plans.{chronicle}
 use Rattle.crs_model.specs.Renaming.{text_in, renamed_entry, IsChronicleOf, IsEntryOf}
 use Rattle.crs_model.proofs.Agreed.{all_same, same_chronicle, same_name, same_entries, chronicle_more, entries_more}
@@ -160,13 +163,24 @@ module _ (texts more : List (List ℕ)) where
       below = below_more accepted e n.below at;
     }
 
+filter_last : (p : LogEntry → Bool) (xs : List LogEntry) (x : LogEntry) → p x ≡ false → filter p (xs ++ x ∷ []) ≡ filter p xs
+filter_last p [] x e = λ i. cond (e i) (x ∷ []) []
+filter_last p (y ∷ xs) x e = λ i. cond (p y) (y ∷ filter_last p xs x e i) (filter_last p xs x e i)
+
+-- an entry that is dated at or after the horizon leaves what recognition reads
+pub view_stays : (f : Frame) (x : Session) (s : State) (r : Represents f x s) (e : Event) → x.engine.horizon ≤ e.date
+    → view_of (with_entry s (entry_of_event (length s.accepted) e) e) ≡ view_of s
+view_stays f x s r e due =
+    let late : nat_lt e.date s.horizon ≡ false = le-ltb e.date s.horizon (let h = r.horizon in omega arith) in
+    λ i. record { settled = in_key_order (filter_last (λ y. nat_lt y.date s.horizon) s.accepted (entry_of_event (length s.accepted) e) late i); horizon = s.horizon }
+
 -- what a session stands for once the entry of an event is accepted
-pub accepted : (f : Frame) (x : Session) (s : State) (r : Represents f x s) → x.met ≡ true → length s.accepted < f.entries → (e : Event) (new : EngineState) (table : Table) (en : CodeEntry)
+pub accepted : (f : Frame) (x : Session) (s : State) (r : Represents f x s) → x.met ≡ true → length s.accepted < f.entries → (e : Event) → x.engine.horizon ≤ e.date → (new : EngineState) (table : Table) (en : CodeEntry)
     → HasAccepted x.engine new → new.stopped ≡ false → table.texts ≡ with_texts x.symbols.texts (texts_of e) → table.limit ≡ x.symbols.limit
     → entry_seen table.texts en ≡ entry_of_event x.engine.accepted e → IsEntryIn table.texts en
     → StandsFor new r.entries.settled (put_in_order (entry_of en) r.entries.waiting)
     → Represents f (record x { engine = new; symbols = table }) (with_entry s (entry_of_event (length s.accepted) e) e)
-accepted f x s r was_met room e new table en a running texts limit seen known st =
+accepted f x s r was_met room e due new table en a running texts limit seen known st =
     let g = texts_grow x.symbols.texts (texts_of e) in
     let now : table.texts ≡ x.symbols.texts ++ g.0 = texts ∙ g.1 in
     let is : entry_seen (x.symbols.texts ++ g.0) en ≡ entry_of_event (length s.accepted) e = ap (λ (t : List (List ℕ)). entry_seen t en) (sym now) ∙ seen ∙ ap (λ n. entry_of_event n e) (sym r.count) in
@@ -191,4 +205,5 @@ accepted f x s r was_met room e new table en a running texts limit seen known st
       most_here = r.most_here;
       met = r.met;
       ended = r.ended;
+      peaked = subst (λ v. IsPeaked f.models.chronicles v x.counts.peak) (sym (view_stays f x s r e due)) r.peaked;
     }

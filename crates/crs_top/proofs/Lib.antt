@@ -1,6 +1,8 @@
 pub mod Results
 pub mod Answered
 pub mod States
+pub mod Counting
+pub mod Living
 pub mod Grown
 pub mod Marking
 pub mod Accepting

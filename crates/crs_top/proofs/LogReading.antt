@@ -1,5 +1,5 @@
 -- A log, read by read.
-use Rattle.std.proofs.Common.{◌≡◌, ◌⊎◌, ◌∙◌, ap, sym, refl, subst, inl, inr, ℕ, ◌+◌, ◌-◌, ◌<◌, ◌≤◌, min, Bool, true, false, List, [], ◌∷◌, ◌++◌, length, take, drop, arith, add-zero, append-nil, append_assoc, length-append, length-take-le, Ok, Err}
+use Rattle.std.proofs.Common.{◌≡◌, ◌⊎◌, ◌∙◌, ap, sym, refl, subst, inl, inr, ℕ, ◌+◌, ◌-◌, ◌<◌, ◌≤◌, min, nat_lt, zero-add, Bool, true, false, List, [], ◌∷◌, ◌++◌, length, take, drop, arith, add-zero, append-nil, append_assoc, length-append, length-take-le, Ok, Err}
 use Rattle.std.proofs.lemmas.List.{length-drop, take-append-le}
 use Rattle.std.proofs.Math.Seq.{take-add, take-length, take-append-add}
 use Rattle.std.specs.List.{AllByRecursion}
@@ -15,11 +15,16 @@ use Rattle.crs_log.proofs.Prompt.{told_whole}
 use Rattle.crs_top.specs.declared.status.Status.TheVariants as stops
 use Rattle.crs_top.specs.declared.status.Status.{Status}
 use Rattle.crs_top.specs.declared.session.Session.{Session}
-use Rattle.crs_top.specs.Session.{Represents}
-use Rattle.crs_top.specs.Taking.{after_all, refuses_some, Takes, IsGivenText}
+use Rattle.crs_log.specs.Recognitions.{view_of}
+use Rattle.crs_top.specs.declared.session.Counts.{Counts}
+use Rattle.crs_top.specs.Session.{Represents, IsUncounted, IsUnfocused}
+use Rattle.crs_top.specs.Tallies.{AllLive, AreCounts, IsSummary, IsTallyFrom, capped, last_of, started, together}
+use Rattle.crs_top.specs.Taking.{after_all, Takes, IsGivenText, IsGivenTally}
 use Rattle.crs_top.specs.Texts.{Frame, setting_of, IsWholeText, IsLogText, some_refused}
-use Rattle.crs_top.specs.Logs.{no_tail, IsEndedText, Appends, IsPrompt, IsPromptAt, IsCutShort, LogOutcome, HasReadLog, TakesPiece, TakesRest, ended_as, Finishes}
-use Rattle.crs_top.proofs.Taken.{takes_none, takes_append, given_text, given_refused}
+use Rattle.crs_top.specs.Logs.{tail_of, summary_of, IsTailOf, has_refused, IsEndedText, Appends, IsPrompt, IsPromptAt, IsCutShort, LogOutcome, HasReadLog, TakesPiece, TakesEnd, ended_as, Finishes}
+use Rattle.crs_top.proofs.Counting.{positive, some_counted}
+use Rattle.crs_top.proofs.Living.{held_by, held_live}
+use Rattle.crs_top.proofs.Taken.{takes_none, takes_append, given_text, given_tally, given_state}
 
 -- the lines of the first t bytes were given, and the reader stands behind them
 pub record IsAt (t : ℕ) (bytes : List ℕ) (lines : Reader) (told : List Given) : Type 0 where
@@ -38,6 +43,12 @@ pub record Base (f : Frame) (old : Told) (i t : ℕ) (more : List Turn) (now : T
   pub turns : now.turns ≡ old.turns ++ more
   pub prompt : IsPrompt f old.written (stream_at old.left i).rest now.written more
 
+-- what was counted before the first line
+pub record HasBegun (f : Frame) (start : Counts) : Type 0 where
+  pub first : ℕ
+  pub at_first : AllLive f.models.chronicles (view_of (at_start f.texts)) first
+  pub counts : AreCounts start (started first)
+
 -- and the text of the whole lines among them is written
 pub record Reading (f : Frame) (old : Told) (i limit t : ℕ) (x : Session) (lines : Reader) (now : Told) : Type 0 where
   pub more : List Turn
@@ -48,21 +59,23 @@ pub record Reading (f : Frame) (old : Told) (i limit t : ℕ) (x : Session) (lin
   pub told : List Given
   pub at : IsAt t (take t (stream_at old.left i).rest) lines told
   pub text : List ℕ
-  pub takes : Takes f false x (at_start f.texts) told [] text
+  pub start : Counts
+  pub begun : HasBegun f start
+  pub takes : Takes f start x (at_start f.texts) told [] text
   pub written : now.written ≡ old.written ++ text
 
-whole_of : (f : Frame) (t : ℕ) (bytes : List ℕ) (x : Session) (lines : Reader) (told : List Given) (text : List ℕ) → IsAt t bytes lines told → Takes f false x (at_start f.texts) told [] text → IsWholeText f bytes text
-whole_of f t bytes x lines told text a k =
+whole_of : (f : Frame) (start : Counts) (t : ℕ) (bytes : List ℕ) (x : Session) (lines : Reader) (told : List Given) (text : List ℕ) → IsAt t bytes lines told → Takes f start x (at_start f.texts) told [] text → IsWholeText f bytes text
+whole_of f start t bytes x lines told text a k =
     let is : told ≡ given_lines 4096 0 (whole_lines bytes) = told_whole 4096 bytes told lines a.given a.none.1 in
     given_text f 0 (at_start f.texts) (whole_lines bytes) text (subst (λ (z : List ℕ). IsGivenText f (at_start f.texts) (given_lines 4096 0 (whole_lines bytes)) z) (sym k.written)
     (subst (λ (gs : List Given). IsGivenText f (at_start f.texts) gs k.text) is k.says))
 
 -- what is written so far is the text of the whole lines
 appends : (f : Frame) (old : Told) (i limit t : ℕ) (x : Session) (lines : Reader) (now : Told) → Reading f old i limit t x lines now → Appends (IsWholeText f (take t (stream_at old.left i).rest)) old.written now.written
-appends f old i limit t x lines now h = (h.text, whole_of f t (take t (stream_at old.left i).rest) x lines h.told h.text h.at h.takes, h.written)
+appends f old i limit t x lines now h = (h.text, whole_of f h.start t (take t (stream_at old.left i).rest) x lines h.told h.text h.at h.takes, h.written)
 
-pub reading_none : (f : Frame) (t : Told) (i limit : ℕ) (x : Session) (lines : Reader) → Represents f x (at_start f.texts) → x.refused ≡ false → lines ≡ record { limit = 4096; number = 0; rest = []; finished = false; fed = 0 } → Reading f t i limit 0 x lines t
-reading_none f t i limit x lines r fresh new = record {
+pub reading_none : (f : Frame) (t : Told) (i limit : ℕ) (x : Session) (lines : Reader) → Represents f x (at_start f.texts) → IsUncounted x → lines ≡ record { limit = 4096; number = 0; rest = []; finished = false; fed = 0 } → Reading f t i limit 0 x lines t
+reading_none f t i limit x lines r u new = record {
   more = [];
   base = record { files = refl; opened = refl; left = (took_none t i).left; within = omega arith; turns = sym (append-nil t.turns); prompt = tt };
   rises = omega arith;
@@ -71,7 +84,13 @@ reading_none f t i limit x lines r fresh new = record {
   told = [];
   at = subst (λ (l : Reader). IsAt 0 [] l []) (sym new) (record { limit = refl; open_still = refl; fed = refl; none = (refl, refl); given = λ m. refl });
   text = [];
-  takes = subst (λ (b : Bool). Takes f b x (at_start f.texts) [] [] []) fresh (takes_none f x (at_start f.texts) [] r);
+  start = x.counts;
+  begun = record {
+    first = held_by x.engine;
+    at_first = held_live f x.engine x.symbols (at_start f.texts) r.models r.entries r.horizon u.unfocused;
+    counts = record { refused = u.refused; recognitions = u.recognitions; peak = u.peak };
+  };
+  takes = takes_none f x (at_start f.texts) [] r;
   written = sym (append-nil t.written);
 }
 
@@ -85,7 +104,7 @@ prompt_push : (f : Frame) (old log w : List ℕ) (ts : List Turn) (t : Turn) →
 prompt_push f old log w [] t p q = (q, tt)
 prompt_push f old log w (u ∷ ts) t p q = (p.0, prompt_push f old log w ts t p.1 q)
 
-module _ (f : Frame) (old : Told) (i : ℕ) (lt : i < length old.left) (z : (stream_at old.left i).taken ≡ 0) where
+module _ (summary : Bool) (f : Frame) (old : Told) (i : ℕ) (lt : i < length old.left) (z : (stream_at old.left i).taken ≡ 0) where
   abbrev log : List ℕ
   log = (stream_at old.left i).rest
 
@@ -165,15 +184,17 @@ module _ (f : Frame) (old : Told) (i : ℕ) (lt : i < length old.left) (z : (str
         told = h.told ++ p.told;
         at = subst (λ (bs : List ℕ). IsAt (t + n) bs now (h.told ++ p.told)) (sym piece) (at_more t n lines now h.told (take t log) (take n buf) x y text (length-take-le n buf few) h.at p);
         text = h.text ++ text;
-        takes = takes_append f x y (at_start f.texts) h.told p.told h.text text h.takes (p.takes f (after_all (setting_of f) (at_start f.texts) h.told) h.takes.state);
+        start = h.start;
+        begun = h.begun;
+        takes = takes_append f h.start x y (at_start f.texts) h.told p.told h.text text h.takes (p.takes f (after_all (setting_of f) (at_start f.texts) h.told) h.takes.state);
         written = w.written ∙ rw (r.written, h.written, append_assoc) (ap (λ (y : List ℕ). old.written ++ (h.text ++ y)) (take-length text));
       }
 
   -- the stops
-  reads_log : (new : Told) (limit t : ℕ) (more : List Turn) (e : Status) → Base f old i t more new → Rises i 0 (t + 1) more → AllByRecursion (HasRoom limit) more → t ≤ limit → LogOutcome no_tail f log limit t old.written e new.written → HasReadLog no_tail f old i limit e new
+  reads_log : (new : Told) (limit t : ℕ) (more : List Turn) (e : Status) → Base f old i t more new → Rises i 0 (t + 1) more → AllByRecursion (HasRoom limit) more → t ≤ limit → LogOutcome (tail_of summary) f log limit t old.written e new.written → HasReadLog (tail_of summary) f old i limit e new
   reads_log new limit t more e b r rooms most end = (t, more, record { files = b.files; opened = b.opened; left = b.left; within = b.within; turns = b.turns; rises = r; rooms = rooms; most = most; prompt = b.prompt; outcome = end })
 
-  pub stop_failed : (mid new : Told) (limit t : ℕ) (x : Session) (lines : Reader) (buf : List ℕ) → Reading f old i limit t x lines mid → Reads mid i (Err errors.Failed) buf new → length buf ≡ min 4096 (limit - t) → t < limit → HasReadLog no_tail f old i limit stops.ReadFault new
+  pub stop_failed : (mid new : Told) (limit t : ℕ) (x : Session) (lines : Reader) (buf : List ℕ) → Reading f old i limit t x lines mid → Reads mid i (Err errors.Failed) buf new → length buf ≡ min 4096 (limit - t) → t < limit → HasReadLog (tail_of summary) f old i limit stops.ReadFault new
   stop_failed mid new limit t x lines buf h r room below =
       let a = appends f old i limit t x lines mid h in
       reads_log new limit t (h.more ++ turn_of mid i (length buf) ∷ []) stops.ReadFault
@@ -190,7 +211,7 @@ module _ (f : Frame) (old : Told) (i : ℕ) (lt : i < length old.left) (z : (str
       h.most
       (below, (a.0, a.1, r.written ∙ a.2))
 
-  pub stop_refused : (mid new : Told) (limit t : ℕ) (x : Session) (lines : Reader) (buf : List ℕ) → Reading f old i limit t x lines mid → Reads mid i (Err errors.Memory) buf new → HasReadLog no_tail f old i limit stops.Memory new
+  pub stop_refused : (mid new : Told) (limit t : ℕ) (x : Session) (lines : Reader) (buf : List ℕ) → Reading f old i limit t x lines mid → Reads mid i (Err errors.Memory) buf new → HasReadLog (tail_of summary) f old i limit stops.Memory new
   stop_refused mid new limit t x lines buf h r =
       let a = appends f old i limit t x lines mid h in
       reads_log new limit t h.more stops.Memory
@@ -207,13 +228,13 @@ module _ (f : Frame) (old : Told) (i : ℕ) (lt : i < length old.left) (z : (str
       h.most
       (inl (t, omega arith, (a.0, length a.0, a.1, r.written ∙ a.2 ∙ rw take-length refl)))
 
-  pub stop_long : (now : Told) (limit t : ℕ) (x : Session) (lines : Reader) → Reading f old i limit t x lines now → t ≡ limit → HasReadLog no_tail f old i limit stops.TooLong now
+  pub stop_long : (now : Told) (limit t : ℕ) (x : Session) (lines : Reader) → Reading f old i limit t x lines now → t ≡ limit → HasReadLog (tail_of summary) f old i limit stops.TooLong now
   stop_long now limit t x lines h e =
       reads_log now limit t h.more stops.TooLong h.base (rises_weaker _ _ _ _ _ h.rises (omega arith)) h.rooms h.most (e, appends f old i limit t x lines now h)
 
   -- the write or the memory failed, with k bytes of the piece's text written
   cut_short : (mid new last : Told) (limit t n : ℕ) (x y : Session) (lines : Reader) (buf text : List ℕ) (stop : Status) → (stop ≡ stops.WriteFault) ⊎ (stop ≡ stops.Memory)
-      → (h : Reading f old i limit t x lines mid) → Reads mid i (Ok n) buf new → length buf ≡ min 4096 (limit - t) → n ≤ length buf → 0 < n → (k : ℕ) → Wrote new text k last → IsCutShort no_tail f log (t + n) old.written last.written → HasReadLog no_tail f old i limit stop last
+      → (h : Reading f old i limit t x lines mid) → Reads mid i (Ok n) buf new → length buf ≡ min 4096 (limit - t) → n ≤ length buf → 0 < n → (k : ℕ) → Wrote new text k last → IsCutShort (tail_of summary) f log (t + n) old.written last.written → HasReadLog (tail_of summary) f old i limit stop last
   cut_short mid new last limit t n x y lines buf text stop either h r room few pos k w cut =
       let b = base_write new last (t + n) k (h.more ++ turn_of mid i (length buf) ∷ []) text (base_read mid new limit t n x lines buf h r) w in
       let up : Rises i 0 (t + n + 1) (h.more ++ turn_of mid i (length buf) ∷ []) = rises_weaker _ _ _ _ _ (rises_turn mid limit t (length buf) x lines h) (omega arith) in
@@ -225,12 +246,12 @@ module _ (f : Frame) (old : Told) (i : ℕ) (lt : i < length old.left) (z : (str
       ]
 
   pub stop_write : (mid new last : Told) (limit t n : ℕ) (x y : Session) (lines now : Reader) (buf text : List ℕ) (stop : Status) → (stop ≡ stops.WriteFault) ⊎ (stop ≡ stops.Memory)
-      → (h : Reading f old i limit t x lines mid) → Reads mid i (Ok n) buf new → length buf ≡ min 4096 (limit - t) → n ≤ length buf → 0 < n → (p : TakesPiece lines now x y (take n buf) text) → (k : ℕ) → Wrote new text k last → HasReadLog no_tail f old i limit stop last
+      → (h : Reading f old i limit t x lines mid) → Reads mid i (Ok n) buf new → length buf ≡ min 4096 (limit - t) → n ≤ length buf → 0 < n → (p : TakesPiece lines now x y (take n buf) text) → (k : ℕ) → Wrote new text k last → HasReadLog (tail_of summary) f old i limit stop last
   stop_write mid new last limit t n x y lines now buf text stop either h r room few pos p k w =
       let piece = piece_is mid new limit t n x lines buf h r in
       let at : IsAt (t + n) (take (t + n) log) now (h.told ++ p.told) =
       subst (λ (bs : List ℕ). IsAt (t + n) bs now (h.told ++ p.told)) (sym piece) (at_more t n lines now h.told (take t log) (take n buf) x y text (length-take-le n buf few) h.at p) in
-      let takes = takes_append f x y (at_start f.texts) h.told p.told h.text text h.takes (p.takes f (after_all (setting_of f) (at_start f.texts) h.told) h.takes.state) in
+      let takes = takes_append f h.start x y (at_start f.texts) h.told p.told h.text text h.takes (p.takes f (after_all (setting_of f) (at_start f.texts) h.told) h.takes.state) in
       cut_short mid new last limit t n x y lines buf text stop either h r room few pos k w
       (inl (
         t + n,
@@ -238,13 +259,13 @@ module _ (f : Frame) (old : Told) (i : ℕ) (lt : i < length old.left) (z : (str
         (
           h.text ++ text,
           length h.text + k,
-          whole_of f (t + n) (take (t + n) log) y now (h.told ++ p.told) (h.text ++ text) at takes,
+          whole_of f h.start (t + n) (take (t + n) log) y now (h.told ++ p.told) (h.text ++ text) at takes,
           w.written ∙ rw (r.written, h.written, append_assoc) (ap (λ (y : List ℕ). old.written ++ y) (sym (take-append-add h.text text k))),
         ),
       ))
 
   -- memory was wanting before the piece's text was made
-  pub stop_piece : (mid new : Told) (limit t n : ℕ) (x : Session) (lines : Reader) (buf : List ℕ) → (h : Reading f old i limit t x lines mid) → Reads mid i (Ok n) buf new → length buf ≡ min 4096 (limit - t) → n ≤ length buf → 0 < n → HasReadLog no_tail f old i limit stops.Memory new
+  pub stop_piece : (mid new : Told) (limit t n : ℕ) (x : Session) (lines : Reader) (buf : List ℕ) → (h : Reading f old i limit t x lines mid) → Reads mid i (Ok n) buf new → length buf ≡ min 4096 (limit - t) → n ≤ length buf → 0 < n → HasReadLog (tail_of summary) f old i limit stops.Memory new
   stop_piece mid new limit t n x lines buf h r room few pos =
       let a = appends f old i limit t x lines mid h in
       cut_short mid new new limit t n x x lines buf [] stops.Memory (inr refl) h r room few pos 0
@@ -262,7 +283,7 @@ module _ (f : Frame) (old : Told) (i : ℕ) (lt : i < length old.left) (z : (str
     all_is : take t log ≡ log
     all_is = rw all_read (take-length log)
 
-    at_end : (last : Told) (k : ℕ) (text : List ℕ) (status : Status) → Wrote new text k last → LogOutcome no_tail f log limit t old.written status last.written → HasReadLog no_tail f old i limit status last
+    at_end : (last : Told) (k : ℕ) (text : List ℕ) (status : Status) → Wrote new text k last → LogOutcome (tail_of summary) f log limit t old.written status last.written → HasReadLog (tail_of summary) f old i limit status last
     at_end last k text status w outcome =
         let b : Base f old i t (h.more ++ turn_of mid i (length buf) ∷ []) new = rw add-zero at (base_read mid new limit t 0 x lines buf h r) in
         let c = base_write new last t k (h.more ++ turn_of mid i (length buf) ∷ []) text b w in (
@@ -283,55 +304,89 @@ module _ (f : Frame) (old : Told) (i : ℕ) (lt : i < length old.left) (z : (str
         )
 
     -- the text of the log
-    module _ (y : Session) (text : List ℕ) (p : TakesRest lines x y text) where
-      all_told : given_lines 4096 0 (lines_of log) ≡ h.told ++ p.told
+    module _ (y : Session) (text : List ℕ) (p : TakesEnd summary lines x y text) where
+      all_told : given_lines 4096 0 (lines_of log) ≡ h.told ++ p.2.told
       all_told =
-          ap (λ (bs : List ℕ). given 4096 0 bs) (sym (append-nil (take t log) ∙ all_is)) ∙ h.at.given [] ∙ ap (λ (gs : List Given). h.told ++ gs) p.ahead_is
+          ap (λ (bs : List ℕ). given 4096 0 bs) (sym (append-nil (take t log) ∙ all_is)) ∙ h.at.given [] ∙ ap (λ (gs : List Given). h.told ++ gs) p.2.ahead_is
 
-      all_takes : Takes f false y (at_start f.texts) (h.told ++ p.told) [] (h.text ++ text)
-      all_takes = takes_append f x y (at_start f.texts) h.told p.told h.text text h.takes (p.takes f (after_all (setting_of f) (at_start f.texts) h.told) h.takes.state)
+      all_takes : Takes f h.start y (at_start f.texts) (h.told ++ p.2.told) [] (h.text ++ p.0)
+      all_takes = takes_append f h.start x y (at_start f.texts) h.told p.2.told h.text p.0 h.takes
+          (p.2.takes f (after_all (setting_of f) (at_start f.texts) h.told) h.takes.state)
 
-      log_text : IsLogText f log (h.text ++ text)
-      log_text = given_text f 0 (at_start f.texts) (lines_of log) (h.text ++ text)
+      log_text : IsLogText f log (h.text ++ p.0)
+      log_text = given_text f 0 (at_start f.texts) (lines_of log) (h.text ++ p.0)
           (subst (λ (z : List ℕ). IsGivenText f (at_start f.texts) (given_lines 4096 0 (lines_of log)) z) (sym all_takes.written)
           (subst (λ (gs : List Given). IsGivenText f (at_start f.texts) gs all_takes.text) (sym all_told) all_takes.says))
 
-      ended_text : IsEndedText no_tail f log (h.text ++ text)
-      ended_text = (h.text ++ text, [], log_text, refl, sym (append-nil (h.text ++ text)))
+      log_tally : IsTallyFrom (setting_of f) f.models.chronicles (at_start f.texts) (lines_of log) all_takes.tally
+      log_tally = given_tally f 0 (at_start f.texts) (lines_of log) all_takes.tally
+          (subst (λ (gs : List Given). IsGivenTally f (at_start f.texts) gs all_takes.tally) (sym all_told) all_takes.tallied)
 
-      log_refused : y.refused ≡ some_refused f log
-      log_refused = all_takes.noted ∙ ap (refuses_some (setting_of f) (at_start f.texts)) (sym all_told) ∙ given_refused (setting_of f) 0 (at_start f.texts) (lines_of log)
+      log_state : Represents f y (last_of f log)
+      log_state = subst (Represents f y)
+          (ap (after_all (setting_of f) (at_start f.texts)) (sym all_told) ∙ given_state (setting_of f) 0 (at_start f.texts) (lines_of log)) all_takes.state
+
+      all_counts : AreCounts y.counts (together (started h.begun.first) all_takes.tally)
+      all_counts = all_takes.counted (started h.begun.first) h.begun.counts
+
+      log_summary : IsUnfocused y.engine → IsSummary f log (summary_of y)
+      log_summary unfocused = record {
+        lines = all_takes.tally;
+        tallied = log_tally;
+        first = h.begun.first;
+        at_first = h.begun.at_first;
+        last = held_by y.engine;
+        at_last = held_live f y.engine y.symbols (last_of f log) log_state.models log_state.entries log_state.horizon unfocused;
+        entries = ap capped (sym log_state.count);
+        refused = all_counts.refused ∙ ap capped (zero-add all_takes.tally.refused);
+        recognitions = all_counts.recognitions ∙ ap capped (zero-add all_takes.tally.recognitions);
+        kept = refl;
+        peak = all_counts.peak;
+      }
+
+      tail_is : (b : Bool) → IsTailOf b y p.1 → tail_of b f log p.1
+      tail_is false e = e
+      tail_is true e = (summary_of y, log_summary e.0, e.1)
+
+      ended_text : IsEndedText (tail_of summary) f log (h.text ++ text)
+      ended_text =
+          (h.text ++ p.0, p.1, log_text, tail_is summary p.3, ap (λ (z : List ℕ). h.text ++ z) p.4 ∙ sym (append_assoc h.text p.0 p.1))
+
+      log_refused : has_refused y ≡ some_refused f log
+      log_refused =
+          ap (nat_lt 0) (all_counts.refused ∙ ap capped (zero-add all_takes.tally.refused)) ∙ positive all_takes.tally.refused
+          ∙ some_counted (setting_of f) f.models.chronicles (at_start f.texts) (lines_of log) all_takes.tally log_tally
 
       written_front : (last : Told) (k : ℕ) → Wrote new text k last → last.written ≡ old.written ++ take (length h.text + k) (h.text ++ text)
       written_front last k w = w.written ∙ rw (r.written, h.written, append_assoc) (ap (λ (y : List ℕ). old.written ++ y) (sym (take-append-add h.text text k)))
 
-      done_outcome : (refused : Bool) → refused ≡ some_refused f log → (last : List ℕ) → t < limit → Appends (IsEndedText no_tail f log) old.written last → LogOutcome no_tail f log limit t old.written (ended_as refused) last
+      done_outcome : (refused : Bool) → refused ≡ some_refused f log → (last : List ℕ) → t < limit → Appends (IsEndedText (tail_of summary) f log) old.written last → LogOutcome (tail_of summary) f log limit t old.written (ended_as refused) last
       done_outcome true e last below a = (all_read, below, a, sym e)
       done_outcome false e last below a = (all_read, below, a, sym e)
 
-      pub end_done : (last : Told) → t < limit → Wrote new text (length text) last → HasReadLog no_tail f old i limit (ended_as y.refused) last
-      end_done last below w = at_end last (length text) text (ended_as y.refused) w
-          (done_outcome y.refused log_refused last.written below
+      pub end_done : (last : Told) → t < limit → Wrote new text (length text) last → HasReadLog (tail_of summary) f old i limit (ended_as (has_refused y)) last
+      end_done last below w = at_end last (length text) text (ended_as (has_refused y)) w
+          (done_outcome (has_refused y) log_refused last.written below
           (h.text ++ text, ended_text, w.written ∙ rw (r.written, h.written, append_assoc) (ap (λ (y : List ℕ). old.written ++ (h.text ++ y)) (take-length text))))
 
-      pub end_stopped : (last : Told) (k : ℕ) (stop : Status) → (stop ≡ stops.WriteFault) ⊎ (stop ≡ stops.Memory) → Wrote new text k last → HasReadLog no_tail f old i limit stop last
+      pub end_stopped : (last : Told) (k : ℕ) (stop : Status) → (stop ≡ stops.WriteFault) ⊎ (stop ≡ stops.Memory) → Wrote new text k last → HasReadLog (tail_of summary) f old i limit stop last
       end_stopped last k stop either w =
-          let cut : IsCutShort no_tail f log t old.written last.written = inr (all_read, (h.text ++ text, length h.text + k, ended_text, written_front last k w)) in
+          let cut : IsCutShort (tail_of summary) f log t old.written last.written = inr (all_read, (h.text ++ text, length h.text + k, ended_text, written_front last k w)) in
           elim either [
             | inl e ↦ rw e (at_end last k text stops.WriteFault w cut)
             | inr e ↦ rw e (at_end last k text stops.Memory w cut)
           ]
 
     -- memory was wanting before the last line's text was made
-    pub end_refused : HasReadLog no_tail f old i limit stops.Memory new
+    pub end_refused : HasReadLog (tail_of summary) f old i limit stops.Memory new
     end_refused =
         let a = appends f old i limit t x lines mid h in
         at_end new 0 [] stops.Memory (record { files = refl; opened = refl; left = refl; turns = refl; within = omega arith; written = sym (append-nil new.written) })
         (inl (t, omega arith, (a.0, length a.0, a.1, r.written ∙ a.2 ∙ rw take-length refl)))
 
 -- nothing was read
-pub stop_before : (f : Frame) (t : Told) (i limit : ℕ) → HasReadLog no_tail f t i limit stops.Memory t
-stop_before f t i limit = (
+pub stop_before : (summary : Bool) (f : Frame) (t : Told) (i limit : ℕ) → HasReadLog (tail_of summary) f t i limit stops.Memory t
+stop_before summary f t i limit = (
   0,
   [],
   record {
@@ -349,14 +404,14 @@ stop_before f t i limit = (
 )
 
 -- where the rest was taken and written, or the write or the memory failed
-pub end_by : (f : Frame) (old mid new last : Told) (i limit t n : ℕ) (x : Session) (lines : Reader) (buf : List ℕ) (status : Status) → i < length old.left → (stream_at old.left i).taken ≡ 0 → Reading f old i limit t x lines mid
-    → Reads mid i (Ok n) buf new → length buf ≡ min 4096 (limit - t) → n ≡ 0 → t < limit → Finishes new x lines status last → HasReadLog no_tail f old i limit status last
-end_by f old mid new last i limit t n x lines buf status lt z h r room zero below (inl e) =
+pub end_by : (summary : Bool) (f : Frame) (old mid new last : Told) (i limit t n : ℕ) (x : Session) (lines : Reader) (buf : List ℕ) (status : Status) → i < length old.left → (stream_at old.left i).taken ≡ 0 → Reading f old i limit t x lines mid
+    → Reads mid i (Ok n) buf new → length buf ≡ min 4096 (limit - t) → n ≡ 0 → t < limit → Finishes summary new x lines status last → HasReadLog (tail_of summary) f old i limit status last
+end_by summary f old mid new last i limit t n x lines buf status lt z h r room zero below (inl e) =
     let r0 : Reads mid i (Ok 0) buf new = subst (λ (k : ℕ). Reads mid i (Ok k) buf new) zero r in
-    rw (e.0, e.1) (end_refused f old i lt z mid new limit t x lines buf h r0 room)
-end_by f old mid new last i limit t n x lines buf status lt z h r room zero below (inr e) =
+    rw (e.0, e.1) (end_refused summary f old i lt z mid new limit t x lines buf h r0 room)
+end_by summary f old mid new last i limit t n x lines buf status lt z h r room zero below (inr e) =
     let r0 : Reads mid i (Ok 0) buf new = subst (λ (k : ℕ). Reads mid i (Ok k) buf new) zero r in
     elim e.3 [
-      | inl s ↦ rw s.0 (end_done f old i lt z mid new limit t x lines buf h r0 room e.0 e.1 e.2 last below s.1)
-      | inr s ↦ end_stopped f old i lt z mid new limit t x lines buf h r0 room e.0 e.1 e.2 last s.1.0 status s.0 s.1.1
+      | inl s ↦ rw s.0 (end_done summary f old i lt z mid new limit t x lines buf h r0 room e.0 e.1 e.2 last below s.1)
+      | inr s ↦ end_stopped summary f old i lt z mid new limit t x lines buf h r0 room e.0 e.1 e.2 last s.1.0 status s.0 s.1.1
     ]

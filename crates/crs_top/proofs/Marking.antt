@@ -1,11 +1,11 @@
 -- What an accepted `clock` and an accepted `end` bring.
-use Rattle.std.proofs.Common.{◌≡◌, ◌<◌, ◌≤◌, ◌^◌, ◌-◌, ℕ, Bool, true, false, cond, List, ◌++◌, nat_lt, refl, sym, ap, subst, ◌∙◌, arith, Ok, Err, true≢false}
-use Rattle.std.specs.Prelude.{Some, None, flat_map, IsTrue, ◌↔◌, ◌⊎◌}
+use Rattle.std.proofs.Common.{◌≡◌, ◌<◌, ◌≤◌, ◌^◌, ◌-◌, ℕ, Bool, true, false, cond, List, ◌++◌, length, nat_lt, refl, sym, ap, subst, ◌∙◌, arith, Ok, Err, true≢false}
+use Rattle.std.specs.Prelude.{Some, None, IsSome, OnOk, Result, flat_map, IsTrue, ◌↔◌, ◌⊎◌}
 use Rattle.std.proofs.Common.{inl, inr}
-use Rattle.std.proofs.Math.Bool.{or-false}
 use Rattle.crs_model.specs.declared.recognition.Recognition.{Recognition}
+use Rattle.crs_model.specs.declared.recognition.Mark.{Mark}
 use Rattle.crs_model.specs.declared.recognition.Mark.TheVariants.{Clock, Finish}
-use Rattle.crs_engine.specs.Engines.{EngineState, HasMoved}
+use Rattle.crs_engine.specs.Engines.{EngineState, HasMoved, kept_of}
 use Rattle.crs_engine.specs.Marks.{AfterMark}
 use Rattle.crs_engine.proofs.Marking.{moved_forward}
 use Rattle.crs_engine.specs.Refusals.{clock_refusal, IsRefusedAs}
@@ -18,9 +18,15 @@ use Rattle.crs_log.specs.Run as run
 use Rattle.crs_log.specs.Run.{State, Outcome, Marked, after_ordered, horizon_at, end_date}
 use Rattle.crs_log.specs.Recognitions.{view_of}
 use Rattle.crs_top.specs.declared.session.Session.{Session}
-use Rattle.crs_top.specs.Session.{IsReached, Represents, Brings, line_in}
-use Rattle.crs_top.specs.Texts.{Frame, setting_of}
-use Rattle.crs_top.proofs.States.{mark_text, marked}
+use Rattle.crs_top.specs.Session.{IsReached, IsUnfocused, Represents, Brings, BringsAll, line_in}
+use Rattle.crs_top.specs.declared.session.Counts.{Counts}
+use Rattle.crs_top.specs.Tallies.{AllLive, with_mark, with_refused}
+use Rattle.crs_top.specs.Texts.{Frame, setting_of, fault_of}
+use Rattle.crs_report.specs.Lines.{refusal_line}
+use Rattle.crs_top.proofs.Accepting.{refuse_brings}
+use Rattle.crs_top.proofs.Counting.{passed, counted_mark, peak_after}
+use Rattle.crs_top.proofs.Living.{held_by, held_live}
+use Rattle.crs_top.proofs.States.{mark_text, mark_new, models_then, entries_then, marked}
 
 fine_by : {A : Type 0} (stopped early : Bool) (full back : Refused) (answer : A) → stopped ≡ false
     → IsRefusedAs (if stopped then Some full else (if early then Some back else None)) (Ok answer) → early ≡ false
@@ -31,6 +37,20 @@ fine_by false false full back answer e h = refl
 -- a clock that was taken isn't before the last
 pub clock_fine : {A : Type 0} (e : EngineState) (t : ℕ) (answer : A) → e.stopped ≡ false → IsRefusedAs (clock_refusal e t) (Ok answer) → nat_lt t e.last ≡ false
 clock_fine e t answer running h = fine_by e.stopped (nat_lt t e.last) Stopped (Back t e.last) answer running h
+
+-- a clock that is answered by `back` is before the last
+back_by : (stopped early : Bool) (t last a b : ℕ) → stopped ≡ false
+    → IsRefusedAs {A = List Recognition} (if stopped then Some Stopped else (if early then Some (Back t last) else None)) (Err (Back a b))
+    → (early ≡ true) × (a ≡ t) × (b ≡ last)
+back_by true early t last a b e h = absurd (true≢false e)
+back_by false true t last a b e h = (refl, cc, cc)
+back_by false false t last a b e h = let k = h (Back a b) refl in absurd cc
+
+same_by : (stopped early : Bool) (back : Refused) (P : Type 0) → early ≡ true
+    → (IsSome (if stopped then Some Stopped else (if early then Some back else None)) → P) → P
+same_by true early back P e h = h refl
+same_by false true back P e h = h refl
+same_by false false back P e h = absurd (true≢false (sym e))
 
 -- a call that succeeds leaves the engine running
 pub still_running : {A : Type 0} (old new : Bool) (answer : A) → old ≡ false → (IsTrue new ↔ (IsTrue old ⊎ (Ok answer ≡ Err Memory))) → new ≡ false
@@ -51,32 +71,73 @@ module _ (f : Frame) (x : Session) (s : State) (r : Represents f x s) (new : Eng
   pub end_rises : x.ended ≡ false → x.engine.horizon ≤ 2 ^ 42
   end_rises open_ = let h = r.reached.open_horizon (r.ended ∙ open_) in let l = r.reached.open_last (r.ended ∙ open_) in omega (arith, r.horizon)
 
+module _ (f : Frame) (x : Session) (s : State) (r : Represents f x s) (new : EngineState) (answer : List Recognition) (met : x.met ≡ true) (going : new.stopped ≡ false) (unfocused : IsUnfocused new) where
+  -- what is held after the mark lives then
+  mark_live : (mark : Mark) (t h : ℕ) (ended : Bool) → HasMoved x.engine new t h → x.engine.horizon ≤ h
+      → AfterMark x.engine new mark r.entries.settled r.entries.waiting answer
+      → AllLive f.models.chronicles (view_of (record s { last = t; horizon = h; ended = ended })) (held_by new)
+  mark_live mark t h ended m rises after =
+      let moved = moved_forward x.engine new t h m rises in
+      held_live f new x.symbols (record s { last = t; horizon = h; ended = ended }) (models_then f x s r new mark answer h m.same_plans moved rises after)
+      (entries_then f x s r new mark answer h m.same_plans moved rises after) (sym moved) unfocused
+
+  abbrev counts_then : Counts
+  counts_then = with_mark x.counts (length answer) (kept_of new)
+
+  -- a mark brings its recognitions, and what is held is counted
+  mark_brings : (mark : Mark) (t h : ℕ) (here there : Bool) (n : ℕ) (out more : List ℕ) → there ≡ here → HasMoved x.engine new t h → x.engine.horizon ≤ h
+      → AfterMark x.engine new mark r.entries.settled r.entries.waiting answer → IsReached (record s { last = t; horizon = h; ended = there })
+      → more ≡ out ++ flat_map (line_in new.plans x.symbols.texts) answer
+      → Brings f x.counts (record x { engine = new; ended = here; counts = counts_then }) n (view_of s)
+      (record s { last = t; horizon = h; ended = there }, Marked mark) out more
+  mark_brings mark t h here there n out more same m rises after reached written =
+      let moved = moved_forward x.engine new t h m rises in
+      let live = mark_live mark t h there m rises after in
+      record {
+        state = marked f x s r new mark answer h m.same_plans moved rises after t here there counts_then same m going reached
+            (held_by new, live, peak_after x.counts.peak (held_by new));
+        text = flat_map (line_in new.plans x.symbols.texts) answer;
+        says = mark_text f x s r new mark answer h m.same_plans moved rises after;
+        written = written;
+        tally = record (passed (held_by new)) { recognitions = length answer };
+        tallied = ((refl, mark_new f x s r new mark answer h m.same_plans moved rises after), live);
+        counted = counted_mark x.counts (length answer) (held_by new);
+      }
+
   -- a clock brings its mark
   pub clock_brings : (t n : ℕ) (out more : List ℕ) → x.ended ≡ false → t < 2 ^ 40 → nat_lt t x.engine.last ≡ false → HasMoved x.engine new t (t - x.engine.delay)
       → AfterMark x.engine new (Clock t) r.entries.settled r.entries.waiting answer → more ≡ out ++ flat_map (line_in new.plans x.symbols.texts) answer
-      → Brings f x.refused (record x { engine = new }) n (view_of s) (after_ordered (setting_of f) s (items.Clock t)) out more
+      → Brings f x.counts (record x { engine = new; counts = counts_then }) n (view_of s) (after_ordered (setting_of f) s (items.Clock t)) out more
   clock_brings t n out more open_ small fine m after written =
-      let h : ℕ = horizon_at s t in
       let m' : HasMoved x.engine new t (t - s.delay) = subst (λ (d : ℕ). HasMoved x.engine new t (t - d)) (sym r.delay) m in
       let now : State = record s { last = t; horizon = t - s.delay } in
       let is : (now, Marked (Clock t)) ≡ after_ordered (setting_of f) s (items.Clock t) =
       (λ i. cond (sym (ap (nat_lt t) r.last ∙ fine) i) (s, run.Refused (run.Back t s.last)) (now, Marked (Clock t))) in
-      subst (λ (a : State × Outcome). Brings f x.refused (record x { engine = new }) n (view_of s) a out more) is (record {
-        state = marked f x s r new (Clock t) answer (t - s.delay) m'.same_plans (moved_forward x.engine new t (t - s.delay) m' (clock_rises t open_ fine)) (clock_rises t open_ fine) after t x.ended s.ended r.ended m' going (reached_met t (t - s.delay) s.ended (λ q. refl) (λ q. small));
-        text = flat_map (line_in new.plans x.symbols.texts) answer;
-        says = mark_text f x s r new (Clock t) answer (t - s.delay) m'.same_plans (moved_forward x.engine new t (t - s.delay) m' (clock_rises t open_ fine)) (clock_rises t open_ fine) after;
-        written = written;
-        noted = sym (or-false x.refused);
-      })
+      subst (λ (a : State × Outcome). Brings f x.counts (record x { engine = new; counts = counts_then }) n (view_of s) a out more) is
+      (mark_brings (Clock t) t (t - s.delay) x.ended s.ended n out more r.ended m' (clock_rises f x s r new answer met going t open_ fine) after
+      (reached_met f x s r new answer met going t (t - s.delay) s.ended (λ q. refl) (λ q. small)) written)
 
   -- an end brings its mark
   pub end_brings : (n : ℕ) (out more : List ℕ) → x.ended ≡ false → HasMoved x.engine new (2 ^ 42) (2 ^ 42)
       → AfterMark x.engine new Finish r.entries.settled r.entries.waiting answer → more ≡ out ++ flat_map (line_in new.plans x.symbols.texts) answer
-      → Brings f x.refused (record x { engine = new; ended = true }) n (view_of s) (after_ordered (setting_of f) s items.Finish) out more
-  end_brings n out more open_ m after written = record {
-    state = marked f x s r new Finish answer (2 ^ 42) m.same_plans (moved_forward x.engine new (2 ^ 42) (2 ^ 42) m (end_rises open_)) (end_rises open_) after (2 ^ 42) true true refl m going (reached_met (2 ^ 42) (2 ^ 42) true (λ q. absurd (true≢false q)) (λ q. absurd (true≢false q)));
-    text = flat_map (line_in new.plans x.symbols.texts) answer;
-    says = mark_text f x s r new Finish answer (2 ^ 42) m.same_plans (moved_forward x.engine new (2 ^ 42) (2 ^ 42) m (end_rises open_)) (end_rises open_) after;
-    written = written;
-    noted = sym (or-false x.refused);
-  }
+      → Brings f x.counts (record x { engine = new; ended = true; counts = counts_then }) n (view_of s) (after_ordered (setting_of f) s items.Finish) out more
+  end_brings n out more open_ m after written =
+      mark_brings Finish (2 ^ 42) (2 ^ 42) true true n out more refl m (end_rises f x s r new answer met going open_) after
+      (reached_met f x s r new answer met going (2 ^ 42) (2 ^ 42) true (λ q. absurd (true≢false q)) (λ q. absurd (true≢false q))) written
+
+-- a clock before the last is refused
+pub back_brings : {A E : Type 0} (result : Result A E) (x : Session) (e : EngineState) (y : Session) (t n a b : ℕ) (out more : List ℕ)
+    → x.engine.stopped ≡ false → IsRefusedAs {A = List Recognition} (clock_refusal x.engine t) (Err (Back a b))
+    → (IsSome (clock_refusal x.engine t) → e ≡ x.engine)
+    → OnOk result (more ≡ out ++ refusal_line n (fault_of (run.Back a b)))
+    → OnOk result (y ≡ record x { engine = e; counts = with_refused x.counts })
+    → OnOk result (BringsAll x y n (λ f s. after_ordered (setting_of f) s (items.Clock t)) out more)
+back_brings result x e y t n a b out more running refused same written counted =
+    let k = back_by x.engine.stopped (nat_lt t x.engine.last) t x.engine.last a b running refused in
+    let stays : e ≡ x.engine = same_by x.engine.stopped (nat_lt t x.engine.last) (Back t x.engine.last) (e ≡ x.engine) k.0 same in
+    let noted : OnOk result (y ≡ record x { counts = with_refused x.counts }) =
+    subst (λ (z : EngineState). OnOk result (y ≡ record x { engine = z; counts = with_refused x.counts })) stays counted in
+    refuse_brings result x y n (run.Back a b) (λ f s. after_ordered (setting_of f) s (items.Clock t)) out more written noted
+    (λ f s r.
+    let is : nat_lt t s.last ≡ true = ap (nat_lt t) r.last ∙ k.0 in
+    λ i. cond (is i) (s, run.Refused (run.Back (sym k.1 i) ((r.last ∙ sym k.2) i))) (record s { last = t; horizon = horizon_at s t }, Marked (Clock t)))

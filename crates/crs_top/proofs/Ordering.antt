@@ -2,7 +2,6 @@
 use Rattle.std.proofs.Common.{◌≡◌, Bool, true, false, cond, List, ℕ, length, refl, sym, ap, ◌∙◌, true≢false, append-nil, []}
 use Rattle.std.specs.Prelude.{◌||◌, ◌&&◌}
 use Rattle.std.specs.Prelude.{Option, Some, None}
-use Rattle.std.proofs.Math.Bool.{or-false}
 use Rattle.std.proofs.lemmas.Bool.{or_parts}
 use Rattle.crs_log.specs.declared.items.Item.{Item}
 use Rattle.crs_log.specs.declared.items.Item.TheVariants.{Blank, Delay as DelayItem, Clock as ClockItem, Finish as FinishItem, Event as EventItem}
@@ -18,6 +17,7 @@ use Rattle.crs_top.specs.declared.session.Session.{Session}
 use Rattle.crs_top.specs.Session.{Represents, Brings, IsUnused, ordered_what, is_blank_what, is_delay_what}
 use Rattle.crs_top.specs.Texts.{Frame, setting_of}
 use Rattle.crs_top.proofs.States.{delayed}
+use Rattle.crs_top.proofs.Counting.{passed, counted_passed}
 
 -- an item that stands in order becomes what it does in order, once an item was met
 pub in_order : (c : Setting) (s : State) (w : What) → is_blank_what w ≡ false → (s.ended || (is_delay_what w && s.met)) ≡ false → (w ≡ Faulty → ⊥) → ordered_what c (is_met s) w ≡ after_what c s w
@@ -39,8 +39,16 @@ unused f x s r h =
     record { none = sym r.count ∙ ap length k.0; start = sym r.last ∙ k.1; horizon = sym r.horizon ∙ k.2 }
 
 pub delay_brings : (f : Frame) (x : Session) (s : State) (d n : ℕ) (out : List ℕ) → IsUnused x.engine → Represents f x s
-    → Brings f x.refused (record x { engine = record x.engine { delay = d } }) n (view_of s) (ordered_what (setting_of f) s (Is (Delay d))) out out
-delay_brings f x s d n out u r = record { state = delayed f x s d u r; text = []; says = refl; written = sym (append-nil out); noted = sym (or-false x.refused) }
+    → Brings f x.counts (record x { engine = record x.engine { delay = d } }) n (view_of s) (ordered_what (setting_of f) s (Is (Delay d))) out out
+delay_brings f x s d n out u r = record {
+  state = delayed f x s d u r;
+  text = [];
+  says = refl;
+  written = sym (append-nil out);
+  tally = passed r.peaked.0;
+  tallied = ((refl, refl), r.peaked.1);
+  counted = counted_passed x.counts r.peaked.0 r.peaked.2;
+}
 
 pub not_faulty : (line : List ℕ) (item : Item) → what_seen line item ≡ Faulty → ⊥
 not_faulty line Blank e = cc

@@ -21,8 +21,9 @@ use Rattle.crs_log.specs.Run.{at_start}
 use Rattle.crs_log.specs.SeenNames.{name_seen, AreNamesIn}
 use Rattle.crs_parse.specs.Meant.{models_read}
 use Rattle.crs_compile.specs.Compiled.{chronicles_in, ClosesFirst, IsRefusal}
-use Rattle.crs_engine.specs.Engines.{EngineState, StandsFor, plans_of}
-use Rattle.crs_top.specs.Session.{HasText, chronicle_in, HasModels, Represents}
+use Rattle.crs_engine.specs.Engines.{EngineState, StandsFor, plans_of, kept_of}
+use Rattle.crs_top.specs.Session.{HasText, chronicle_in, HasModels, HasEntries, Represents, IsUnfocused}
+use Rattle.crs_top.proofs.Living.{held_by, held_live}
 use Rattle.crs_top.specs.Models.{IsAccepted, ClosesInconsistent}
 use Rattle.crs_top.specs.Prepared.{AreReadIn}
 use Rattle.crs_top.specs.Listings.{IsFaultyText}
@@ -110,12 +111,26 @@ module _ (symbols entries : ℕ) (text : List ℕ) (m : CodeModels) (table : Tab
     limit = is.limit;
   }
 
+  has_models_by : (e : EngineState) → e.plans ≡ plans → HasModels frame e.plans table
+  has_models_by e p = subst (λ (q : Plans). HasModels frame q table) (sym p) has_models
+
+  no_entries : (e : EngineState) → StandsFor e [] [] → HasEntries e table.texts []
+  no_entries e stands = record {
+    settled = [];
+    waiting = [];
+    stands = stands;
+    members = record { there = λ x i. absurd i; back = λ x i. absurd i };
+    known = tt;
+    distinct = tt;
+    below = tt;
+  }
+
   -- the session at the start
-  pub represented : (e : EngineState) → e.plans ≡ plans → e.delay ≡ 0 → e.last ≡ 0 → e.horizon ≡ 0 → e.accepted ≡ 0 → e.limit ≡ entries → e.stopped ≡ false → StandsFor e [] []
-      → Represents frame (record { engine = e; symbols = table; entries = entries; met = false; ended = false; refused = false }) (at_start table.texts)
-  represented e p delay last horizon count most running stands = record {
-    models = subst (λ (q : Plans). HasModels frame q table) (sym p) has_models;
-    entries = record { settled = []; waiting = []; stands = stands; members = record { there = λ x i. absurd i; back = λ x i. absurd i }; known = tt; distinct = tt; below = tt };
+  pub represented : (e : EngineState) (peak : ℕ) → peak ≡ kept_of e → e.plans ≡ plans → e.delay ≡ 0 → e.last ≡ 0 → e.horizon ≡ 0 → e.accepted ≡ 0 → e.limit ≡ entries → e.stopped ≡ false → IsUnfocused e → StandsFor e [] []
+      → Represents frame (record { engine = e; symbols = table; entries = entries; met = false; ended = false; counts = record { refused = 0; recognitions = 0; peak = peak } }) (at_start table.texts)
+  represented e peak is_kept p delay last horizon count most running unfocused stands = record {
+    models = has_models_by e p;
+    entries = no_entries e stands;
     reached = record { fresh = λ _. (refl, refl, refl); open_horizon = λ _. omega arith; open_last = λ _. omega arith };
     running = running;
     texts = refl;
@@ -128,4 +143,9 @@ module _ (symbols entries : ℕ) (text : List ℕ) (m : CodeModels) (table : Tab
     most_here = refl;
     met = refl;
     ended = refl;
+    peaked = (
+      held_by e,
+      held_live frame e table (at_start table.texts) (has_models_by e p) (no_entries e stands) (sym horizon) unfocused,
+      subst (λ k. kept_of e ≤ k) (sym is_kept) (let k : kept_of e ≤ kept_of e = omega arith in k),
+    );
   }

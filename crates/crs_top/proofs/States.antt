@@ -1,5 +1,5 @@
 -- What a session stands for after each kind of item.
-use Rattle.std.proofs.Common.{◌≡◌, ◌≤◌, ℕ, ◌+◌, zero, suc, Bool, true, false, List, [], ◌∷◌, ◌++◌, map, refl, sym, ap, subst, ◌∙◌, arith, append-nil, true≢false, zero-add, Less}
+use Rattle.std.proofs.Common.{◌≡◌, ◌≤◌, ℕ, ◌+◌, zero, suc, Bool, true, false, List, [], ◌∷◌, ◌++◌, map, length, refl, sym, ap, subst, ◌∙◌, arith, append-nil, true≢false, zero-add, Less}
 use Rattle.std.specs.Prelude.{slice_get, option_map, flat_map}
 use Rattle.std.specs.List.{AllByRecursion}
 use Rattle.std.specs.declared.rc.Rc.{Rc}
@@ -25,13 +25,15 @@ use Rattle.crs_log.specs.Run.{State, is_met}
 use Rattle.crs_log.specs.Recognitions.{View, view_of}
 use Rattle.crs_report.specs.Printed.{chronicle_at}
 use Rattle.crs_top.specs.declared.session.Session.{Session}
-use Rattle.crs_top.specs.Session.{HasText, entries_in, HasModels, HasEntries, IsReached, IsUnused, Represents, line_in, ArePrintable}
+use Rattle.crs_top.specs.Session.{HasText, chronicle_in, entries_in, HasModels, HasEntries, IsReached, IsUnused, Represents, line_in, ArePrintable}
+use Rattle.crs_top.specs.declared.session.Counts.{Counts}
+use Rattle.crs_top.specs.Tallies.{AllNew, IsPeaked, with_refused}
 use Rattle.crs_top.specs.Texts.{Frame, LogEntry, IsMarkText}
-use Rattle.crs_top.proofs.Answered.{all_printable, answer_text}
+use Rattle.crs_top.proofs.Answered.{all_printable, answer_text, answer_new}
 
 -- a refused line is noted
-pub noted : (f : Frame) (x : Session) (s : State) (b : Bool) → Represents f x s → Represents f (record x { refused = b }) s
-noted f x s b r = record {
+pub noted : (f : Frame) (x : Session) (s : State) → Represents f x s → Represents f (record x { counts = with_refused x.counts }) s
+noted f x s r = record {
   models = r.models;
   entries = r.entries;
   reached = r.reached;
@@ -46,6 +48,7 @@ noted f x s b r = record {
   most_here = r.most_here;
   met = r.met;
   ended = r.ended;
+  peaked = r.peaked;
 }
 
 -- an item was met
@@ -65,6 +68,7 @@ met f x s r = record {
   most_here = r.most_here;
   met = refl;
   ended = r.ended;
+  peaked = r.peaked;
 }
 
 stands_delayed : (e : EngineState) (d : ℕ) (settled waiting : List (Entry Sym)) → StandsFor e settled waiting → StandsFor (record e { delay = d }) settled waiting
@@ -95,6 +99,7 @@ delayed f x s d u r = record {
   most_here = r.most_here;
   met = r.met;
   ended = r.ended;
+  peaked = r.peaked;
 }
 
 pub same_renamed : (texts : List (List ℕ)) (xs ys : List (Entry Sym)) → HaveSameMembers xs ys → HaveSameMembers (entries_in texts xs) (entries_in texts ys)
@@ -170,29 +175,52 @@ module _ (f : Frame) (x : Session) (s : State) (r : Represents f x s) (new : Eng
   abbrev view : List LogEntry → ℕ → View
   view settled horizon = record { settled = settled; horizon = horizon }
 
+  -- what holds with the symbols' texts holds of the frame's chronicles, and of the states' views
+  with_views : (P : List (Chronicle (List ℕ)) → View → View → Type 0)
+      → P (map (chronicle_in x.symbols.texts) (plans_of x.engine.plans)) (view (entries_in x.symbols.texts r.entries.settled) x.engine.horizon)
+      (view (entries_in x.symbols.texts now) new.horizon)
+      → P f.models.chronicles (view_of s) (view (dated_before h s.accepted) h)
+  with_views P raw =
+      let was : view (entries_in x.symbols.texts r.entries.settled) x.engine.horizon ≡ view_of s =
+      (λ i. view (settled_now x.engine x.symbols.texts s.accepted r.entries s.horizon r.horizon i) (sym r.horizon i)) in
+      let entries : entries_in x.symbols.texts now ≡ dated_before h s.accepted =
+      ap (λ (k : ℕ). entries_in x.symbols.texts (r.entries.settled ++ before k r.entries.waiting)) horizon ∙ settled_then x.engine x.symbols.texts s.accepted r.entries h rises in
+      let then : view (entries_in x.symbols.texts now) new.horizon ≡ view (dated_before h s.accepted) h = (λ i. view (entries i) (horizon i)) in
+      let a = subst (λ (cs : List (Chronicle (List ℕ))). P cs (view (entries_in x.symbols.texts r.entries.settled) x.engine.horizon) (view (entries_in x.symbols.texts now) new.horizon)) (sym r.models.chronicles) raw in
+      let b = subst (λ (v : View). P f.models.chronicles v (view (entries_in x.symbols.texts now) new.horizon)) was a in
+      subst (λ (v : View). P f.models.chronicles (view_of s) v) then b
+
   -- its lines are the text of the mark
   pub mark_text : IsMarkText f.models.chronicles mark (view_of s) (view (dated_before h s.accepted) h) (flat_map (line_in new.plans x.symbols.texts) answer)
   mark_text =
       let raw = answer_text x.symbols.texts r.models.distinct x.engine.plans mark r.entries.settled now x.engine.horizon new.horizon
       (known_then x.engine x.symbols.texts s.accepted r.entries new.horizon) (known_settled x.engine x.symbols.texts s.accepted r.entries)
       (plans_of x.engine.plans) 0 answer (stand_from x.engine.plans) r.models.proper r.models.chronicles_in after.answers in
-      let was : view (entries_in x.symbols.texts r.entries.settled) x.engine.horizon ≡ view_of s =
-      (λ i. view (settled_now x.engine x.symbols.texts s.accepted r.entries s.horizon r.horizon i) (sym r.horizon i)) in
-      let entries : entries_in x.symbols.texts now ≡ dated_before h s.accepted =
-      ap (λ (k : ℕ). entries_in x.symbols.texts (r.entries.settled ++ before k r.entries.waiting)) horizon ∙ settled_then x.engine x.symbols.texts s.accepted r.entries h rises in
-      let then : view (entries_in x.symbols.texts now) new.horizon ≡ view (dated_before h s.accepted) h = (λ i. view (entries i) (horizon i)) in
       let text = flat_map (line_in x.engine.plans x.symbols.texts) answer in
-      let a = subst (λ (cs : List (Chronicle (List ℕ))). IsMarkText cs mark (view (entries_in x.symbols.texts r.entries.settled) x.engine.horizon) (view (entries_in x.symbols.texts now) new.horizon) text) (sym r.models.chronicles) raw in
-      let b = subst (λ (v : View). IsMarkText f.models.chronicles mark v (view (entries_in x.symbols.texts now) new.horizon) text) was a in
-      let c = subst (λ (v : View). IsMarkText f.models.chronicles mark (view_of s) v text) then b in
+      let c = with_views (λ cs was then. IsMarkText cs mark was then text) raw in
       subst (λ (p : Plans). IsMarkText f.models.chronicles mark (view_of s) (view (dated_before h s.accepted) h) (flat_map (line_in p x.symbols.texts) answer)) (sym kept) c
 
+  -- as many assignments are new as recognitions are answered
+  pub mark_new : AllNew f.models.chronicles (view_of s) (view (dated_before h s.accepted) h) (length answer)
+  mark_new = with_views (λ cs was then. AllNew cs was then (length answer))
+      (answer_new x.symbols.texts r.models.distinct x.engine.plans mark r.entries.settled now x.engine.horizon new.horizon
+      (known_then x.engine x.symbols.texts s.accepted r.entries new.horizon) (known_settled x.engine x.symbols.texts s.accepted r.entries)
+      (plans_of x.engine.plans) 0 answer r.models.proper r.models.chronicles_in after.answers)
+
+  -- the models and the entries after the mark
+  pub models_then : HasModels f new.plans x.symbols
+  models_then = subst (λ (p : Plans). HasModels f p x.symbols) (sym kept) r.models
+
+  pub entries_then : HasEntries new x.symbols.texts s.accepted
+  entries_then = parted x.engine x.symbols.texts s.accepted r.entries new h horizon after.stands
+
   -- the session stands for the state after the mark
-  pub marked : (t : ℕ) (here there : Bool) → there ≡ here → HasMoved x.engine new t h → new.stopped ≡ false → IsReached (record s { last = t; horizon = h; ended = there })
-      → Represents f (record x { engine = new; ended = here }) (record s { last = t; horizon = h; ended = there })
-  marked t here there same m running reached = record {
-    models = subst (λ (p : Plans). HasModels f p x.symbols) (sym kept) r.models;
-    entries = parted x.engine x.symbols.texts s.accepted r.entries new h horizon after.stands;
+  pub marked : (t : ℕ) (here there : Bool) (counts : Counts) → there ≡ here → HasMoved x.engine new t h → new.stopped ≡ false
+      → IsReached (record s { last = t; horizon = h; ended = there }) → IsPeaked f.models.chronicles (view (dated_before h s.accepted) h) counts.peak
+      → Represents f (record x { engine = new; ended = here; counts = counts }) (record s { last = t; horizon = h; ended = there })
+  marked t here there counts same m running reached peaked = record {
+    models = models_then;
+    entries = entries_then;
     reached = reached;
     running = running;
     texts = r.texts;
@@ -205,4 +233,5 @@ module _ (f : Frame) (x : Session) (s : State) (r : Represents f x s) (new : Eng
     most_here = r.most_here;
     met = r.met;
     ended = same;
+    peaked = peaked;
   }

@@ -1,10 +1,8 @@
 -- One more line, and the lines that were taken.
 use Rattle.std.proofs.Common.{◌≡◌, ◌≤◌, ℕ, ◌+◌, Bool, true, false, cond, List, [], ◌∷◌, ◌++◌, length, refl, sym, ap, subst, ◌∙◌, arith, append-nil, append_assoc, eqb, get_or, take, ◌-◌, length-take-le}
-use Rattle.std.specs.Prelude.{◌||◌, if◌then◌else◌}
+use Rattle.std.specs.Prelude.{if◌then◌else◌}
 use Rattle.std.specs.Str.Lines.{strip_carriage_return}
 use Rattle.std.proofs.lemmas.Bool.{ltb-false}
-use Rattle.std.specs.List.{list_any}
-use Rattle.std.proofs.Math.Bool.{or_assoc}
 use Rattle.crs_base.specs.Lines.{Line, lines_of, bytes_of, is_longer, line_limit}
 use Rattle.crs_log.specs.ItemOf.{what_of}
 use Rattle.crs_log.specs.Run as run
@@ -12,8 +10,12 @@ use Rattle.crs_log.specs.Reading.{Reader, Given, Plain, Long, Gives, HasNoLine, 
 use Rattle.crs_log.specs.Run.{Setting, State, Outcome, after_given, after_what}
 use Rattle.crs_top.specs.declared.session.Session.{Session}
 use Rattle.crs_top.specs.Session.{Represents, BringsAll, IsShort, number_of}
-use Rattle.crs_top.specs.Taking.{after_all, refuses_some, IsGivenText, Takes}
-use Rattle.crs_top.specs.Texts.{Frame, setting_of, IsLineText, IsTextFrom, is_refused}
+use Rattle.crs_top.specs.Taking.{after_all, IsGivenText, IsGivenTally, Takes}
+use Rattle.crs_top.specs.declared.session.Counts.{Counts}
+use Rattle.crs_top.specs.Tallies.{Tally, nothing, together, IsLineTally, IsTallyFrom}
+use Rattle.crs_top.proofs.Counting.{counted_none, counted_more, tally_more, tally_append}
+use Rattle.crs_log.specs.Recognitions.{view_of}
+use Rattle.crs_top.specs.Texts.{Frame, setting_of, IsLineText, IsTextFrom}
 
 -- a line that is given whole is no longer than the limit
 abbrev IsShortBy : ℕ → Given → Type 0
@@ -61,36 +63,34 @@ after_more : (c : Setting) (s : State) (gs : List Given) (g : Given) → after_a
 after_more c s [] g = refl
 after_more c s (x ∷ gs) g = after_more c (after_given c s x).0 gs g
 
-or_last : (b : Bool) → (b || false) ≡ b
-or_last true = refl
-or_last false = refl
-
-refuses_more : (c : Setting) (s : State) (gs : List Given) (g : Given) → refuses_some c s (gs ++ g ∷ []) ≡ (refuses_some c s gs || is_refused (after_given c (after_all c s gs) g).1)
-refuses_more c s [] g = or_last (is_refused (after_given c s g).1)
-refuses_more c s (x ∷ gs) g =
-    ap (λ b. is_refused (after_given c s x).1 || b) (refuses_more c (after_given c s x).0 gs g)
-    ∙ sym (or_assoc (is_refused (after_given c s x).1) (refuses_some c (after_given c s x).0 gs) (is_refused (after_given c (after_all c (after_given c s x).0 gs) g).1))
-
 text_more : (f : Frame) (s : State) (gs : List Given) (g : Given) (text first : List ℕ) → IsGivenText f s gs text
     → IsLineText f.models.chronicles (number_of g) (after_all (setting_of f) s gs) (after_given (setting_of f) (after_all (setting_of f) s gs) g) first → IsGivenText f s (gs ++ g ∷ []) (text ++ first)
 text_more f s [] g text first h k = (first, [], k, refl, ap (λ (xs : List ℕ). xs ++ first) h ∙ sym (append-nil first))
 text_more f s (x ∷ gs) g text first h k = (h.0, h.1 ++ first, h.2, text_more f (after_given (setting_of f) s x).0 gs g h.1 first h.3 k, ap (λ (xs : List ℕ). xs ++ first) h.4 ∙ append_assoc h.0 h.1 first)
 
-pub takes_none : (f : Frame) (x : Session) (s : State) (out : List ℕ) → Represents f x s → Takes f x.refused x s [] out out
-takes_none f x s out r = record { state = r; text = []; says = refl; written = sym (append-nil out); noted = sym (or_last x.refused) }
+pub takes_none : (f : Frame) (x : Session) (s : State) (out : List ℕ) → Represents f x s → Takes f x.counts x s [] out out
+takes_none f x s out r = record {
+  state = r;
+  text = [];
+  says = refl;
+  written = sym (append-nil out);
+  tally = nothing;
+  tallied = refl;
+  counted = counted_none x.counts;
+}
 
-pub takes_more : (f : Frame) (refused : Bool) (x new : Session) (s : State) (gs : List Given) (g : Given) (out mid more : List ℕ) → Takes f refused x s gs out mid
-    → BringsAll x new (number_of g) (λ f s. after_given (setting_of f) s g) mid more → Takes f refused new s (gs ++ g ∷ []) out more
-takes_more f refused x new s gs g out mid more t brings =
+pub takes_more : (f : Frame) (start : Counts) (x new : Session) (s : State) (gs : List Given) (g : Given) (out mid more : List ℕ) → Takes f start x s gs out mid
+    → BringsAll x new (number_of g) (λ f s. after_given (setting_of f) s g) mid more → Takes f start new s (gs ++ g ∷ []) out more
+takes_more f start x new s gs g out mid more t brings =
     let b = brings f (after_all (setting_of f) s gs) t.state in
     record {
       state = subst (λ (z : State). Represents f new z) (sym (after_more (setting_of f) s gs g)) b.state;
       text = t.text ++ b.text;
       says = text_more f s gs g t.text b.text t.says b.says;
       written = b.written ∙ ap (λ (xs : List ℕ). xs ++ b.text) t.written ∙ append_assoc out t.text b.text;
-      noted = b.noted ∙ ap (λ c. c || is_refused (after_given (setting_of f) (after_all (setting_of f) s gs) g).1) t.noted
-          ∙ or_assoc refused (refuses_some (setting_of f) s gs) (is_refused (after_given (setting_of f) (after_all (setting_of f) s gs) g).1)
-          ∙ ap (λ c. refused || c) (sym (refuses_more (setting_of f) s gs g));
+      tally = together t.tally b.tally;
+      tallied = tally_more f s gs g t.tally b.tally t.tallied b.tallied;
+      counted = counted_more start x.counts new.counts t.tally b.tally t.counted b.counted;
     }
 
 no_rest : (b : Bool) (rest : List ℕ) → b ≡ true → (if b then [] else rest) ≡ rest → rest ≡ []
@@ -131,35 +131,42 @@ given_text f n s (l ∷ ls) text h =
     subst (λ (a : State × Outcome). IsLineText f.models.chronicles (n + 1) s a h.0) same (subst (λ (k : ℕ). IsLineText f.models.chronicles k s (after_given c s g) h.0) number h.2) in
     (h.0, h.1, first, rest, h.4)
 
-pub given_refused : (c : Setting) (n : ℕ) (s : State) (ls : List Line) → refuses_some c s (given_lines line_limit n ls) ≡ list_any is_refused (run.outcomes c s ls)
-given_refused c n s [] = refl
-given_refused c n s (l ∷ ls) =
-    let same : after_given c s (given_line line_limit (n + 1) l) ≡ run.after_line c s l = line_is c s (n + 1) l in
-    (λ i. is_refused (same i).1 || refuses_some c (same i).0 (given_lines line_limit (n + 1) ls))
-    ∙ ap (λ b. is_refused (run.after_line c s l).1 || b) (given_refused c (n + 1) (run.after_line c s l).0 ls)
+-- so is their tally, and the state after them
+pub given_tally : (f : Frame) (n : ℕ) (s : State) (ls : List Line) (t : Tally) → IsGivenTally f s (given_lines line_limit n ls) t
+    → IsTallyFrom (setting_of f) f.models.chronicles s ls t
+given_tally f n s [] t h = h
+given_tally f n s (l ∷ ls) t h =
+    let c = setting_of f in
+    let g = given_line line_limit (n + 1) l in
+    let same : after_given c s g ≡ run.after_line c s l = line_is c s (n + 1) l in
+    let rest : IsTallyFrom c f.models.chronicles (run.after_line c s l).0 ls h.1 =
+    subst (λ (z : State). IsTallyFrom c f.models.chronicles z ls h.1) (ap (λ a. a.0) same) (given_tally f (n + 1) (after_given c s g).0 ls h.1 h.3) in
+    let first = subst (λ (a : State × Outcome). IsLineTally f.models.chronicles (view_of s) (view_of a.0) a.1 h.0) same h.2 in
+    (h.0, h.1, first, rest, h.4)
+
+pub given_state : (c : Setting) (n : ℕ) (s : State) (ls : List Line) → after_all c s (given_lines line_limit n ls) ≡ run.after_lines c s ls
+given_state c n s [] = refl
+given_state c n s (l ∷ ls) =
+    given_state c (n + 1) (after_given c s (given_line line_limit (n + 1) l)).0 ls ∙ ap (λ (a : State × Outcome). run.after_lines c a.0 ls) (line_is c s (n + 1) l)
 
 -- lines behind others
 after_append : (c : Setting) (s : State) (xs ys : List Given) → after_all c s (xs ++ ys) ≡ after_all c (after_all c s xs) ys
 after_append c s [] ys = refl
 after_append c s (x ∷ xs) ys = after_append c (after_given c s x).0 xs ys
 
-refuses_append : (c : Setting) (s : State) (xs ys : List Given) → refuses_some c s (xs ++ ys) ≡ (refuses_some c s xs || refuses_some c (after_all c s xs) ys)
-refuses_append c s [] ys = refl
-refuses_append c s (x ∷ xs) ys =
-    ap (λ b. is_refused (after_given c s x).1 || b) (refuses_append c (after_given c s x).0 xs ys)
-    ∙ sym (or_assoc (is_refused (after_given c s x).1) (refuses_some c (after_given c s x).0 xs) (refuses_some c (after_all c (after_given c s x).0 xs) ys))
-
 text_append : (f : Frame) (s : State) (xs ys : List Given) (a b : List ℕ) → IsGivenText f s xs a → IsGivenText f (after_all (setting_of f) s xs) ys b → IsGivenText f s (xs ++ ys) (a ++ b)
 text_append f s [] ys a b h k = subst (λ (z : List ℕ). IsGivenText f s ys (z ++ b)) (sym h) k
 text_append f s (x ∷ xs) ys a b h k = (h.0, h.1 ++ b, h.2, text_append f (after_given (setting_of f) s x).0 xs ys h.1 b h.3 k, ap (λ (z : List ℕ). z ++ b) h.4 ∙ append_assoc h.0 h.1 b)
 
 -- what was taken from the start, and then more
-pub takes_append : (f : Frame) (x new : Session) (s : State) (xs ys : List Given) (a text : List ℕ) → Takes f false x s xs [] a
-    → Takes f x.refused new (after_all (setting_of f) s xs) ys [] text → Takes f false new s (xs ++ ys) [] (a ++ text)
-takes_append f x new s xs ys a text t u = record {
+pub takes_append : (f : Frame) (start : Counts) (x new : Session) (s : State) (xs ys : List Given) (a text : List ℕ) → Takes f start x s xs [] a
+    → Takes f x.counts new (after_all (setting_of f) s xs) ys [] text → Takes f start new s (xs ++ ys) [] (a ++ text)
+takes_append f start x new s xs ys a text t u = record {
   state = subst (λ (z : State). Represents f new z) (sym (after_append (setting_of f) s xs ys)) u.state;
   text = a ++ text;
   says = text_append f s xs ys a text (subst (IsGivenText f s xs) (sym t.written) t.says) (subst (IsGivenText f (after_all (setting_of f) s xs) ys) (sym u.written) u.says);
   written = refl;
-  noted = u.noted ∙ ap (λ b. b || refuses_some (setting_of f) (after_all (setting_of f) s xs) ys) t.noted ∙ sym (refuses_append (setting_of f) s xs ys);
+  tally = together t.tally u.tally;
+  tallied = tally_append f s xs ys t.tally u.tally t.tallied u.tallied;
+  counted = counted_more start x.counts new.counts t.tally u.tally t.counted u.counted;
 }

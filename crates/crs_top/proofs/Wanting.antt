@@ -9,7 +9,7 @@ use Rattle.crs_top.specs.Imports.{IsTableLog, IsTableLine}
 use Rattle.crs_top.specs.Inputs.{bytes_of}
 use Rattle.crs_top.specs.Listings.{IsListed}
 use Rattle.crs_top.specs.Loads.{Loaded, IsModelLine}
-use Rattle.crs_top.specs.Logs.{no_tail}
+use Rattle.crs_top.specs.Logs.{tail_of}
 use Rattle.crs_top.specs.Models.{IsFaulty}
 use Rattle.crs_top.specs.Run.{Most}
 use Rattle.crs_top.proofs.Loads.{nothing_read_of, ends_wanting}
@@ -34,8 +34,8 @@ none_loaded base limit old name = record {
 pub wants : (base : ℕ) (most : Most) (old : Told) (command : Option Command) → Does base base most old command Memory old
 wants base most old None =
     (inr (inr refl, (0, record { files = refl; opened = refl; left = refl; turns = refl; within = omega arith; written = sym (append-nil old.written) })), refl)
-wants base most old (Some (Run models log)) =
-    run_ended base base no_tail most old old models log Memory
+wants base most old (Some (Run summary models log)) =
+    run_ended base base (tail_of summary) most old old models log Memory
     (ends_wanting base base (2 ^ 20) (λ text. ⊥) (IsModelLine (IsFaulty most.symbols (bytes_of old models))) old models
     0 0 0 [] old (none_loaded base (2 ^ 20) old models) (omega arith))
 wants base most old (Some (Import table)) =

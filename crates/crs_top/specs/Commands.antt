@@ -4,7 +4,7 @@ use Rattle.crs_desk.specs.Desk.{Told}
 use Rattle.crs_top.specs.declared.status.Status.{Status}
 use Rattle.crs_top.specs.declared.status.Status.TheVariants.{Words, Memory}
 use Rattle.crs_words.specs.Commands.{Command, Run, Print, Import, usage_text}
-use Rattle.crs_top.specs.Logs.{no_tail, Says}
+use Rattle.crs_top.specs.Logs.{tail_of, Says}
 use Rattle.crs_top.specs.Run.{Most, Runs, Completes}
 use Rattle.crs_top.specs.Listings.{Prints, CompletesPrint}
 use Rattle.crs_top.specs.Imports.{Imports, CompletesImport}
@@ -12,13 +12,13 @@ use Rattle.crs_top.specs.Imports.{Imports, CompletesImport}
 -- what a call does to the desk, whose count of inputs was base and is now; with other words it writes the usage text and nothing else
 abbrev pub Does : ℕ → ℕ → Most → Told → Option Command → Status → Told → Type 0
 Does base now most old None status new = Says Words old usage_text status new × (now ≡ base)
-Does base now most old (Some (Run models log)) status new = Runs base now no_tail most old models log status new
+Does base now most old (Some (Run summary models log)) status new = Runs base now (tail_of summary) most old models log status new
 Does base now most old (Some (Print listing models)) status new = Prints base now most.symbols listing old models status new
 Does base now most old (Some (Import table)) status new = Imports base now old table status new
 
 -- without a fault of the outside it ends as its input says, unless memory is wanting
 abbrev pub CompletesCommand : Most → Told → Option Command → Type 0 → Status → Type 0
 CompletesCommand most old None fault status = (fault → ⊥) → (status ≡ Words) ⊎ (status ≡ Memory)
-CompletesCommand most old (Some (Run models log)) fault status = Completes most old models log fault status
+CompletesCommand most old (Some (Run summary models log)) fault status = Completes most old models log fault status
 CompletesCommand most old (Some (Print listing models)) fault status = CompletesPrint most.symbols old models fault status
 CompletesCommand most old (Some (Import table)) fault status = CompletesImport old table fault status

@@ -1,5 +1,6 @@
 pub mod Status
 pub mod Texts
+pub mod Tallies
 pub mod Session
 pub mod Taking
 pub mod Logs

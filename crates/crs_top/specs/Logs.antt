@@ -1,5 +1,5 @@
 -- Reading a log to its end, and writing as it comes.
-use Rattle.std.specs.Prelude.{◌≡◌, ◌⊎◌, ℕ, ◌+◌, ◌<◌, ◌≤◌, Bool, true, false, List, [], ◌∷◌, ◌++◌, length, take}
+use Rattle.std.specs.Prelude.{◌≡◌, ◌⊎◌, ℕ, ◌+◌, ◌<◌, ◌≤◌, nat_lt, Bool, true, false, List, [], ◌∷◌, ◌++◌, length, take}
 use Rattle.std.specs.List.{AllByRecursion}
 use Rattle.crs_desk.specs.Desk.{Told, stream_at, advanced, Rises, HasRoom, Wrote}
 use Rattle.crs_desk.specs.declared.turn.Turn.{Turn}
@@ -8,7 +8,11 @@ use Rattle.crs_log.specs.Run.{State}
 use Rattle.crs_top.specs.declared.status.Status.{Status}
 use Rattle.crs_top.specs.declared.status.Status.TheVariants.{Done, Refusals, Words, Rejected, ReadFault, WriteFault, Memory, TooLong}
 use Rattle.crs_top.specs.declared.session.Session.{Session}
-use Rattle.crs_top.specs.Session.{Represents}
+use Rattle.crs_engine.specs.Engines.{kept_of}
+use Rattle.crs_report.specs.Summaries.{summary_line}
+use Rattle.crs_report.specs.declared.summary.Summary.{Summary}
+use Rattle.crs_top.specs.Session.{Represents, IsUnfocused}
+use Rattle.crs_top.specs.Tallies.{capped, IsSummaryText}
 use Rattle.crs_top.specs.Taking.{Takes}
 use Rattle.crs_top.specs.Texts.{Frame, IsWholeText, IsLogText, some_refused}
 
@@ -24,9 +28,10 @@ AppendsFront P old new = (text : List ℕ) × (k : ℕ) × P text × (new ≡ ol
 abbrev pub Tail : Type 1
 Tail = Frame → List ℕ → List ℕ → Type 0
 
--- nothing: neither a summary nor pages are asked for
-abbrev pub no_tail : Tail
-no_tail f log text = text ≡ []
+-- nothing; or the summary line, where it is asked for
+abbrev pub tail_of : Bool → Tail
+tail_of false f log text = text ≡ []
+tail_of true f log text = IsSummaryText f log text
 
 -- the text of the whole log, and then the tail
 abbrev pub IsEndedText : Tail → Frame → List ℕ → List ℕ → Type 0
@@ -85,13 +90,13 @@ pub record TakesPiece (old_lines new_lines : Reader) (old new : Session) (piece 
   pub fed : new_lines.fed ≡ old_lines.fed + length piece
   pub none : HasNoLine new_lines
   pub ahead_is : (m : List ℕ) → ahead old_lines (piece ++ m) ≡ told ++ ahead new_lines m
-  pub takes : (f : Frame) (s : State) → Represents f old s → Takes f old.refused new s told [] text
+  pub takes : (f : Frame) (s : State) → Represents f old s → Takes f old.counts new s told [] text
 
 -- the last line, which has no line feed, is taken, and its text is made
 pub record TakesRest (lines : Reader) (old new : Session) (text : List ℕ) : Type 0 where
   pub told : List Given
   pub ahead_is : ahead lines [] ≡ told
-  pub takes : (f : Frame) (s : State) → Represents f old s → Takes f old.refused new s told [] text
+  pub takes : (f : Frame) (s : State) → Represents f old s → Takes f old.counts new s told [] text
 
 -- the status of a log that was read to its end
 abbrev pub ended_as : Bool → Status
@@ -103,8 +108,32 @@ abbrev pub Says : Status → Told → List ℕ → Status → Told → Type 0
 Says done old text status new =
     ((status ≡ done) × Wrote old text (length text) new) ⊎ (((status ≡ WriteFault) ⊎ (status ≡ Memory)) × ((k : ℕ) × Wrote old text k new))
 
+-- the numbers of a session
+abbrev pub summary_of : Session → Summary
+summary_of x = record {
+  entries = capped x.engine.accepted;
+  refused = x.counts.refused;
+  recognitions = x.counts.recognitions;
+  kept = kept_of x.engine;
+  peak = x.counts.peak;
+}
+
+-- what a session writes behind the text of its log
+abbrev pub IsTailOf : Bool → Session → List ℕ → Type 0
+IsTailOf false x text = text ≡ []
+IsTailOf true x text = IsUnfocused x.engine × (text ≡ summary_line (summary_of x))
+
+-- the last line is taken, and its text and the tail are made
+abbrev pub TakesEnd : Bool → Reader → Session → Session → List ℕ → Type 0
+TakesEnd summary lines old new text =
+    (last : List ℕ) × (tail : List ℕ) × TakesRest lines old new last × IsTailOf summary new tail × (text ≡ last ++ tail)
+
+-- whether some line was refused
+abbrev pub has_refused : Session → Bool
+has_refused x = nat_lt 0 x.counts.refused
+
 -- the rest is taken, and its text written, or a front of it, or none of it
-abbrev pub Finishes : Told → Session → Reader → Status → Told → Type 0
-Finishes old x lines status new =
+abbrev pub Finishes : Bool → Told → Session → Reader → Status → Told → Type 0
+Finishes summary old x lines status new =
     ((status ≡ Memory) × (new ≡ old))
-    ⊎ ((y : Session) × (text : List ℕ) × TakesRest lines x y text × Says (ended_as y.refused) old text status new)
+    ⊎ ((y : Session) × (text : List ℕ) × TakesEnd summary lines x y text × Says (ended_as (has_refused y)) old text status new)

@@ -1,5 +1,5 @@
 -- What a models text prepares.
-use Rattle.std.specs.Prelude.{◌≡◌, ℕ, false, List, [], Ok}
+use Rattle.std.specs.Prelude.{◌≡◌, ℕ, List, [], Ok}
 use Rattle.crs_base.specs.Symbols.{Table, AreDistinct}
 use Rattle.crs_log.specs.Run.{at_start}
 use Rattle.crs_model.specs.declared.models.Models.{Models as CodeModels}
@@ -8,7 +8,7 @@ use Rattle.crs_model.specs.Renaming.{text_in, renamed_models, AreModelsOf}
 use Rattle.crs_model.specs.Seen.{models_of}
 use Rattle.crs_parse.specs.Meant.{models_read}
 use Rattle.crs_top.specs.declared.session.Session.{Session}
-use Rattle.crs_top.specs.Session.{HasText, Represents}
+use Rattle.crs_top.specs.Session.{HasText, Represents, IsUncounted}
 use Rattle.crs_top.specs.Models.{IsAccepted}
 use Rattle.crs_top.specs.Texts.{Frame}
 
@@ -25,4 +25,4 @@ pub record IsPrepared (symbols entries : ℕ) (text : List ℕ) (x : Session) : 
   pub frame : Frame
   pub accepted : IsAccepted symbols entries text frame
   pub represents : Represents frame x (at_start frame.texts)
-  pub unrefused : x.refused ≡ false
+  pub uncounted : IsUncounted x

@@ -1,21 +1,27 @@
 -- Lines that are taken one after another.
-use Rattle.std.specs.Prelude.{◌≡◌, ◌||◌, ℕ, Bool, true, false, List, [], ◌∷◌, ◌++◌}
+use Rattle.std.specs.Prelude.{◌≡◌, ℕ, true, List, [], ◌∷◌, ◌++◌}
 use Rattle.crs_log.specs.Reading.{Reader, Given, HasNoLine, ahead}
 use Rattle.crs_log.specs.Run.{Setting, State}
+use Rattle.crs_log.specs.Recognitions.{view_of}
 use Rattle.crs_top.specs.declared.session.Session.{Session}
+use Rattle.crs_top.specs.declared.session.Counts.{Counts}
 use Rattle.crs_log.specs.Run.{after_given}
 use Rattle.crs_top.specs.Session.{Represents, number_of}
-use Rattle.crs_top.specs.Texts.{Frame, setting_of, IsLineText, is_refused}
+use Rattle.crs_top.specs.Tallies.{Tally, nothing, together, IsLineTally, Counted}
+use Rattle.crs_top.specs.Texts.{Frame, setting_of, IsLineText}
 
 -- the state after lines that are given with their numbers
 abbrev pub after_all : Setting → State → List Given → State
 after_all c s [] = s
 after_all c s (g ∷ gs) = after_all c (after_given c s g).0 gs
 
--- whether one of them is refused
-abbrev pub refuses_some : Setting → State → List Given → Bool
-refuses_some c s [] = false
-refuses_some c s (g ∷ gs) = is_refused (after_given c s g).1 || refuses_some c (after_given c s g).0 gs
+-- their tally
+abbrev pub IsGivenTally : Frame → State → List Given → Tally → Type 0
+IsGivenTally f s [] t = t ≡ nothing
+IsGivenTally f s (g ∷ gs) t =
+    (first : Tally) × (rest : Tally)
+    × IsLineTally f.models.chronicles (view_of s) (view_of (after_given (setting_of f) s g).0) (after_given (setting_of f) s g).1 first
+    × IsGivenTally f (after_given (setting_of f) s g).0 gs rest × (t ≡ together first rest)
 
 -- what is written for them
 abbrev pub IsGivenText : Frame → State → List Given → List ℕ → Type 0
@@ -24,13 +30,15 @@ IsGivenText f s (g ∷ gs) text =
     (first : List ℕ) × (rest : List ℕ) × IsLineText f.models.chronicles (number_of g) s (after_given (setting_of f) s g) first
     × IsGivenText f (after_given (setting_of f) s g).0 gs rest × (text ≡ first ++ rest)
 
--- the session stands for the state after these lines, and their text is added
-pub record Takes (f : Frame) (refused : Bool) (new : Session) (s : State) (told : List Given) (out more : List ℕ) : Type 0 where
+-- the session stands for the state after these lines, their text is added, and they are counted
+pub record Takes (f : Frame) (old : Counts) (new : Session) (s : State) (told : List Given) (out more : List ℕ) : Type 0 where
   pub state : Represents f new (after_all (setting_of f) s told)
   pub text : List ℕ
   pub says : IsGivenText f s told text
   pub written : more ≡ out ++ text
-  pub noted : new.refused ≡ (refused || refuses_some (setting_of f) s told)
+  pub tally : Tally
+  pub tallied : IsGivenTally f s told tally
+  pub counted : Counted old new.counts tally
 
 -- each line that was held whole is taken
 pub record TakesLines (old_lines new_lines : Reader) (old new : Session) (out more : List ℕ) : Type 0 where
@@ -40,4 +48,4 @@ pub record TakesLines (old_lines new_lines : Reader) (old new : Session) (out mo
   pub fed : new_lines.fed ≡ old_lines.fed
   pub none : HasNoLine new_lines
   pub ahead_is : (m : List ℕ) → (old_lines.finished ≡ true → m ≡ []) → ahead old_lines m ≡ told ++ ahead new_lines m
-  pub takes : (f : Frame) (s : State) → Represents f old s → Takes f old.refused new s told out more
+  pub takes : (f : Frame) (s : State) → Represents f old s → Takes f old.counts new s told out more

@@ -1,11 +1,11 @@
 // A log, read in pieces.
-ghost use Rattle.std.specs.Prelude.{◌≡◌, ◌<◌, ◌+◌, ◌^◌, true, false, length, IfOk, OnOk};
+ghost use Rattle.std.specs.Prelude.{◌≡◌, ◌<◌, ◌+◌, ◌^◌, ◌++◌, ℕ, List as Items, true, false, length, IfOk, OnOk};
 ghost use Rattle.crs_desk.specs.Desk.{stream_at};
 ghost use Rattle.crs_log.specs.Run.{at_start};
-ghost use Rattle.crs_top.specs.Session.{IsReady, Represents};
+ghost use Rattle.crs_top.specs.Session.{IsReady, Represents, IsUncounted, IsUnfocused};
 ghost use Rattle.crs_top.specs.Taking.{TakesLines};
 ghost use Rattle.crs_top.specs.Texts.{Frame};
-ghost use Rattle.crs_top.specs.Logs.{no_tail, HasReadLog, TakesPiece, TakesRest, Finishes, ended_as};
+ghost use Rattle.crs_top.specs.Logs.{tail_of, summary_of, IsTailOf, HasReadLog, TakesPiece, TakesRest, TakesEnd, Finishes, ended_as};
 ghost use Rattle.crs_top.specs.Status.{HasCauses};
 
 use crate::loading::write_text;
@@ -15,6 +15,7 @@ use crate::step::take_line;
 use crs_base::LINE_LIMIT;
 use crs_desk::{Desk, DeskError, write_all};
 use crs_log::Lines;
+use crs_report::{Summary, push_summary_line};
 use std::alloc::{AllocError, Global};
 
 /// Takes each line that is held whole, and adds what it brings to the text.
@@ -77,38 +78,87 @@ fn end_status(refused: bool) -> Status
     }
 }
 
-/// Writes the text of a last line that has no line feed.
-fn finish<D: Desk>(alloc: Global, desk: &mut D, mut session: Session, mut lines: Lines) -> Status
+/// The numbers of a run whose log was read to its end.
+fn summary_of(session: &Session) -> Summary
+    ensures numbers { result ≡ summary_of session.now }
+    ensures unfocused { IsUnfocused session.now.engine }
+{
+    Summary {
+        entries: session.engine.accepted() as u64,
+        refused: session.counts.refused,
+        recognitions: session.counts.recognitions,
+        kept: session.engine.kept(),
+        peak: session.counts.peak,
+    }
+}
+
+/// Writes what stands behind the text of a log that was read to its end: the summary line, where
+/// it is asked for.
+fn push_tail(session: &Session, summary: bool, out: &mut Vec<u8>) -> Result<(), AllocError>
+    ensures { OnOk result ((tail : Items ℕ) × IsTailOf summary session.now tail × (out.new.items ≡ out.old.items ++ tail)) }
+{
+    if !summary {
+        return Ok(());
+    }
+    push_summary_line(out, &summary_of(session))
+}
+
+/// The text of a last line that has no line feed, and what stands behind it.
+fn take_end(
+    alloc: Global,
+    session: &mut Session,
+    lines: &mut Lines,
+    summary: bool,
+) -> Result<Vec<u8>, AllocError>
+    requires ready { IsReady session.old }
+    requires limit { lines.old.limit ≡ 4096 }
+    ensures { IfOk result (λ v. TakesEnd summary lines.old session.old session.new v.items) }
+{
+    let mut text = take_rest(alloc, session, lines)?;
+    push_tail(session, summary, &mut text)?;
+    Ok(text)
+}
+
+/// Writes the text of a last line that has no line feed, and what stands behind it.
+fn finish<D: Desk>(
+    alloc: Global,
+    desk: &mut D,
+    mut session: Session,
+    mut lines: Lines,
+    summary: bool,
+) -> Status
     requires ready { IsReady session }
     requires limit { lines.limit ≡ 4096 }
     ensures inputs { D.inputs desk.new ≡ D.inputs desk.old }
     ensures words { result ≡ Status.Words → ⊥ }
     ensures causes { HasCauses (D.in_faults desk.old) (D.in_faults desk.new) (D.out_faults desk.old) (D.out_faults desk.new) result }
-    ensures told { D.tells ≡ true → Finishes (D.told desk.old) session lines result (D.told desk.new) }
+    ensures told { D.tells ≡ true → Finishes summary (D.told desk.old) session lines result (D.told desk.new) }
 {
-    let Ok(text) = take_rest(alloc, &mut session, &mut lines) else {
+    let Ok(text) = take_end(alloc, &mut session, &mut lines, summary) else {
         return Status::Memory;
     };
-    write_text(desk, text.as_slice(), end_status(session.refused))
+    let refused = session.counts.refused > 0;
+    write_text(desk, text.as_slice(), end_status(refused))
 }
 
 /// Reads a log that was just opened to its end, and writes the text of its lines before each next
-/// read.
+/// read; behind the last, where a summary is asked for, the summary line.
 pub fn read_log<D: Desk>(
     alloc: Global,
     desk: &mut D,
     log: u32,
     limit: u64,
     mut session: Session,
+    summary: bool,
 ) -> Status
     requires opened { log < D.inputs desk.old }
     requires fresh { D.tells ≡ true → (stream_at (D.told desk.old).left log).taken ≡ 0 }
     requires ready { IsReady session }
-    requires unrefused { session.refused ≡ false }
+    requires uncounted { IsUncounted session }
     ensures inputs { D.inputs desk.new ≡ D.inputs desk.old }
     ensures words { result ≡ Status.Words → ⊥ }
     ensures causes { HasCauses (D.in_faults desk.old) (D.in_faults desk.new) (D.out_faults desk.old) (D.out_faults desk.new) result }
-    ensures told { D.tells ≡ true → (f : Frame) → Represents f session (at_start f.texts) → HasReadLog no_tail f (D.told desk.old) log limit result (D.told desk.new) }
+    ensures told { D.tells ≡ true → (f : Frame) → Represents f session (at_start f.texts) → HasReadLog (tail_of summary) f (D.told desk.old) log limit result (D.told desk.new) }
 {
     let Ok(mut lines) = Lines::new(alloc, LINE_LIMIT) else {
         return Status::Memory;
@@ -123,7 +173,7 @@ pub fn read_log<D: Desk>(
             Err(DeskError::Memory) => return Status::Memory,
         };
         if count == 0 {
-            return finish(alloc, desk, session, lines);
+            return finish(alloc, desk, session, lines, summary);
         }
         taken += count as u64;
         let Ok(text) = take_piece(alloc, &mut session, &mut lines, &buf[..count]) else {

@@ -5,7 +5,7 @@ ghost use Rattle.crs_top.specs.Prepared.{IsPrepared};
 
 use crate::limits::Limits;
 use crate::listing::read_text;
-use crate::session::Session;
+use crate::session::{Counts, Session};
 use crs_compile::compile;
 use crs_engine::Engine;
 use crs_model::ModelRefused;
@@ -19,12 +19,17 @@ pub fn prepare(alloc: Global, text: &[u8], limits: Limits) -> Result<Session, Mo
     let (models, symbols) = read_text(alloc, text, limits.symbols)?;
     let plans = compile(alloc, models)?;
     let engine = Engine::new(alloc, plans, false, limits.entries)?;
+    let peak = engine.kept();
     Ok(Session {
         engine,
         symbols,
         entries: limits.entries,
         met: false,
         ended: false,
-        refused: false,
+        counts: Counts {
+            refused: 0,
+            recognitions: 0,
+            peak,
+        },
     })
 }

@@ -2,10 +2,10 @@
 ghost use Rattle.std.specs.Prelude.{◌≡◌, ◌<◌, ◌≤◌, ◌+◌, ◌-◌, ◌^◌, ◌⊎◌, true, false, None, map, string_bytes};
 ghost use Rattle.crs_desk.specs.Desk.{Rose};
 ghost use Rattle.crs_log.specs.Run.{at_start};
-ghost use Rattle.crs_top.specs.Session.{IsReady, Represents};
+ghost use Rattle.crs_top.specs.Session.{IsReady, Represents, IsUncounted};
 ghost use Rattle.crs_top.specs.Texts.{Frame};
 ghost use Rattle.crs_words.specs.Commands.{command_of};
-ghost use Rattle.crs_top.specs.Logs.{no_tail};
+ghost use Rattle.crs_top.specs.Logs.{tail_of};
 ghost use Rattle.crs_top.specs.Run.{Runs, Follows, most_of, standard};
 ghost use Rattle.crs_top.specs.Status.{HasCauses};
 ghost use Rattle.crs_top.specs.Commands.{Does, CompletesCommand};
@@ -52,7 +52,15 @@ pub fn run_with<D: Desk>(alloc: Global, words: &[String], limits: Limits, desk: 
     match read_words(alloc, words) {
         Err(_) => Status::Memory,
         Ok(None) => write_text(desk, usage_text(), Status::Words),
-        Ok(Some(Command::Run { models, log })) => recognise(alloc, desk, models, log, limits),
+        Ok(
+            Some(
+                Command::Run {
+                    summary,
+                    models,
+                    log,
+                },
+            ),
+        ) => recognise(alloc, desk, models, log, limits, summary),
         Ok(Some(Command::Print { listing, models })) => {
             print(alloc, desk, models, listing, limits.symbols)
         }
@@ -67,40 +75,48 @@ fn recognise<D: Desk>(
     models: &str,
     log: &str,
     limits: Limits,
+    summary: bool,
 ) -> Status
     requires { D.inputs desk.old < 2 ^ 31 }
     ensures words { result ≡ Status.Words → ⊥ }
     ensures causes { HasCauses (D.in_faults desk.old) (D.in_faults desk.new) (D.out_faults desk.old) (D.out_faults desk.new) result }
     ensures least { D.inputs desk.old ≤ D.inputs desk.new }
     ensures most { D.inputs desk.new ≤ D.inputs desk.old + 2 }
-    ensures told { D.tells ≡ true → Runs (D.inputs desk.old) (D.inputs desk.new) no_tail (most_of limits) (D.told desk.old) models.now log.now result (D.told desk.new) }
+    ensures told { D.tells ≡ true → Runs (D.inputs desk.old) (D.inputs desk.new) (tail_of summary) (most_of limits) (D.told desk.old) models.now log.now result (D.told desk.new) }
 {
     let text = match load(alloc, desk, models, MODELS_LIMIT, MODELS_TOO_LONG) {
         Ok(text) => text,
         Err(status) => return status,
     };
     match prepare(alloc, text.as_slice(), limits) {
-        Ok(session) => follow(alloc, desk, log, limits.bytes, session),
+        Ok(session) => follow(alloc, desk, log, limits.bytes, session, summary),
         Err(refused) => refuse(alloc, desk, refused),
     }
 }
 
 /// Opens a log and reads it to its end.
-fn follow<D: Desk>(alloc: Global, desk: &mut D, log: &str, limit: u64, session: Session) -> Status
+fn follow<D: Desk>(
+    alloc: Global,
+    desk: &mut D,
+    log: &str,
+    limit: u64,
+    session: Session,
+    summary: bool,
+) -> Status
     requires inputs { D.inputs desk.old < 2 ^ 32 - 1 }
     requires ready { IsReady session }
-    requires unrefused { session.refused ≡ false }
+    requires uncounted { IsUncounted session }
     ensures words { result ≡ Status.Words → ⊥ }
     ensures causes { HasCauses (D.in_faults desk.old) (D.in_faults desk.new) (D.out_faults desk.old) (D.out_faults desk.new) result }
     ensures least { D.inputs desk.old ≤ D.inputs desk.new }
     ensures most { D.inputs desk.new ≤ D.inputs desk.old + 1 }
     ensures told { D.tells ≡ true → (f : Frame) → Represents f session (at_start f.texts)
-        → Follows (D.inputs desk.old) (D.inputs desk.new) no_tail f limit (D.told desk.old) log.now result (D.told desk.new) }
+        → Follows (D.inputs desk.old) (D.inputs desk.new) (tail_of summary) f limit (D.told desk.old) log.now result (D.told desk.new) }
 {
     let input = match desk.open(log) {
         Ok(input) => input,
         Err(DeskError::Failed) => return Status::ReadFault,
         Err(DeskError::Memory) => return Status::Memory,
     };
-    read_log(alloc, desk, input, limit, session)
+    read_log(alloc, desk, input, limit, session, summary)
 }

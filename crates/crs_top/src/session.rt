@@ -1,6 +1,22 @@
 // What is known between two lines of a log.
+ghost use Rattle.std.specs.Prelude.{◌≡◌};
+ghost use Rattle.crs_engine.specs.Engines.{kept_of};
+ghost use Rattle.crs_top.specs.Session.{IsUnfocused};
+ghost use Rattle.crs_top.specs.Tallies.{with_refused, with_mark};
+
 use crs_base::Symbols;
 use crs_engine::Engine;
+
+/// What a run counts. Each number stands still at 2^64 - 1.
+#[derive(Clone, Copy, Debug)]
+pub struct Counts {
+    /// The refused lines.
+    pub refused: u64,
+    /// The printed recognitions.
+    pub recognitions: u64,
+    /// The greatest number of partial instances that were held, at the start or after any line.
+    pub peak: u64,
+}
 
 /// A run between two lines of its log.
 #[derive(Drop)]
@@ -13,6 +29,24 @@ pub struct Session {
     pub met: bool,
     /// Whether an `end` was accepted.
     pub ended: bool,
-    /// Whether some line was refused.
-    pub refused: bool,
+    pub counts: Counts,
+}
+
+impl Session {
+    /// Counts a refused line.
+    pub fn count_refused(&mut self)
+        ensures { self.new ≡ record self.old { counts = with_refused self.old.counts } }
+    {
+        self.counts.refused = self.counts.refused.saturating_add(1);
+    }
+
+    /// Counts the recognitions of a mark that was just met, and what is held behind it.
+    pub fn count_mark(&mut self, recognitions: usize)
+        ensures counted { self.new ≡ record self.old { counts = with_mark self.old.counts recognitions (kept_of self.old.engine) } }
+        ensures unfocused { IsUnfocused self.old.engine }
+    {
+        let kept = self.engine.kept();
+        self.counts.recognitions = self.counts.recognitions.saturating_add(recognitions as u64);
+        self.counts.peak = self.counts.peak.max(kept);
+    }
 }

@@ -10,6 +10,7 @@ ghost use Rattle.crs_log.specs.Known.{Named};
 ghost use Rattle.std.specs.Prelude.{map};
 ghost use Rattle.crs_log.specs.Run.{after_given, after_what};
 ghost use Rattle.crs_top.specs.Session.{IsReady, IsOpen, IsUnused, BringsAll, IsShort, ArePrintable, line_in, number_of, ordered_what, is_blank_what, is_delay_what};
+ghost use Rattle.crs_top.specs.Tallies.{with_refused};
 ghost use Rattle.crs_top.specs.Texts.{setting_of};
 ghost use Rattle.crs_report.specs.Lines.{refusal_line};
 
@@ -32,10 +33,10 @@ fn refuse(
     out: &mut Vec<u8>,
 ) -> Result<(), AllocError>
     ensures written { OnOk result (out.new.items ≡ out.old.items ++ refusal_line number fault) }
-    ensures noted { OnOk result (session.new ≡ record session.old { refused = true }) }
+    ensures noted { OnOk result (session.new ≡ record session.old { counts = with_refused session.old.counts }) }
 {
     push_refusal_line(out, number, fault)?;
-    session.refused = true;
+    session.count_refused();
     Ok(())
 }
 
@@ -57,12 +58,11 @@ fn take_clock<L: Ledger>(
     ensures { OnOk result (BringsAll session.old session.new number (λ f s. after_ordered (setting_of f) s (Clock t)) out.old.items out.new.items) }
 {
     match session.engine.clock(t, &mut Steps::<L>::new(blank)) {
-        Ok(answer) => push_answer(
-            session.engine.plans(),
-            &session.symbols,
-            answer.as_slice(),
-            out,
-        ),
+        Ok(answer) => {
+            let found = answer.as_slice();
+            session.count_mark(found.len());
+            push_answer(session.engine.plans(), &session.symbols, found, out)
+        }
         Err(Refused::Back { t, last }) => refuse(session, number, Fault::Back { t, last }, out),
         Err(_) => Err(AllocError),
     }
@@ -86,12 +86,9 @@ fn take_end<L: Ledger>(
     match session.engine.finish(&mut Steps::<L>::new(blank)) {
         Ok(answer) => {
             session.ended = true;
-            push_answer(
-                session.engine.plans(),
-                &session.symbols,
-                answer.as_slice(),
-                out,
-            )
+            let found = answer.as_slice();
+            session.count_mark(found.len());
+            push_answer(session.engine.plans(), &session.symbols, found, out)
         }
         Err(_) => Err(AllocError),
     }

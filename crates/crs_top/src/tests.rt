@@ -1,7 +1,6 @@
 ghost use Rattle.std.specs.Prelude.{◌≡◌, IfOk};
 ghost use Rattle.crs_desk.specs.Memory.{memory_inputs};
 
-use crate::words::USAGE;
 use crate::{Limits, STANDARD, Status, run_with};
 use crs_desk::MemoryDesk;
 use std::alloc::{AllocError, Global};
@@ -9,6 +8,9 @@ use std::test::Fail;
 
 const MODELS: &str =
     "message a 0\nmessage b 0\nchronicle c {\n  event(a, t1)\n  event(b, t2)\n  t2 - t1 in [1, 5]\n}\n";
+
+const USAGE: &str =
+    "usage: crs run [--summary] MODELS LOG\n       crs model [--minimal] MODELS\n       crs import CSV\n";
 
 fn words_in(alloc: Global, line: &str) -> Result<Vec<String>, AllocError> {
     let mut words = Vec::new(alloc);
@@ -316,12 +318,43 @@ fn printed_models(rt: HostRuntime) -> Result<(), Fail> {
         ("model --minimal", MODELS, Status::Words, USAGE),
         ("model -x", MODELS, Status::Words, USAGE),
         ("run m", MODELS, Status::Words, USAGE),
-        ("run --summary m l", MODELS, Status::Words, USAGE),
+        ("run --summaries m l", MODELS, Status::Words, USAGE),
         ("models m", MODELS, Status::Words, USAGE),
     ] {
         let words = words_in(alloc, words)?;
         let mut desk = MemoryDesk::new(alloc);
         desk.add_file("m", models.as_bytes())?;
+        assert_eq!(rt;
+            run_with(alloc, words.as_slice(), STANDARD, &mut desk),
+            status
+        );
+        assert!(rt; desk.written() == output.as_bytes());
+    }
+    Ok(())
+}
+
+#[test]
+fn summaries(rt: HostRuntime) -> Result<(), Fail> {
+    let alloc = rt.alloc();
+    let words = words_in(alloc, "run --summary m l")?;
+    for (log, status, output) in [
+        (
+            "",
+            Status::Done,
+            "summary entries 0 refused 0 recognitions 0 kept 1 peak 1\n",
+        ),
+        (
+            "delay 2\n10 a\n12 b\nclock 14\nclock 15\n",
+            Status::Done,
+            "c at 15 t1=10 t2=12\nsummary entries 2 refused 0 recognitions 1 kept 2 peak 2\n",
+        ),
+        (
+            "1 a[x]\n1 a\nclock 2\nclock 1\nclock 7\nend",
+            Status::Refusals,
+            "line 1 arity\nline 4 back 1 2\nsummary entries 1 refused 2 recognitions 0 kept 1 peak 2\n",
+        ),
+    ] {
+        let mut desk = desk_of(alloc, MODELS, log)?;
         assert_eq!(rt;
             run_with(alloc, words.as_slice(), STANDARD, &mut desk),
             status

@@ -16,9 +16,11 @@ plain_app name =
     let a = new_app name in
     record a { top = record a.top { disable_help_flag = true; disable_version_flag = true } }
 
--- `run MODELS LOG`
+-- `run [--summary] MODELS LOG`
 abbrev pub run_app : App
-run_app = with_rule (with_rule (plain_app (codes "run")) (position (codes "models"))) (position (codes "log"))
+run_app =
+    let flagged = with_rule (plain_app (codes "run")) (flag (codes "summary")) in
+    with_rule (with_rule flagged (position (codes "models"))) (position (codes "log"))
 
 -- `model [--minimal] MODELS`
 abbrev pub model_app : App

@@ -10,15 +10,16 @@ use Rattle.crs_words.specs.declared.command.Listing.TheVariants.{Canonical, Mini
 use Rattle.crs_words.specs.declared.command.Command.{Command as CodeCommand}
 use Rattle.crs_words.specs.declared.command.Command.TheVariants as code
 
--- to recognise the models of the first name in the log of the second; to print the models of a name; to write the table of a name as a log
+-- to recognise the models of the first name in the log of the second, with the numbers of the run behind it or without; to print the models of a
+-- name; to write the table of a name as a log
 pub data Command : Type 0 where
-  Run : (models log : List ℕ) → Command
+  Run : (summary : Bool) → (models log : List ℕ) → Command
   Print : (listing : Listing) → (models : List ℕ) → Command
   Import : (table : List ℕ) → Command
 
 -- a command of the program
 abbrev pub command_seen : CodeCommand → Command
-command_seen (code.Run models log) = Run models.now log.now
+command_seen (code.Run summary models log) = Run summary models.now log.now
 command_seen (code.Print listing models) = Print listing models.now
 command_seen (code.Import table) = Import table.now
 
@@ -37,13 +38,13 @@ rows_in app words = if is_empty (fault_of app words) then Some (matches_of app w
 abbrev pub read_by : App → (List Row → Option Command) → List (List ℕ) → Option Command
 read_by app command words = option_and_then command (rows_in app words)
 
-abbrev pub run_of : Option (List ℕ) → Option (List ℕ) → Option Command
-run_of (Some models) (Some log) = Some (Run models log)
-run_of (Some models) None = None
-run_of None log = None
+abbrev pub run_of : Bool → Option (List ℕ) → Option (List ℕ) → Option Command
+run_of summary (Some models) (Some log) = Some (Run summary models log)
+run_of summary (Some models) None = None
+run_of summary None log = None
 
 abbrev pub run_in : List Row → Option Command
-run_in rows = run_of (first_of (codes "models") rows) (first_of (codes "log") rows)
+run_in rows = run_of (is_given (codes "summary") rows) (first_of (codes "models") rows) (first_of (codes "log") rows)
 
 abbrev pub listing_of : Bool → Listing
 listing_of minimal = if minimal then Minimal else Canonical
@@ -73,4 +74,4 @@ command_of (name ∷ rest) =
 
 -- what is written where the words are no command
 abbrev pub usage_text : List ℕ
-usage_text = codes "usage: crs run MODELS LOG\n" ++ codes "       crs model [--minimal] MODELS\n" ++ codes "       crs import CSV\n"
+usage_text = codes "usage: crs run [--summary] MODELS LOG\n" ++ codes "       crs model [--minimal] MODELS\n" ++ codes "       crs import CSV\n"

@@ -31,11 +31,12 @@ fn plain_command<'a>(alloc: Global, name: &'a str) -> Command<'a>
         .disable_version_flag(true)
 }
 
-/// `run MODELS LOG`
+/// `run [--summary] MODELS LOG`
 pub(crate) fn run_command<'a>(alloc: Global) -> Result<Command<'a>, AllocError>
     ensures { IfOk result (λ c. app_of c ≡ run_app) }
 {
     let command = plain_command(alloc, "run")
+        .arg(flag_of(alloc, "summary"))?
         .arg(position_of(alloc, "models"))?
         .arg(position_of(alloc, "log"))?;
     Ok(command)

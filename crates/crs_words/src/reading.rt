@@ -75,9 +75,14 @@ fn read_run<'a>(alloc: Global, words: &'a [String]) -> Result<Option<Command<'a>
 fn run_of<'a>(matches: &ArgMatches<'a>) -> Option<Command<'a>>
     ensures { option_map command_seen result ≡ run_in (rows_of (found_of matches.now)) }
 {
+    let summary = is_given(matches, "summary");
     let models = word_of(matches, "models")?;
     let log = word_of(matches, "log")?;
-    Some(Command::Run { models, log })
+    Some(Command::Run {
+        summary,
+        models,
+        log,
+    })
 }
 
 /// Reads the words of `model`, the first of which is its name.

@@ -10,7 +10,16 @@ fn shown(alloc: Global, text: &str) -> Result<String, AllocError> {
     }
     match read_words(alloc, words.as_slice())? {
         None => String::from_str(alloc, "none"),
-        Some(Command::Run { models, log }) => format!(in alloc; "run {models} {log}"),
+        Some(
+            Command::Run {
+                summary,
+                models,
+                log,
+            },
+        ) => {
+            let word = if summary { "summary" } else { "run" };
+            format!(in alloc; "{word} {models} {log}")
+        }
         Some(Command::Print { listing, models }) => format!(in alloc; "{listing:?} {models}"),
         Some(Command::Import { table }) => format!(in alloc; "import {table}"),
     }
@@ -32,6 +41,13 @@ fn words_are_commands(rt: HostRuntime) -> Result<(), Fail> {
         ("run m l --", "run m l"),
         ("run - l", "run - l"),
         ("run  l", "run  l"),
+        ("run --summary m l", "summary m l"),
+        ("run m --summary l", "summary m l"),
+        ("run m l --summary", "summary m l"),
+        ("run --summary m l --summary", "none"),
+        ("run --summary=x m l", "none"),
+        ("run --summary m", "none"),
+        ("run -- --summary l", "run --summary l"),
         ("run --help", "none"),
         ("run --version m l", "none"),
         ("Run m l", "none"),
@@ -61,7 +77,7 @@ fn words_are_commands(rt: HostRuntime) -> Result<(), Fail> {
 
 #[test]
 fn the_usage_text_has_a_line_for_each_command(rt: HostRuntime) {
-    let text = b"usage: crs run MODELS LOG\n\
+    let text = b"usage: crs run [--summary] MODELS LOG\n\
         \x20      crs model [--minimal] MODELS\n\
         \x20      crs import CSV\n\
         ";

@@ -1,10 +1,9 @@
-use Rattle.std.proofs.Common.{◌++◌, [], ◌∷◌, ◌∙◌, ap, sym, refl, append-nil, append_assoc, List}
-use Rattle.std.proofs.Math.Bool.{or-false}
+use Rattle.std.proofs.Common.{◌++◌, [], ◌∷◌, ◌∙◌, ap, sym, refl, append_assoc, List}
 use Rattle.crs_log.specs.Given.{seen}
 use Rattle.crs_log.specs.Reading.{Given, Gives, ahead}
 use Rattle.crs_top.specs.Texts.{setting_of}
 use Rattle.crs_log.specs.Run.{after_given}
-use Rattle.crs_top.proofs.Taken.{given_short, takes_more}
+use Rattle.crs_top.proofs.Taken.{given_short, takes_more, takes_none}
 use Rattle.crs_top.proofs.log.take_lines.Goals as goal
 
 pub take_line-requires-clause-short : goal.take_line-requires-clause-short
@@ -35,5 +34,5 @@ loop-line-init c = record {
   finished = refl;
   fed = refl;
   ahead_is = λ m h. refl;
-  takes = λ f s r. record { state = r; text = []; says = refl; written = sym (append-nil c.args.out.now.items); noted = sym (or-false c.args.session.now.refused) };
+  takes = λ f s r. takes_none f c.args.session.now s c.args.out.now.items r;
 }

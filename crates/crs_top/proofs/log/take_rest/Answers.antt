@@ -9,5 +9,5 @@ returns c =
     record {
       told = t.told;
       ahead_is = all_given c.args.lines.now c.finish.new.self c.take_lines.new.lines t.told c.finish.ensures t.finished t.none (t.ahead_is [] (λ q. refl));
-      takes = λ f s r. subst (λ (out : List ℕ). Takes f c.args.session.now.refused c.take_lines.new.session s t.told out c.take_lines.new.out.items) c.new-text.ensures.items (t.takes f s r);
+      takes = λ f s r. subst (λ (out : List ℕ). Takes f c.args.session.now.counts c.take_lines.new.session s t.told out c.take_lines.new.out.items) c.new-text.ensures.items (t.takes f s r);
     }

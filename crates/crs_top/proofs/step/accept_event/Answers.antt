@@ -1,11 +1,12 @@
-use Rattle.std.proofs.Common.{◌≡◌, ◌∙◌, ap, arith, true}
+use Rattle.std.proofs.Common.{◌≡◌, ◌∙◌, ap, arith}
 use Rattle.std.proofs.lemmas.List.{length-map}
 use Rattle.crs_log.proofs.Numbered.{named_fits}
 use Rattle.crs_log.specs.Run.{after_named}
 use Rattle.crs_log.specs.SeenItems.{event_seen, text_of}
 use Rattle.crs_top.specs.Session.{BringsAll}
+use Rattle.crs_top.specs.Tallies.{with_refused}
 use Rattle.crs_top.specs.Texts.{setting_of}
-use Rattle.crs_top.proofs.Accepting.{refused_brings, values_is, accept_brings}
+use Rattle.crs_top.proofs.Accepting.{refuse_brings, refused_brings, full_is, values_is, accept_brings}
 use Rattle.crs_log.specs.Run as run
 use Rattle.crs_log.specs.Known.{entry_of_event}
 use Rattle.crs_top.proofs.Marking.{still_running}
@@ -19,6 +20,14 @@ make_named-requires-clause-arity c =
     let few = (named_fits x.symbols.texts (event_seen c.args.line.now c.args.raw.now) x.engine.plans.names 0 c.requires.named.0 r.models.names_in r.models.arities c.requires.named.1).1 in
     omega (arith, few, length-map c.args.raw.now.args (text_of c.args.line.now))
 
+pub returns-then-is_full : goal.returns-then-is_full
+returns-then-is_full c =
+    let x = c.args.session.now in
+    let e = event_seen c.args.line.now c.args.raw.now in
+    refuse_brings c.refuse.result x c.refuse.new.session c.args.number (run.Full x.entries) (λ f s. after_named (setting_of f) s e)
+    c.args.out.now.items c.refuse.new.out.items c.refuse.ensures.written c.refuse.ensures.noted
+    (λ f s r. full_is f x s r e (c.is_full.ensures.0 c.if-is_full.true))
+
 pub returns-in-Err-Values : goal.returns-in-Err-Values
 returns-in-Err-Values c =
     let x = c.args.session.now in
@@ -30,14 +39,14 @@ returns-in-Err-Values c =
     c.refuse-in-Err-Values.ensures.written c.refuse-in-Err-Values.ensures.noted
     (λ w m f s r. refused_brings f x s r c.args.number (run.Values limit) (after_named (setting_of f) s e) c.refuse-in-Err-Values.new.session c.args.out.now.items c.refuse-in-Err-Values.new.out.items
     (values_is f x s r e (λ q. not_true c.is_full.result c.if-is_full.false (c.is_full.ensures.1 q)) limit why.0 why.2)
-    (m ∙ ap (λ t. record x { symbols = t; refused = true }) why.1) w)
+    (m ∙ ap (λ t. record x { symbols = t; counts = with_refused x.counts }) why.1) w)
 
 pub returns-in-Ok-accept : goal.returns-in-Ok-accept
 returns-in-Ok-accept c = λ f s r.
     let x = c.args.session.now in
     let e = event_seen c.args.line.now c.args.raw.now in
     let arrival : c.accepted-arrival.result ≡ x.engine.accepted = c.accepted-arrival.ensures in
-    accept_brings f x s r e (λ q. not_true c.is_full.result c.if-is_full.false (c.is_full.ensures.1 q)) c.requires.met c.args.number c.accept.new.self c.make_named.new.symbols c.in-Ok.entry c.args.out.now.items
+    accept_brings f x s r e (λ q. not_true c.is_full.result c.if-is_full.false (c.is_full.ensures.1 q)) c.requires.met c.requires.due c.args.number c.accept.new.self c.make_named.new.symbols c.in-Ok.entry c.args.out.now.items
     c.in-Ok-accept.ensures.accepted (still_running x.engine.stopped c.accept.new.self.stopped tt r.running c.in-Ok-accept.ensures.raised) c.in-Ok.ensures.texts c.in-Ok.ensures.limit
     (omega (arith, c.in-Ok.ensures.room))
     (c.in-Ok.ensures.entry ∙ ap (λ n. entry_of_event n e) arrival) c.in-Ok.ensures.within

@@ -9,7 +9,7 @@ use Rattle.crs_log.specs.Run.{after_what}
 use Rattle.crs_log.specs.Recognitions.{view_of}
 use Rattle.crs_top.specs.Session.{Brings, BringsAll, is_blank_what, is_delay_what}
 use Rattle.crs_top.specs.Texts.{setting_of}
-use Rattle.crs_top.proofs.Accepting.{refused_brings}
+use Rattle.crs_top.proofs.Accepting.{refused_brings, passed_brings}
 use Rattle.crs_top.proofs.Ordering.{in_order, not_ended, not_met, unused, not_faulty}
 use Rattle.crs_top.proofs.Results.{both_ok}
 use Rattle.crs_top.proofs.States.{met}
@@ -37,10 +37,21 @@ returns c =
     (λ _. BringsAll x c.take_ordered.new.session c.args.number (λ f s. after_what (setting_of f) s w) c.args.out.now.items c.take_ordered.new.out.items)
     (λ _ h f s r.
     let order : (s.ended || (is_delay_what w && s.met)) ≡ false = (λ i. r.ended i || (is_delay_what w && r.met i)) ∙ sym (c.is_out_of_order-refused.ensures c.args.line.now) ∙ c.if-refused.false in
-    subst (λ (a : State × Outcome). Brings f x.refused c.take_ordered.new.session c.args.number (view_of s) a c.args.out.now.items c.take_ordered.new.out.items)
+    subst (λ (a : State × Outcome). Brings f x.counts c.take_ordered.new.session c.args.number (view_of s) a c.args.out.now.items c.take_ordered.new.out.items)
     (in_order (setting_of f) s w (sym (c.is_blank.ensures c.args.line.now) ∙ c.if-is_blank.false) order (not_faulty c.args.line.now c.args.item))
     (h f (is_met s) (met f x s r)))
     c.take_ordered.ensures
+
+blank_passed : (c : Setting) (s : State) (w : What) → is_blank_what w ≡ true → (s, run.Passed) ≡ after_what c s w
+blank_passed c s Empty b = refl
+blank_passed c s (Is item) b = absurd (true≢false (sym b))
+blank_passed c s Faulty b = absurd (true≢false (sym b))
+
+pub returns-then-is_blank : goal.returns-then-is_blank
+returns-then-is_blank c = λ f s r.
+    let w = what_seen c.args.line.now c.args.item in
+    passed_brings f c.args.session.now s r c.args.number (after_what (setting_of f) s w) c.args.out.now.items
+    (blank_passed (setting_of f) s w (sym (c.is_blank.ensures c.args.line.now) ∙ c.if-is_blank.true))
 
 -- an item that doesn't stand in order is refused, and was met
 out_of_order : (c : Setting) (s : State) (w : What) → is_blank_what w ≡ false → (s.ended || (is_delay_what w && s.met)) ≡ true → (w ≡ Faulty → ⊥) → after_what c s w ≡ (is_met s, run.Refused run.Order)

@@ -1,24 +1,30 @@
-use Rattle.std.proofs.Common.{subst, ap}
+use Rattle.std.proofs.Common.{subst, ap, refl}
 use Rattle.std.proofs.lemmas.Result.{IfOk-weaker}
 use Rattle.crs_log.specs.SeenItems.{IsFaulty}
-use Rattle.crs_log.specs.Reading.{Plain}
+use Rattle.crs_log.specs.Reading.{Plain, Long}
 use Rattle.crs_log.specs.Run as run
 use Rattle.crs_log.specs.Run.{State, Outcome}
 use Rattle.crs_log.specs.Run.{after_what, after_given}
 use Rattle.crs_log.specs.Recognitions.{view_of}
 use Rattle.crs_top.specs.Session.{Brings, BringsAll}
 use Rattle.crs_top.specs.Texts.{setting_of}
-use Rattle.crs_top.proofs.Accepting.{refused_brings}
+use Rattle.crs_top.proofs.Accepting.{refuse_brings, refused_brings}
 use Rattle.crs_top.proofs.Ordering.{given_faulty}
 use Rattle.crs_top.proofs.Results.{both_ok}
 use Rattle.crs_top.proofs.step.take_line.Goals as goal
+
+pub returns-in-Long : goal.returns-in-Long
+returns-in-Long c =
+    let x = c.args.session.now in
+    rw c.in-Long.is (refuse_brings c.refuse.result x c.refuse.new.session c.in-Long.number run.TooLong (λ f s. after_given (setting_of f) s (Long c.in-Long.number))
+    c.args.out.now.items c.refuse.new.out.items c.refuse.ensures.written c.refuse.ensures.noted (λ f s r. refl))
 
 pub returns-in-Ok : goal.returns-in-Ok
 returns-in-Ok c =
     let x = c.args.session.now in
     rw c.in-Plain.is (IfOk-weaker c.take_item.result _
     (λ _. BringsAll x c.take_item.new.session c.in-Plain.number (λ f s. after_given (setting_of f) s (Plain c.in-Plain.number c.in-Plain.bytes.now)) c.args.out.now.items c.take_item.new.out.items)
-    (λ _ h f s r. subst (λ (a : State × Outcome). Brings f x.refused c.take_item.new.session c.in-Plain.number (view_of s) a c.args.out.now.items c.take_item.new.out.items)
+    (λ _ h f s r. subst (λ (a : State × Outcome). Brings f x.counts c.take_item.new.session c.in-Plain.number (view_of s) a c.args.out.now.items c.take_item.new.out.items)
     (ap (after_what (setting_of f) s) c.in-Ok.ensures.exact) (h f s r))
     c.take_item.ensures)
 

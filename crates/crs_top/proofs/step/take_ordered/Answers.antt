@@ -1,8 +1,15 @@
-use Rattle.std.proofs.Common.{ap}
+use Rattle.std.proofs.Common.{ap, sym}
 use Rattle.crs_log.specs.SeenItems.{what_seen}
-use Rattle.crs_top.specs.Session.{is_delay_what}
+use Rattle.crs_top.specs.Session.{is_delay_what, ordered_what}
+use Rattle.crs_top.specs.Texts.{setting_of}
+use Rattle.crs_top.proofs.Accepting.{passed_brings}
 use Rattle.crs_top.proofs.Ordering.{delay_brings}
 use Rattle.crs_top.proofs.step.take_ordered.Goals as goal
+
+pub returns-in-Blank : goal.returns-in-Blank
+returns-in-Blank c = λ f s r.
+    passed_brings f c.args.session.now s r c.args.number (ordered_what (setting_of f) s (what_seen c.args.line.now c.args.item)) c.args.out.now.items
+    (ap (λ i. ordered_what (setting_of f) s (what_seen c.args.line.now i)) (sym c.in-Blank.is))
 
 pub returns-in-Delay : goal.returns-in-Delay
 returns-in-Delay c = λ f s r. rw (c.in-Delay.is, c.set_delay.ensures.value)
