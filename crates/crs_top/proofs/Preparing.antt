@@ -169,7 +169,8 @@ module _ (symbols entries : ℕ) (text : List ℕ) (m : CodeModels) (table : Tab
     }
 
     -- the session at the start
-    pub represented : (e : EngineState) (peak : ℕ) → peak ≡ kept_of e → e.plans ≡ plans → e.delay ≡ 0 → e.last ≡ 0 → e.horizon ≡ 0 → e.accepted ≡ 0 → e.limit ≡ entries → e.stopped ≡ false → IsUnfocused e → StandsFor e [] []
+    pub represented : (e : EngineState) (peak : ℕ) → peak ≡ kept_of e → e.plans ≡ plans → e.delay ≡ 0 → e.last ≡ 0 → e.horizon ≡ 0
+        → e.accepted ≡ 0 → e.limit ≡ entries → e.stopped ≡ false → IsUnfocused e → StandsFor e [] []
         → Represents frame (record { engine = e; symbols = table; entries = entries; met = false; ended = false; counts = record { refused = 0; recognitions = 0; peak = peak } }) (at_start table.texts)
     represented e peak is_kept p delay last horizon count most running unfocused stands = record {
       models = has_models_by e p;
