@@ -1,5 +1,6 @@
 -- What a refused line and an accepted event bring.
-use Rattle.std.proofs.Common.{◌≡◌, ◌≢◌, ◌<◌, ◌≤◌, ℕ, ◌+◌, true, false, cond, List, [], ◌++◌, length, nat_lt, nat_le, refl, sym, ap, subst, ◌∙◌, arith, append-nil, lt-ltb, map, Bool, Result, Ok, Err}
+use Rattle.std.proofs.Common.{◌≡◌, ◌≢◌, ◌<◌, ◌≤◌, ℕ, ◌+◌, true, false, cond, List, [], ◌++◌, length, nat_lt, nat_le, refl, sym, ap, subst}
+use Rattle.std.proofs.Common.{◌∙◌, arith, append-nil, lt-ltb, map, Bool, Result, Ok, Err}
 use Rattle.std.specs.Prelude.{OnOk, Some, None, if◌then◌else◌}
 use Rattle.std.proofs.lemmas.Bool.{le-ltb}
 use Rattle.crs_base.specs.declared.entry.Entry.{Entry as CodeEntry}
@@ -28,7 +29,8 @@ use Rattle.crs_top.proofs.Counting.{passed, counted_passed, counted_refused}
 
 -- a refused line is written, and changes nothing
 pub refused_brings : (f : Frame) (x : Session) (s : State) → Represents f x s → (n : ℕ) (fault : run.Fault) (after : State × Outcome) (new : Session) (out more : List ℕ)
-    → after ≡ (s, Refused fault) → new ≡ record x { counts = with_refused x.counts } → more ≡ out ++ refusal_line n (fault_of fault) → Brings f x.counts new n (view_of s) after out more
+    → after ≡ (s, Refused fault) → new ≡ record x { counts = with_refused x.counts } → more ≡ out ++ refusal_line n (fault_of fault)
+    → Brings f x.counts new n (view_of s) after out more
 refused_brings f x s r n fault after new out more is now written =
     subst (λ (a : State × Outcome). Brings f x.counts new n (view_of s) a out more) (sym is)
     (subst (λ (y : Session). Brings f x.counts y n (view_of s) (s, Refused fault) out more) (sym now) (record {
@@ -42,7 +44,8 @@ refused_brings f x s r n fault after new out more is now written =
     }))
 
 -- so where its text was written, and it was counted
-pub refuse_brings : {A E : Type 0} (result : Result A E) (x new : Session) (n : ℕ) (fault : run.Fault) (after : Frame → State → State × Outcome) (out more : List ℕ)
+pub refuse_brings : {A E : Type 0} (result : Result A E) (x new : Session) (n : ℕ) (fault : run.Fault)
+    (after : Frame → State → State × Outcome) (out more : List ℕ)
     → OnOk result (more ≡ out ++ refusal_line n (fault_of fault)) → OnOk result (new ≡ record x { counts = with_refused x.counts })
     → ((f : Frame) (s : State) → Represents f x s → after f s ≡ (s, Refused fault)) → OnOk result (BringsAll x new n after out more)
 refuse_brings result x new n fault after out more w m is = both_ok result _ _ (BringsAll x new n after out more) w m
@@ -59,7 +62,8 @@ full_is f x s r e full =
     λ i. cond (no i) named (s, Refused (run.Full (sym r.most_here i)))
 
 -- a line that is passed over changes nothing
-pub passed_brings : (f : Frame) (x : Session) (s : State) → Represents f x s → (n : ℕ) (after : State × Outcome) (out : List ℕ) → (s, Passed) ≡ after
+pub passed_brings : (f : Frame) (x : Session) (s : State) → Represents f x s → (n : ℕ) (after : State × Outcome) (out : List ℕ)
+    → (s, Passed) ≡ after
     → Brings f x.counts x n (view_of s) after out out
 passed_brings f x s r n after out is = subst (λ (a : State × Outcome). Brings f x.counts x n (view_of s) a out out) is (record {
   state = r;
@@ -72,13 +76,15 @@ passed_brings f x s r n after out is = subst (λ (a : State × Outcome). Brings 
 })
 
 -- what the engine says of a date
-late_by : (stopped early : Bool) (date h d horizon : ℕ) → Err (Late date horizon) ≡ answer_by (if stopped then Some Stopped else (if early then Some (Late d h) else None))
+late_by : (stopped early : Bool) (date h d horizon : ℕ)
+    → Err (Late date horizon) ≡ answer_by (if stopped then Some Stopped else (if early then Some (Late d h) else None))
     → (early ≡ true) × (date ≡ d) × (horizon ≡ h)
 late_by true early date h d horizon e = absurd cc
 late_by false true date h d horizon e = (refl, cc, cc)
 late_by false false date h d horizon e = absurd cc
 
-fine_by : (stopped early : Bool) (h d : ℕ) → Ok tt ≡ answer_by (if stopped then Some Stopped else (if early then Some (Late d h) else None)) → early ≡ false
+fine_by : (stopped early : Bool) (h d : ℕ)
+    → Ok tt ≡ answer_by (if stopped then Some Stopped else (if early then Some (Late d h) else None)) → early ≡ false
 fine_by true early h d e = absurd cc
 fine_by false true h d e = absurd cc
 fine_by false false h d e = refl
@@ -87,15 +93,18 @@ pub date_fine : (e : EngineState) (d : ℕ) → Ok tt ≡ answer_by (test_refusa
 date_fine e d h = fine_by e.stopped (nat_lt d e.horizon) e.horizon d h
 
 -- the date of an event is before the horizon
-pub late_is : (f : Frame) (x : Session) (s : State) (r : Represents f x s) (e : Event) (date horizon : ℕ) → Err (Late date horizon) ≡ answer_by (test_refusal x.engine e.date)
+pub late_is : (f : Frame) (x : Session) (s : State) (r : Represents f x s) (e : Event) (date horizon : ℕ)
+    → Err (Late date horizon) ≡ answer_by (test_refusal x.engine e.date)
     → after_ordered (setting_of f) s (Happens e) ≡ (s, Refused (run.Late date horizon))
 late_is f x s r e date horizon h =
     let l = late_by x.engine.stopped (nat_lt e.date x.engine.horizon) date x.engine.horizon e.date horizon h in
     let is : nat_lt e.date s.horizon ≡ true = ap (nat_lt e.date) r.horizon ∙ l.0 in
-    λ i. cond (is i) (s, Refused (run.Late (sym l.1 i) ((r.horizon ∙ sym l.2) i))) (after_verdict (setting_of f) s e (known_of f.models.names e))
+    λ i. cond (is i) (s, Refused (run.Late (sym l.1 i) ((r.horizon ∙ sym l.2) i)))
+    (after_verdict (setting_of f) s e (known_of f.models.names e))
 
 -- an event that isn't late becomes what is known of its name
-pub verdict_is : (f : Frame) (x : Session) (s : State) (r : Represents f x s) (e : Event) (plans : Plans) (v : Verdict) → Ok tt ≡ answer_by (test_refusal x.engine e.date)
+pub verdict_is : (f : Frame) (x : Session) (s : State) (r : Represents f x s) (e : Event) (plans : Plans) (v : Verdict)
+    → Ok tt ≡ answer_by (test_refusal x.engine e.date)
     → plans ≡ x.engine.plans → known_of (map (name_seen x.symbols.texts) plans.names) e ≡ v
     → after_ordered (setting_of f) s (Happens e) ≡ after_verdict (setting_of f) s e v
 verdict_is f x s r e plans v fine same says =

@@ -1,5 +1,6 @@
 -- What is written for the answer of a clock mark is the mark's text.
-use Rattle.std.proofs.Common.{◌≡◌, ℕ, ◌+◌, suc, List, [], ◌∷◌, ◌++◌, map, length, refl, sym, ap, subst, ◌∙◌, arith, append_assoc, length-append, inl, inr}
+use Rattle.std.proofs.Common.{◌≡◌, ℕ, ◌+◌, suc, List, [], ◌∷◌, ◌++◌, map, length, refl, sym, ap, subst, ◌∙◌, arith, append_assoc}
+use Rattle.std.proofs.Common.{length-append, inl, inr}
 use Rattle.std.specs.Prelude.{Some, IsSomeAnd, slice_get, option_map, flat_map}
 use Rattle.std.specs.Option.{option_map_or}
 use Rattle.std.specs.List.{AllByRecursion}
@@ -114,22 +115,27 @@ module _ (texts : List (List ℕ)) (distinct : AreDistinct texts) where
     answer_text (p ∷ ps) number answer at proper of l = (
       map (renamed_assignment (text_in texts)) (map assignment_of l.0),
       flat_map (line_in plans texts) l.1,
-      new_renamed (text_in texts) (HasText texts) apart (chronicle p) of.0 proper.0.named (stars_of p proper.0) now now was was h g known known known_was known_was (map assignment_of l.0) l.3.listed,
+      new_renamed (text_in texts) (HasText texts) apart (chronicle p) of.0 proper.0.named
+          (stars_of p proper.0) now now was was h g known known known_was known_was (map assignment_of l.0) l.3.listed,
       answer_text ps (suc number) l.1 (next_from number p ps at) proper.1 of.1 l.4,
       ap (flat_map (line_in plans texts)) l.2 ∙ flat_map_append (line_in plans texts) l.0 l.1
           ∙ ap (λ (xs : List ℕ). xs ++ flat_map (line_in plans texts) l.1) (lines_are p proper.0 of.0 plans number mark l.0 (first_at number p ps at) l.3.each),
     )
 
     -- as many assignments are new as recognitions are answered
-    pub answer_new : (ps : List Plan) (number : ℕ) (answer : List Recognition) → AllByRecursion IsProper ps → AllByRecursion (λ p. IsChronicleOf (HasText texts) (chronicle p)) ps
+    pub answer_new : (ps : List Plan) (number : ℕ) (answer : List Recognition) → AllByRecursion IsProper ps
+        → AllByRecursion (λ p. IsChronicleOf (HasText texts) (chronicle p)) ps
         → ListsAllNew ps number mark was g now h answer
-        → AllNew (map (chronicle_in texts) ps) (record { settled = entries_in texts was; horizon = g }) (record { settled = entries_in texts now; horizon = h }) (length answer)
+        → AllNew (map (chronicle_in texts) ps) (record { settled = entries_in texts was; horizon = g })
+        (record { settled = entries_in texts now; horizon = h }) (length answer)
     answer_new [] number answer proper of l = ap length l
     answer_new (p ∷ ps) number answer proper of l = (
       map (renamed_assignment (text_in texts)) (map assignment_of l.0),
       length l.1,
-      new_renamed (text_in texts) (HasText texts) apart (chronicle p) of.0 proper.0.named (stars_of p proper.0) now now was was h g known known known_was known_was (map assignment_of l.0) l.3.listed,
+      new_renamed (text_in texts) (HasText texts) apart (chronicle p) of.0 proper.0.named
+          (stars_of p proper.0) now now was was h g known known known_was known_was (map assignment_of l.0) l.3.listed,
       answer_new ps (suc number) l.1 proper.1 of.1 l.4,
       ap length l.2 ∙ length-append l.0 l.1
-          ∙ ap (λ n. n + length l.1) (sym (length-map (map assignment_of l.0) (renamed_assignment (text_in texts)) ∙ length-map l.0 assignment_of)),
+          ∙ ap (λ n. n + length l.1) (sym
+          (length-map (map assignment_of l.0) (renamed_assignment (text_in texts)) ∙ length-map l.0 assignment_of)),
     )

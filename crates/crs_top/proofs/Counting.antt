@@ -10,7 +10,8 @@ use Rattle.crs_log.specs.Run as run
 use Rattle.crs_log.specs.Run.{Setting, State, Outcome, after_given, after_line, outcomes}
 use Rattle.crs_top.specs.declared.session.Counts.{Counts}
 use Rattle.crs_top.specs.Taking.{after_all, IsGivenTally}
-use Rattle.crs_top.specs.Tallies.{Tally, nothing, together, Happens, IsLineTally, IsTallyFrom, capped, AreCounts, Counted, with_refused, with_mark}
+use Rattle.crs_top.specs.Tallies.{Tally, nothing, together, CountsAs, IsLineTally, IsTallyFrom, capped, AreCounts, Counted, with_refused}
+use Rattle.crs_top.specs.Tallies.{with_mark}
 use Rattle.crs_top.specs.Texts.{Frame, setting_of, is_refused}
 
 -- ---- numbers up to a limit
@@ -92,7 +93,8 @@ peak_after peak n = by peak (capped n)
 -- ---- lines behind others
 
 pub tally_more : (f : Frame) (s : State) (gs : List Given) (g : Given) (t first : Tally) → IsGivenTally f s gs t
-    → IsLineTally f.models.chronicles (view_of (after_all (setting_of f) s gs)) (view_of (after_given (setting_of f) (after_all (setting_of f) s gs) g).0)
+    → IsLineTally f.models.chronicles (view_of (after_all (setting_of f) s gs))
+    (view_of (after_given (setting_of f) (after_all (setting_of f) s gs) g).0)
     (after_given (setting_of f) (after_all (setting_of f) s gs) g).1 first
     → IsGivenTally f s (gs ++ g ∷ []) (together t first)
 tally_more f s [] g t first h k = (first, nothing, k, refl, ap (λ z. together z first) h ∙ none_together first ∙ sym (together_none first))
@@ -121,7 +123,7 @@ or_some : (r rest : ℕ) (a b : Bool) → nat_lt 0 r ≡ a → nat_lt 0 rest ≡
 or_some r rest true b h k = grind arith
 or_some r rest false b h k = grind arith
 
-line_some : (cs : List (Chronicle (List ℕ))) (was now : View) (o : Outcome) (r n : ℕ) → Happens cs was now o r n → nat_lt 0 r ≡ is_refused o
+line_some : (cs : List (Chronicle (List ℕ))) (was now : View) (o : Outcome) (r n : ℕ) → CountsAs cs was now o r n → nat_lt 0 r ≡ is_refused o
 line_some cs was now run.Passed r n h = ap (nat_lt 0) h.0
 line_some cs was now (run.Refused fault) r n h = ap (nat_lt 0) h.0
 line_some cs was now (run.Accepted entry) r n h = ap (nat_lt 0) h.0

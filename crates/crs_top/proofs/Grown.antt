@@ -1,5 +1,7 @@
 -- What a session stands for once an entry is accepted.
-use Rattle.std.proofs.Common.{◌≡◌, ◌≢◌, ◌<◌, ◌≤◌, nat_lt, filter, ℕ, ◌+◌, zero, suc, Bool, true, false, cond, List, [], ◌∷◌, ◌++◌, map, length, refl, sym, ap, subst, ◌∙◌, arith, append-nil, append_assoc, inl, inr, true≢false, get_or, length-append}
+use Rattle.std.proofs.Common.{◌≡◌, ◌≢◌, ◌<◌, ◌≤◌, nat_lt, filter, ℕ, ◌+◌, zero, suc, Bool, true, false, cond, List, [], ◌∷◌, ◌++◌, map}
+use Rattle.std.proofs.Common.{length, refl, sym, ap, subst, ◌∙◌, arith, append-nil, append_assoc, inl, inr, true≢false, get_or}
+use Rattle.std.proofs.Common.{length-append}
 use Rattle.std.specs.Prelude.{Some, None}
 use Rattle.std.specs.List.{AllByRecursion}
 use Rattle.std.proofs.lemmas.List.{map-append}
@@ -172,10 +174,15 @@ pub view_stays : (f : Frame) (x : Session) (s : State) (r : Represents f x s) (e
     → view_of (with_entry s (entry_of_event (length s.accepted) e) e) ≡ view_of s
 view_stays f x s r e due =
     let late : nat_lt e.date s.horizon ≡ false = le-ltb e.date s.horizon (let h = r.horizon in omega arith) in
-    λ i. record { settled = in_key_order (filter_last (λ y. nat_lt y.date s.horizon) s.accepted (entry_of_event (length s.accepted) e) late i); horizon = s.horizon }
+    λ i. record {
+      settled = in_key_order
+          (filter_last (λ y. nat_lt y.date s.horizon) s.accepted (entry_of_event (length s.accepted) e) late i);
+      horizon = s.horizon;
+    }
 
 -- what a session stands for once the entry of an event is accepted
-pub accepted : (f : Frame) (x : Session) (s : State) (r : Represents f x s) → x.met ≡ true → length s.accepted < f.entries → (e : Event) → x.engine.horizon ≤ e.date → (new : EngineState) (table : Table) (en : CodeEntry)
+pub accepted : (f : Frame) (x : Session) (s : State) (r : Represents f x s) → x.met ≡ true → length s.accepted < f.entries → (e : Event)
+    → x.engine.horizon ≤ e.date → (new : EngineState) (table : Table) (en : CodeEntry)
     → HasAccepted x.engine new → new.stopped ≡ false → table.texts ≡ with_texts x.symbols.texts (texts_of e) → table.limit ≡ x.symbols.limit
     → entry_seen table.texts en ≡ entry_of_event x.engine.accepted e → IsEntryIn table.texts en
     → StandsFor new r.entries.settled (put_in_order (entry_of en) r.entries.waiting)

@@ -58,7 +58,8 @@ module _ (texts : List (List ℕ)) (distinct : AreDistinct texts) (settled : Lis
   store_live p s proper of unfocused at =
       let c = chronicle p in
       let one : Keeps c (level_in c.events s.focus) (parts s.held) settled settled settled h h =
-      subst (λ (q : Plan). Keeps (chronicle q) (level_in (chronicle q).events s.focus) (parts s.held) settled settled settled h h) at.0 (at.1).stands in
+      subst (λ (q : Plan). Keeps (chronicle q) (level_in (chronicle q).events s.focus)
+      (parts s.held) settled settled settled h h) at.0 (at.1).stands in
       let two : Keeps c (level_in c.events false) (parts s.held) settled settled settled h h =
       subst (λ (b : Bool). Keeps c (level_in c.events b) (parts s.held) settled settled settled h h) unfocused one in
       let all = before_all h settled (λ e i. in_from_each (λ (x : Entry Sym). x.date < h) settled dated e i) in
@@ -71,7 +72,8 @@ module _ (texts : List (List ℕ)) (distinct : AreDistinct texts) (settled : Lis
       )
 
   -- the stores of all plans hold those of all chronicles
-  pub stores_live : (ps : List Plan) (ss : List StoreState) → AllByRecursion IsProper ps → AllByRecursion (λ p. IsChronicleOf (HasText texts) (chronicle p)) ps
+  pub stores_live : (ps : List Plan) (ss : List StoreState) → AllByRecursion IsProper ps
+      → AllByRecursion (λ p. IsChronicleOf (HasText texts) (chronicle p)) ps
       → AllByRecursion (λ s. s.focus ≡ false) ss → AllZip (IsStoreAt settled h) ps ss
       → AllLive (map (chronicle_in texts) ps) now (sum (map (λ s. length s.held) ss))
   stores_live [] [] proper of unfocused at = refl
@@ -99,4 +101,5 @@ held_live f e table s m n horizon unfocused =
     let view : record { settled = entries_in table.texts n.settled; horizon = e.horizon } ≡ view_of s =
     (λ i. record { settled = settled i; horizon = sym horizon i }) in
     subst (λ (v : View). AllLive f.models.chronicles v (held_by e)) view
-    (subst (λ (cs : List (Chronicle (List ℕ))). AllLive cs (record { settled = entries_in table.texts n.settled; horizon = e.horizon }) (held_by e)) (sym m.chronicles) there)
+    (subst (λ (cs : List (Chronicle (List ℕ))). AllLive cs (record { settled = entries_in table.texts n.settled; horizon = e.horizon })
+    (held_by e)) (sym m.chronicles) there)

@@ -1,5 +1,7 @@
 -- A log, read by read.
-use Rattle.std.proofs.Common.{◌≡◌, ◌⊎◌, ◌∙◌, ap, sym, refl, subst, inl, inr, ℕ, ◌+◌, ◌-◌, ◌<◌, ◌≤◌, min, nat_lt, zero-add, Bool, true, false, List, [], ◌∷◌, ◌++◌, length, take, drop, arith, add-zero, append-nil, append_assoc, length-append, length-take-le, Ok, Err}
+use Rattle.std.proofs.Common.{◌≡◌, ◌⊎◌, ◌∙◌, ap, sym, refl, subst, inl, inr, ℕ, ◌+◌, ◌-◌, ◌<◌, ◌≤◌, min, nat_lt, zero-add, Bool, true}
+use Rattle.std.proofs.Common.{false, List, [], ◌∷◌, ◌++◌, length, take, drop, arith, add-zero, append-nil, append_assoc, length-append}
+use Rattle.std.proofs.Common.{length-take-le, Ok, Err}
 use Rattle.std.proofs.lemmas.List.{length-drop, take-append-le}
 use Rattle.std.proofs.Math.Seq.{take-add, take-length, take-append-add}
 use Rattle.std.specs.List.{AllByRecursion}
@@ -21,7 +23,8 @@ use Rattle.crs_top.specs.Session.{Represents, IsUncounted, IsUnfocused}
 use Rattle.crs_top.specs.Tallies.{AllLive, AreCounts, IsSummary, IsTallyFrom, capped, last_of, started, together}
 use Rattle.crs_top.specs.Taking.{after_all, Takes, IsGivenText, IsGivenTally}
 use Rattle.crs_top.specs.Texts.{Frame, setting_of, IsWholeText, IsLogText, some_refused}
-use Rattle.crs_top.specs.Logs.{tail_of, summary_of, IsTailOf, has_refused, IsEndedText, Appends, IsPrompt, IsPromptAt, IsCutShort, LogOutcome, HasReadLog, TakesPiece, TakesEnd, ended_as, Finishes}
+use Rattle.crs_top.specs.Logs.{tail_of, summary_of, IsTailOf, has_refused, IsEndedText, Appends, IsPrompt, IsPromptAt, IsCutShort}
+use Rattle.crs_top.specs.Logs.{LogOutcome, HasReadLog, TakesPiece, TakesEnd, ended_as, Finishes}
 use Rattle.crs_top.proofs.Counting.{positive, some_counted}
 use Rattle.crs_top.proofs.Living.{held_by, held_live}
 use Rattle.crs_top.proofs.Taken.{takes_none, takes_append, given_text, given_tally, given_state}
@@ -64,7 +67,8 @@ pub record Reading (f : Frame) (old : Told) (i limit t : ℕ) (x : Session) (lin
   pub takes : Takes f start x (at_start f.texts) told [] text
   pub written : now.written ≡ old.written ++ text
 
-whole_of : (f : Frame) (start : Counts) (t : ℕ) (bytes : List ℕ) (x : Session) (lines : Reader) (told : List Given) (text : List ℕ) → IsAt t bytes lines told → Takes f start x (at_start f.texts) told [] text → IsWholeText f bytes text
+whole_of : (f : Frame) (start : Counts) (t : ℕ) (bytes : List ℕ) (x : Session) (lines : Reader) (told : List Given) (text : List ℕ)
+    → IsAt t bytes lines told → Takes f start x (at_start f.texts) told [] text → IsWholeText f bytes text
 whole_of f start t bytes x lines told text a k =
     let is : told ≡ given_lines 4096 0 (whole_lines bytes) = told_whole 4096 bytes told lines a.given a.none.1 in
     given_text f 0 (at_start f.texts) (whole_lines bytes) text (subst (λ (z : List ℕ). IsGivenText f (at_start f.texts) (given_lines 4096 0 (whole_lines bytes)) z) (sym k.written)
@@ -72,9 +76,11 @@ whole_of f start t bytes x lines told text a k =
 
 -- what is written so far is the text of the whole lines
 appends : (f : Frame) (old : Told) (i limit t : ℕ) (x : Session) (lines : Reader) (now : Told) → Reading f old i limit t x lines now → Appends (IsWholeText f (take t (stream_at old.left i).rest)) old.written now.written
-appends f old i limit t x lines now h = (h.text, whole_of f h.start t (take t (stream_at old.left i).rest) x lines h.told h.text h.at h.takes, h.written)
+appends f old i limit t x lines now h =
+    (h.text, whole_of f h.start t (take t (stream_at old.left i).rest) x lines h.told h.text h.at h.takes, h.written)
 
-pub reading_none : (f : Frame) (t : Told) (i limit : ℕ) (x : Session) (lines : Reader) → Represents f x (at_start f.texts) → IsUncounted x → lines ≡ record { limit = 4096; number = 0; rest = []; finished = false; fed = 0 } → Reading f t i limit 0 x lines t
+pub reading_none : (f : Frame) (t : Told) (i limit : ℕ) (x : Session) (lines : Reader) → Represents f x (at_start f.texts) → IsUncounted x
+    → lines ≡ record { limit = 4096; number = 0; rest = []; finished = false; fed = 0 } → Reading f t i limit 0 x lines t
 reading_none f t i limit x lines r u new = record {
   more = [];
   base = record { files = refl; opened = refl; left = (took_none t i).left; within = omega arith; turns = sym (append-nil t.turns); prompt = tt };
@@ -186,15 +192,20 @@ module _ (summary : Bool) (f : Frame) (old : Told) (i : ℕ) (lt : i < length ol
         text = h.text ++ text;
         start = h.start;
         begun = h.begun;
-        takes = takes_append f h.start x y (at_start f.texts) h.told p.told h.text text h.takes (p.takes f (after_all (setting_of f) (at_start f.texts) h.told) h.takes.state);
+        takes = takes_append f h.start x y (at_start f.texts) h.told p.told h.text text h.takes
+            (p.takes f (after_all (setting_of f) (at_start f.texts) h.told) h.takes.state);
         written = w.written ∙ rw (r.written, h.written, append_assoc) (ap (λ (y : List ℕ). old.written ++ (h.text ++ y)) (take-length text));
       }
 
   -- the stops
-  reads_log : (new : Told) (limit t : ℕ) (more : List Turn) (e : Status) → Base f old i t more new → Rises i 0 (t + 1) more → AllByRecursion (HasRoom limit) more → t ≤ limit → LogOutcome (tail_of summary) f log limit t old.written e new.written → HasReadLog (tail_of summary) f old i limit e new
+  reads_log : (new : Told) (limit t : ℕ) (more : List Turn) (e : Status) → Base f old i t more new → Rises i 0 (t + 1) more
+      → AllByRecursion (HasRoom limit) more → t ≤ limit → LogOutcome (tail_of summary) f log limit t old.written e new.written
+      → HasReadLog (tail_of summary) f old i limit e new
   reads_log new limit t more e b r rooms most end = (t, more, record { files = b.files; opened = b.opened; left = b.left; within = b.within; turns = b.turns; rises = r; rooms = rooms; most = most; prompt = b.prompt; outcome = end })
 
-  pub stop_failed : (mid new : Told) (limit t : ℕ) (x : Session) (lines : Reader) (buf : List ℕ) → Reading f old i limit t x lines mid → Reads mid i (Err errors.Failed) buf new → length buf ≡ min 4096 (limit - t) → t < limit → HasReadLog (tail_of summary) f old i limit stops.ReadFault new
+  pub stop_failed : (mid new : Told) (limit t : ℕ) (x : Session) (lines : Reader) (buf : List ℕ) → Reading f old i limit t x lines mid
+      → Reads mid i (Err errors.Failed) buf new → length buf ≡ min 4096 (limit - t) → t < limit
+      → HasReadLog (tail_of summary) f old i limit stops.ReadFault new
   stop_failed mid new limit t x lines buf h r room below =
       let a = appends f old i limit t x lines mid h in
       reads_log new limit t (h.more ++ turn_of mid i (length buf) ∷ []) stops.ReadFault
@@ -211,7 +222,8 @@ module _ (summary : Bool) (f : Frame) (old : Told) (i : ℕ) (lt : i < length ol
       h.most
       (below, (a.0, a.1, r.written ∙ a.2))
 
-  pub stop_refused : (mid new : Told) (limit t : ℕ) (x : Session) (lines : Reader) (buf : List ℕ) → Reading f old i limit t x lines mid → Reads mid i (Err errors.Memory) buf new → HasReadLog (tail_of summary) f old i limit stops.Memory new
+  pub stop_refused : (mid new : Told) (limit t : ℕ) (x : Session) (lines : Reader) (buf : List ℕ) → Reading f old i limit t x lines mid
+      → Reads mid i (Err errors.Memory) buf new → HasReadLog (tail_of summary) f old i limit stops.Memory new
   stop_refused mid new limit t x lines buf h r =
       let a = appends f old i limit t x lines mid h in
       reads_log new limit t h.more stops.Memory
@@ -228,13 +240,16 @@ module _ (summary : Bool) (f : Frame) (old : Told) (i : ℕ) (lt : i < length ol
       h.most
       (inl (t, omega arith, (a.0, length a.0, a.1, r.written ∙ a.2 ∙ rw take-length refl)))
 
-  pub stop_long : (now : Told) (limit t : ℕ) (x : Session) (lines : Reader) → Reading f old i limit t x lines now → t ≡ limit → HasReadLog (tail_of summary) f old i limit stops.TooLong now
+  pub stop_long : (now : Told) (limit t : ℕ) (x : Session) (lines : Reader) → Reading f old i limit t x lines now → t ≡ limit
+      → HasReadLog (tail_of summary) f old i limit stops.TooLong now
   stop_long now limit t x lines h e =
       reads_log now limit t h.more stops.TooLong h.base (rises_weaker _ _ _ _ _ h.rises (omega arith)) h.rooms h.most (e, appends f old i limit t x lines now h)
 
   -- the write or the memory failed, with k bytes of the piece's text written
   cut_short : (mid new last : Told) (limit t n : ℕ) (x y : Session) (lines : Reader) (buf text : List ℕ) (stop : Status) → (stop ≡ stops.WriteFault) ⊎ (stop ≡ stops.Memory)
-      → (h : Reading f old i limit t x lines mid) → Reads mid i (Ok n) buf new → length buf ≡ min 4096 (limit - t) → n ≤ length buf → 0 < n → (k : ℕ) → Wrote new text k last → IsCutShort (tail_of summary) f log (t + n) old.written last.written → HasReadLog (tail_of summary) f old i limit stop last
+      → (h : Reading f old i limit t x lines mid) → Reads mid i (Ok n) buf new → length buf ≡ min 4096 (limit - t) → n ≤ length buf
+      → 0 < n → (k : ℕ) → Wrote new text k last → IsCutShort (tail_of summary) f log (t + n) old.written last.written
+      → HasReadLog (tail_of summary) f old i limit stop last
   cut_short mid new last limit t n x y lines buf text stop either h r room few pos k w cut =
       let b = base_write new last (t + n) k (h.more ++ turn_of mid i (length buf) ∷ []) text (base_read mid new limit t n x lines buf h r) w in
       let up : Rises i 0 (t + n + 1) (h.more ++ turn_of mid i (length buf) ∷ []) = rises_weaker _ _ _ _ _ (rises_turn mid limit t (length buf) x lines h) (omega arith) in
@@ -246,12 +261,15 @@ module _ (summary : Bool) (f : Frame) (old : Told) (i : ℕ) (lt : i < length ol
       ]
 
   pub stop_write : (mid new last : Told) (limit t n : ℕ) (x y : Session) (lines now : Reader) (buf text : List ℕ) (stop : Status) → (stop ≡ stops.WriteFault) ⊎ (stop ≡ stops.Memory)
-      → (h : Reading f old i limit t x lines mid) → Reads mid i (Ok n) buf new → length buf ≡ min 4096 (limit - t) → n ≤ length buf → 0 < n → (p : TakesPiece lines now x y (take n buf) text) → (k : ℕ) → Wrote new text k last → HasReadLog (tail_of summary) f old i limit stop last
+      → (h : Reading f old i limit t x lines mid) → Reads mid i (Ok n) buf new → length buf ≡ min 4096 (limit - t) → n ≤ length buf
+      → 0 < n → (p : TakesPiece lines now x y (take n buf) text) → (k : ℕ) → Wrote new text k last
+      → HasReadLog (tail_of summary) f old i limit stop last
   stop_write mid new last limit t n x y lines now buf text stop either h r room few pos p k w =
       let piece = piece_is mid new limit t n x lines buf h r in
       let at : IsAt (t + n) (take (t + n) log) now (h.told ++ p.told) =
       subst (λ (bs : List ℕ). IsAt (t + n) bs now (h.told ++ p.told)) (sym piece) (at_more t n lines now h.told (take t log) (take n buf) x y text (length-take-le n buf few) h.at p) in
-      let takes = takes_append f h.start x y (at_start f.texts) h.told p.told h.text text h.takes (p.takes f (after_all (setting_of f) (at_start f.texts) h.told) h.takes.state) in
+      let takes = takes_append f h.start x y (at_start f.texts) h.told p.told h.text text h.takes
+      (p.takes f (after_all (setting_of f) (at_start f.texts) h.told) h.takes.state) in
       cut_short mid new last limit t n x y lines buf text stop either h r room few pos k w
       (inl (
         t + n,
@@ -265,7 +283,9 @@ module _ (summary : Bool) (f : Frame) (old : Told) (i : ℕ) (lt : i < length ol
       ))
 
   -- memory was wanting before the piece's text was made
-  pub stop_piece : (mid new : Told) (limit t n : ℕ) (x : Session) (lines : Reader) (buf : List ℕ) → (h : Reading f old i limit t x lines mid) → Reads mid i (Ok n) buf new → length buf ≡ min 4096 (limit - t) → n ≤ length buf → 0 < n → HasReadLog (tail_of summary) f old i limit stops.Memory new
+  pub stop_piece : (mid new : Told) (limit t n : ℕ) (x : Session) (lines : Reader) (buf : List ℕ)
+      → (h : Reading f old i limit t x lines mid) → Reads mid i (Ok n) buf new → length buf ≡ min 4096 (limit - t) → n ≤ length buf
+      → 0 < n → HasReadLog (tail_of summary) f old i limit stops.Memory new
   stop_piece mid new limit t n x lines buf h r room few pos =
       let a = appends f old i limit t x lines mid h in
       cut_short mid new new limit t n x x lines buf [] stops.Memory (inr refl) h r room few pos 0
@@ -283,7 +303,9 @@ module _ (summary : Bool) (f : Frame) (old : Told) (i : ℕ) (lt : i < length ol
     all_is : take t log ≡ log
     all_is = rw all_read (take-length log)
 
-    at_end : (last : Told) (k : ℕ) (text : List ℕ) (status : Status) → Wrote new text k last → LogOutcome (tail_of summary) f log limit t old.written status last.written → HasReadLog (tail_of summary) f old i limit status last
+    at_end : (last : Told) (k : ℕ) (text : List ℕ) (status : Status) → Wrote new text k last
+        → LogOutcome (tail_of summary) f log limit t old.written status last.written
+        → HasReadLog (tail_of summary) f old i limit status last
     at_end last k text status w outcome =
         let b : Base f old i t (h.more ++ turn_of mid i (length buf) ∷ []) new = rw add-zero at (base_read mid new limit t 0 x lines buf h r) in
         let c = base_write new last t k (h.more ++ turn_of mid i (length buf) ∷ []) text b w in (
@@ -307,7 +329,8 @@ module _ (summary : Bool) (f : Frame) (old : Told) (i : ℕ) (lt : i < length ol
     module _ (y : Session) (text : List ℕ) (p : TakesEnd summary lines x y text) where
       all_told : given_lines 4096 0 (lines_of log) ≡ h.told ++ p.2.told
       all_told =
-          ap (λ (bs : List ℕ). given 4096 0 bs) (sym (append-nil (take t log) ∙ all_is)) ∙ h.at.given [] ∙ ap (λ (gs : List Given). h.told ++ gs) p.2.ahead_is
+          ap (λ (bs : List ℕ). given 4096 0 bs) (sym (append-nil (take t log) ∙ all_is)) ∙ h.at.given []
+          ∙ ap (λ (gs : List Given). h.told ++ gs) p.2.ahead_is
 
       all_takes : Takes f h.start y (at_start f.texts) (h.told ++ p.2.told) [] (h.text ++ p.0)
       all_takes = takes_append f h.start x y (at_start f.texts) h.told p.2.told h.text p.0 h.takes
@@ -324,7 +347,8 @@ module _ (summary : Bool) (f : Frame) (old : Told) (i : ℕ) (lt : i < length ol
 
       log_state : Represents f y (last_of f log)
       log_state = subst (Represents f y)
-          (ap (after_all (setting_of f) (at_start f.texts)) (sym all_told) ∙ given_state (setting_of f) 0 (at_start f.texts) (lines_of log)) all_takes.state
+          (ap (after_all (setting_of f) (at_start f.texts)) (sym all_told)
+          ∙ given_state (setting_of f) 0 (at_start f.texts) (lines_of log)) all_takes.state
 
       all_counts : AreCounts y.counts (together (started h.begun.first) all_takes.tally)
       all_counts = all_takes.counted (started h.begun.first) h.begun.counts
@@ -360,18 +384,23 @@ module _ (summary : Bool) (f : Frame) (old : Told) (i : ℕ) (lt : i < length ol
       written_front : (last : Told) (k : ℕ) → Wrote new text k last → last.written ≡ old.written ++ take (length h.text + k) (h.text ++ text)
       written_front last k w = w.written ∙ rw (r.written, h.written, append_assoc) (ap (λ (y : List ℕ). old.written ++ y) (sym (take-append-add h.text text k)))
 
-      done_outcome : (refused : Bool) → refused ≡ some_refused f log → (last : List ℕ) → t < limit → Appends (IsEndedText (tail_of summary) f log) old.written last → LogOutcome (tail_of summary) f log limit t old.written (ended_as refused) last
+      done_outcome : (refused : Bool) → refused ≡ some_refused f log → (last : List ℕ) → t < limit
+          → Appends (IsEndedText (tail_of summary) f log) old.written last
+          → LogOutcome (tail_of summary) f log limit t old.written (ended_as refused) last
       done_outcome true e last below a = (all_read, below, a, sym e)
       done_outcome false e last below a = (all_read, below, a, sym e)
 
-      pub end_done : (last : Told) → t < limit → Wrote new text (length text) last → HasReadLog (tail_of summary) f old i limit (ended_as (has_refused y)) last
+      pub end_done : (last : Told) → t < limit → Wrote new text (length text) last
+          → HasReadLog (tail_of summary) f old i limit (ended_as (has_refused y)) last
       end_done last below w = at_end last (length text) text (ended_as (has_refused y)) w
           (done_outcome (has_refused y) log_refused last.written below
           (h.text ++ text, ended_text, w.written ∙ rw (r.written, h.written, append_assoc) (ap (λ (y : List ℕ). old.written ++ (h.text ++ y)) (take-length text))))
 
-      pub end_stopped : (last : Told) (k : ℕ) (stop : Status) → (stop ≡ stops.WriteFault) ⊎ (stop ≡ stops.Memory) → Wrote new text k last → HasReadLog (tail_of summary) f old i limit stop last
+      pub end_stopped : (last : Told) (k : ℕ) (stop : Status) → (stop ≡ stops.WriteFault) ⊎ (stop ≡ stops.Memory) → Wrote new text k last
+          → HasReadLog (tail_of summary) f old i limit stop last
       end_stopped last k stop either w =
-          let cut : IsCutShort (tail_of summary) f log t old.written last.written = inr (all_read, (h.text ++ text, length h.text + k, ended_text, written_front last k w)) in
+          let cut : IsCutShort (tail_of summary) f log t old.written last.written = inr
+          (all_read, (h.text ++ text, length h.text + k, ended_text, written_front last k w)) in
           elim either [
             | inl e ↦ rw e (at_end last k text stops.WriteFault w cut)
             | inr e ↦ rw e (at_end last k text stops.Memory w cut)
@@ -404,8 +433,10 @@ stop_before summary f t i limit = (
 )
 
 -- where the rest was taken and written, or the write or the memory failed
-pub end_by : (summary : Bool) (f : Frame) (old mid new last : Told) (i limit t n : ℕ) (x : Session) (lines : Reader) (buf : List ℕ) (status : Status) → i < length old.left → (stream_at old.left i).taken ≡ 0 → Reading f old i limit t x lines mid
-    → Reads mid i (Ok n) buf new → length buf ≡ min 4096 (limit - t) → n ≡ 0 → t < limit → Finishes summary new x lines status last → HasReadLog (tail_of summary) f old i limit status last
+pub end_by : (summary : Bool) (f : Frame) (old mid new last : Told) (i limit t n : ℕ) (x : Session) (lines : Reader) (buf : List ℕ)
+    (status : Status) → i < length old.left → (stream_at old.left i).taken ≡ 0 → Reading f old i limit t x lines mid
+    → Reads mid i (Ok n) buf new → length buf ≡ min 4096 (limit - t) → n ≡ 0 → t < limit → Finishes summary new x lines status last
+    → HasReadLog (tail_of summary) f old i limit status last
 end_by summary f old mid new last i limit t n x lines buf status lt z h r room zero below (inl e) =
     let r0 : Reads mid i (Ok 0) buf new = subst (λ (k : ℕ). Reads mid i (Ok k) buf new) zero r in
     rw (e.0, e.1) (end_refused summary f old i lt z mid new limit t x lines buf h r0 room)

@@ -1,5 +1,6 @@
 -- What an accepted `clock` and an accepted `end` bring.
-use Rattle.std.proofs.Common.{◌≡◌, ◌<◌, ◌≤◌, ◌^◌, ◌-◌, ℕ, Bool, true, false, cond, List, ◌++◌, length, nat_lt, refl, sym, ap, subst, ◌∙◌, arith, Ok, Err, true≢false}
+use Rattle.std.proofs.Common.{◌≡◌, ◌<◌, ◌≤◌, ◌^◌, ◌-◌, ℕ, Bool, true, false, cond, List, ◌++◌, length, nat_lt, refl, sym, ap, subst, ◌∙◌}
+use Rattle.std.proofs.Common.{arith, Ok, Err, true≢false}
 use Rattle.std.specs.Prelude.{Some, None, IsSome, OnOk, Result, flat_map, IsTrue, ◌↔◌, ◌⊎◌}
 use Rattle.std.proofs.Common.{inl, inr}
 use Rattle.crs_model.specs.declared.recognition.Recognition.{Recognition}
@@ -71,22 +72,26 @@ module _ (f : Frame) (x : Session) (s : State) (r : Represents f x s) (new : Eng
   pub end_rises : x.ended ≡ false → x.engine.horizon ≤ 2 ^ 42
   end_rises open_ = let h = r.reached.open_horizon (r.ended ∙ open_) in let l = r.reached.open_last (r.ended ∙ open_) in omega (arith, r.horizon)
 
-module _ (f : Frame) (x : Session) (s : State) (r : Represents f x s) (new : EngineState) (answer : List Recognition) (met : x.met ≡ true) (going : new.stopped ≡ false) (unfocused : IsUnfocused new) where
+module _ (f : Frame) (x : Session) (s : State) (r : Represents f x s) (new : EngineState) (answer : List Recognition) (met : x.met ≡ true)
+    (going : new.stopped ≡ false) (unfocused : IsUnfocused new) where
   -- what is held after the mark lives then
   mark_live : (mark : Mark) (t h : ℕ) (ended : Bool) → HasMoved x.engine new t h → x.engine.horizon ≤ h
       → AfterMark x.engine new mark r.entries.settled r.entries.waiting answer
       → AllLive f.models.chronicles (view_of (record s { last = t; horizon = h; ended = ended })) (held_by new)
   mark_live mark t h ended m rises after =
       let moved = moved_forward x.engine new t h m rises in
-      held_live f new x.symbols (record s { last = t; horizon = h; ended = ended }) (models_then f x s r new mark answer h m.same_plans moved rises after)
+      held_live f new x.symbols (record s { last = t; horizon = h; ended = ended })
+      (models_then f x s r new mark answer h m.same_plans moved rises after)
       (entries_then f x s r new mark answer h m.same_plans moved rises after) (sym moved) unfocused
 
   abbrev counts_then : Counts
   counts_then = with_mark x.counts (length answer) (kept_of new)
 
   -- a mark brings its recognitions, and what is held is counted
-  mark_brings : (mark : Mark) (t h : ℕ) (here there : Bool) (n : ℕ) (out more : List ℕ) → there ≡ here → HasMoved x.engine new t h → x.engine.horizon ≤ h
-      → AfterMark x.engine new mark r.entries.settled r.entries.waiting answer → IsReached (record s { last = t; horizon = h; ended = there })
+  mark_brings : (mark : Mark) (t h : ℕ) (here there : Bool) (n : ℕ) (out more : List ℕ) → there ≡ here → HasMoved x.engine new t h
+      → x.engine.horizon ≤ h
+      → AfterMark x.engine new mark r.entries.settled r.entries.waiting answer
+      → IsReached (record s { last = t; horizon = h; ended = there })
       → more ≡ out ++ flat_map (line_in new.plans x.symbols.texts) answer
       → Brings f x.counts (record x { engine = new; ended = here; counts = counts_then }) n (view_of s)
       (record s { last = t; horizon = h; ended = there }, Marked mark) out more
@@ -107,20 +112,23 @@ module _ (f : Frame) (x : Session) (s : State) (r : Represents f x s) (new : Eng
   -- a clock brings its mark
   pub clock_brings : (t n : ℕ) (out more : List ℕ) → x.ended ≡ false → t < 2 ^ 40 → nat_lt t x.engine.last ≡ false → HasMoved x.engine new t (t - x.engine.delay)
       → AfterMark x.engine new (Clock t) r.entries.settled r.entries.waiting answer → more ≡ out ++ flat_map (line_in new.plans x.symbols.texts) answer
-      → Brings f x.counts (record x { engine = new; counts = counts_then }) n (view_of s) (after_ordered (setting_of f) s (items.Clock t)) out more
+      → Brings f x.counts (record x { engine = new; counts = counts_then }) n (view_of s)
+      (after_ordered (setting_of f) s (items.Clock t)) out more
   clock_brings t n out more open_ small fine m after written =
       let m' : HasMoved x.engine new t (t - s.delay) = subst (λ (d : ℕ). HasMoved x.engine new t (t - d)) (sym r.delay) m in
       let now : State = record s { last = t; horizon = t - s.delay } in
       let is : (now, Marked (Clock t)) ≡ after_ordered (setting_of f) s (items.Clock t) =
       (λ i. cond (sym (ap (nat_lt t) r.last ∙ fine) i) (s, run.Refused (run.Back t s.last)) (now, Marked (Clock t))) in
       subst (λ (a : State × Outcome). Brings f x.counts (record x { engine = new; counts = counts_then }) n (view_of s) a out more) is
-      (mark_brings (Clock t) t (t - s.delay) x.ended s.ended n out more r.ended m' (clock_rises f x s r new answer met going t open_ fine) after
+      (mark_brings (Clock t) t (t - s.delay) x.ended s.ended n out more r.ended m'
+      (clock_rises f x s r new answer met going t open_ fine) after
       (reached_met f x s r new answer met going t (t - s.delay) s.ended (λ q. refl) (λ q. small)) written)
 
   -- an end brings its mark
   pub end_brings : (n : ℕ) (out more : List ℕ) → x.ended ≡ false → HasMoved x.engine new (2 ^ 42) (2 ^ 42)
       → AfterMark x.engine new Finish r.entries.settled r.entries.waiting answer → more ≡ out ++ flat_map (line_in new.plans x.symbols.texts) answer
-      → Brings f x.counts (record x { engine = new; ended = true; counts = counts_then }) n (view_of s) (after_ordered (setting_of f) s items.Finish) out more
+      → Brings f x.counts (record x { engine = new; ended = true; counts = counts_then }) n (view_of s)
+      (after_ordered (setting_of f) s items.Finish) out more
   end_brings n out more open_ m after written =
       mark_brings Finish (2 ^ 42) (2 ^ 42) true true n out more refl m (end_rises f x s r new answer met going open_) after
       (reached_met f x s r new answer met going (2 ^ 42) (2 ^ 42) true (λ q. absurd (true≢false q)) (λ q. absurd (true≢false q))) written
@@ -140,4 +148,5 @@ back_brings result x e y t n a b out more running refused same written counted =
     refuse_brings result x y n (run.Back a b) (λ f s. after_ordered (setting_of f) s (items.Clock t)) out more written noted
     (λ f s r.
     let is : nat_lt t s.last ≡ true = ap (nat_lt t) r.last ∙ k.0 in
-    λ i. cond (is i) (s, run.Refused (run.Back (sym k.1 i) ((r.last ∙ sym k.2) i))) (record s { last = t; horizon = horizon_at s t }, Marked (Clock t)))
+    λ i. cond (is i) (s, run.Refused (run.Back (sym k.1 i) ((r.last ∙ sym k.2) i)))
+    (record s { last = t; horizon = horizon_at s t }, Marked (Clock t)))

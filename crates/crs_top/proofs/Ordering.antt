@@ -39,7 +39,8 @@ unused f x s r h =
     record { none = sym r.count ∙ ap length k.0; start = sym r.last ∙ k.1; horizon = sym r.horizon ∙ k.2 }
 
 pub delay_brings : (f : Frame) (x : Session) (s : State) (d n : ℕ) (out : List ℕ) → IsUnused x.engine → Represents f x s
-    → Brings f x.counts (record x { engine = record x.engine { delay = d } }) n (view_of s) (ordered_what (setting_of f) s (Is (Delay d))) out out
+    → Brings f x.counts (record x { engine = record x.engine { delay = d } }) n (view_of s)
+    (ordered_what (setting_of f) s (Is (Delay d))) out out
 delay_brings f x s d n out u r = record {
   state = delayed f x s d u r;
   text = [];

@@ -1,8 +1,8 @@
 -- The parts of a log worked by hand, and two logs that are rearranged.
-use Rattle.std.proofs.Common.{◌≡◌, List, [], ◌∷◌, refl, Some, None, rules}
+use Rattle.std.proofs.Common.{◌≡◌, [], ◌∷◌, refl, Some, None, rules}
 use Rattle.std.specs.Prelude.{codes}
 use Rattle.crs_base.specs.Lines.{lines_of}
-use Rattle.crs_log.specs.Items.{Event, Clock, Finish}
+use Rattle.crs_log.specs.Items.{Event, Clock}
 use Rattle.crs_top.specs.Rearranged.{AreRearranged, parts_of, items_of}
 
 abbrev a_at_1 : Event

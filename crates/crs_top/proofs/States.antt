@@ -1,5 +1,6 @@
 -- What a session stands for after each kind of item.
-use Rattle.std.proofs.Common.{◌≡◌, ◌≤◌, ℕ, ◌+◌, zero, suc, Bool, true, false, List, [], ◌∷◌, ◌++◌, map, length, refl, sym, ap, subst, ◌∙◌, arith, append-nil, true≢false, zero-add, Less}
+use Rattle.std.proofs.Common.{◌≡◌, ◌≤◌, ℕ, ◌+◌, zero, suc, Bool, true, false, List, [], ◌∷◌, ◌++◌, map, length, refl, sym, ap, subst, ◌∙◌}
+use Rattle.std.proofs.Common.{arith, append-nil, true≢false, zero-add, Less}
 use Rattle.std.specs.Prelude.{slice_get, option_map, flat_map}
 use Rattle.std.specs.List.{AllByRecursion}
 use Rattle.std.specs.declared.rc.Rc.{Rc}
@@ -25,7 +26,8 @@ use Rattle.crs_log.specs.Run.{State, is_met}
 use Rattle.crs_log.specs.Recognitions.{View, view_of}
 use Rattle.crs_report.specs.Printed.{chronicle_at}
 use Rattle.crs_top.specs.declared.session.Session.{Session}
-use Rattle.crs_top.specs.Session.{HasText, chronicle_in, entries_in, HasModels, HasEntries, IsReached, IsUnused, Represents, line_in, ArePrintable}
+use Rattle.crs_top.specs.Session.{HasText, chronicle_in, entries_in, HasModels, HasEntries, IsReached, IsUnused, Represents, line_in}
+use Rattle.crs_top.specs.Session.{ArePrintable}
 use Rattle.crs_top.specs.declared.session.Counts.{Counts}
 use Rattle.crs_top.specs.Tallies.{AllNew, IsPeaked, with_refused}
 use Rattle.crs_top.specs.Texts.{Frame, LogEntry, IsMarkText}
@@ -177,16 +179,20 @@ module _ (f : Frame) (x : Session) (s : State) (r : Represents f x s) (new : Eng
 
   -- what holds with the symbols' texts holds of the frame's chronicles, and of the states' views
   with_views : (P : List (Chronicle (List ℕ)) → View → View → Type 0)
-      → P (map (chronicle_in x.symbols.texts) (plans_of x.engine.plans)) (view (entries_in x.symbols.texts r.entries.settled) x.engine.horizon)
+      → P (map (chronicle_in x.symbols.texts) (plans_of x.engine.plans))
+      (view (entries_in x.symbols.texts r.entries.settled) x.engine.horizon)
       (view (entries_in x.symbols.texts now) new.horizon)
       → P f.models.chronicles (view_of s) (view (dated_before h s.accepted) h)
   with_views P raw =
       let was : view (entries_in x.symbols.texts r.entries.settled) x.engine.horizon ≡ view_of s =
       (λ i. view (settled_now x.engine x.symbols.texts s.accepted r.entries s.horizon r.horizon i) (sym r.horizon i)) in
       let entries : entries_in x.symbols.texts now ≡ dated_before h s.accepted =
-      ap (λ (k : ℕ). entries_in x.symbols.texts (r.entries.settled ++ before k r.entries.waiting)) horizon ∙ settled_then x.engine x.symbols.texts s.accepted r.entries h rises in
-      let then : view (entries_in x.symbols.texts now) new.horizon ≡ view (dated_before h s.accepted) h = (λ i. view (entries i) (horizon i)) in
-      let a = subst (λ (cs : List (Chronicle (List ℕ))). P cs (view (entries_in x.symbols.texts r.entries.settled) x.engine.horizon) (view (entries_in x.symbols.texts now) new.horizon)) (sym r.models.chronicles) raw in
+      ap (λ (k : ℕ). entries_in x.symbols.texts (r.entries.settled ++ before k r.entries.waiting)) horizon
+      ∙ settled_then x.engine x.symbols.texts s.accepted r.entries h rises in
+      let then : view (entries_in x.symbols.texts now) new.horizon ≡ view (dated_before h s.accepted) h =
+      (λ i. view (entries i) (horizon i)) in
+      let a = subst (λ (cs : List (Chronicle (List ℕ))). P cs (view (entries_in x.symbols.texts r.entries.settled) x.engine.horizon)
+      (view (entries_in x.symbols.texts now) new.horizon)) (sym r.models.chronicles) raw in
       let b = subst (λ (v : View). P f.models.chronicles v (view (entries_in x.symbols.texts now) new.horizon)) was a in
       subst (λ (v : View). P f.models.chronicles (view_of s) v) then b
 
@@ -216,7 +222,8 @@ module _ (f : Frame) (x : Session) (s : State) (r : Represents f x s) (new : Eng
 
   -- the session stands for the state after the mark
   pub marked : (t : ℕ) (here there : Bool) (counts : Counts) → there ≡ here → HasMoved x.engine new t h → new.stopped ≡ false
-      → IsReached (record s { last = t; horizon = h; ended = there }) → IsPeaked f.models.chronicles (view (dated_before h s.accepted) h) counts.peak
+      → IsReached (record s { last = t; horizon = h; ended = there })
+      → IsPeaked f.models.chronicles (view (dated_before h s.accepted) h) counts.peak
       → Represents f (record x { engine = new; ended = here; counts = counts }) (record s { last = t; horizon = h; ended = there })
   marked t here there counts same m running reached peaked = record {
     models = models_then;

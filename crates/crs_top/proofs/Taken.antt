@@ -79,7 +79,8 @@ takes_none f x s out r = record {
   counted = counted_none x.counts;
 }
 
-pub takes_more : (f : Frame) (start : Counts) (x new : Session) (s : State) (gs : List Given) (g : Given) (out mid more : List ℕ) → Takes f start x s gs out mid
+pub takes_more : (f : Frame) (start : Counts) (x new : Session) (s : State) (gs : List Given) (g : Given) (out mid more : List ℕ)
+    → Takes f start x s gs out mid
     → BringsAll x new (number_of g) (λ f s. after_given (setting_of f) s g) mid more → Takes f start new s (gs ++ g ∷ []) out more
 takes_more f start x new s gs g out mid more t brings =
     let b = brings f (after_all (setting_of f) s gs) t.state in
@@ -140,14 +141,16 @@ given_tally f n s (l ∷ ls) t h =
     let g = given_line line_limit (n + 1) l in
     let same : after_given c s g ≡ run.after_line c s l = line_is c s (n + 1) l in
     let rest : IsTallyFrom c f.models.chronicles (run.after_line c s l).0 ls h.1 =
-    subst (λ (z : State). IsTallyFrom c f.models.chronicles z ls h.1) (ap (λ a. a.0) same) (given_tally f (n + 1) (after_given c s g).0 ls h.1 h.3) in
+    subst (λ (z : State). IsTallyFrom c f.models.chronicles z ls h.1) (ap (λ a. a.0) same)
+    (given_tally f (n + 1) (after_given c s g).0 ls h.1 h.3) in
     let first = subst (λ (a : State × Outcome). IsLineTally f.models.chronicles (view_of s) (view_of a.0) a.1 h.0) same h.2 in
     (h.0, h.1, first, rest, h.4)
 
 pub given_state : (c : Setting) (n : ℕ) (s : State) (ls : List Line) → after_all c s (given_lines line_limit n ls) ≡ run.after_lines c s ls
 given_state c n s [] = refl
 given_state c n s (l ∷ ls) =
-    given_state c (n + 1) (after_given c s (given_line line_limit (n + 1) l)).0 ls ∙ ap (λ (a : State × Outcome). run.after_lines c a.0 ls) (line_is c s (n + 1) l)
+    given_state c (n + 1) (after_given c s (given_line line_limit (n + 1) l)).0 ls
+    ∙ ap (λ (a : State × Outcome). run.after_lines c a.0 ls) (line_is c s (n + 1) l)
 
 -- lines behind others
 after_append : (c : Setting) (s : State) (xs ys : List Given) → after_all c s (xs ++ ys) ≡ after_all c (after_all c s xs) ys
@@ -159,7 +162,8 @@ text_append f s [] ys a b h k = subst (λ (z : List ℕ). IsGivenText f s ys (z 
 text_append f s (x ∷ xs) ys a b h k = (h.0, h.1 ++ b, h.2, text_append f (after_given (setting_of f) s x).0 xs ys h.1 b h.3 k, ap (λ (z : List ℕ). z ++ b) h.4 ∙ append_assoc h.0 h.1 b)
 
 -- what was taken from the start, and then more
-pub takes_append : (f : Frame) (start : Counts) (x new : Session) (s : State) (xs ys : List Given) (a text : List ℕ) → Takes f start x s xs [] a
+pub takes_append : (f : Frame) (start : Counts) (x new : Session) (s : State) (xs ys : List Given) (a text : List ℕ)
+    → Takes f start x s xs [] a
     → Takes f x.counts new (after_all (setting_of f) s xs) ys [] text → Takes f start new s (xs ++ ys) [] (a ++ text)
 takes_append f start x new s xs ys a text t u = record {
   state = subst (λ (z : State). Represents f new z) (sym (after_append (setting_of f) s xs ys)) u.state;

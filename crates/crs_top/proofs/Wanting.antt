@@ -4,7 +4,7 @@ use Rattle.std.specs.Prelude.{Option, Some, None}
 use Rattle.crs_desk.specs.Desk.{Told}
 use Rattle.crs_words.specs.Commands.{Command, Run, Print, Import}
 use Rattle.crs_top.specs.declared.status.Status.TheVariants.{Memory}
-use Rattle.crs_top.specs.Commands.{Does, CompletesCommand}
+use Rattle.crs_top.specs.Commands.{Does}
 use Rattle.crs_top.specs.Imports.{IsTableLog, IsTableLine}
 use Rattle.crs_top.specs.Inputs.{bytes_of}
 use Rattle.crs_top.specs.Listings.{IsListed}

@@ -100,7 +100,8 @@ pub record IsUncounted (x : Session) : Type 0 where
 
 -- What one line brings, where recognition read `was` before it: the session stands for the state after it, its text is added, and it is
 -- counted.
-pub record Brings (f : Frame) (old : Counts) (new : Session) (n : ℕ) (was : View) (after : State × Outcome) (out more : List ℕ) : Type 0 where
+pub record Brings (f : Frame) (old : Counts) (new : Session) (n : ℕ) (was : View) (after : State × Outcome)
+    (out more : List ℕ) : Type 0 where
   pub state : Represents f new after.0
   pub text : List ℕ
   pub says : IsOutcomeText f.models.chronicles n was (view_of after.0) after.1 text
@@ -111,7 +112,8 @@ pub record Brings (f : Frame) (old : Counts) (new : Session) (n : ℕ) (was : Vi
 
 -- whatever state of a run the session stands for
 abbrev pub BringsAll : Session → Session → ℕ → (Frame → State → State × Outcome) → List ℕ → List ℕ → Type 0
-BringsAll old new n after out more = (f : Frame) (s : State) → Represents f old s → Brings f old.counts new n (view_of s) (after f s) out more
+BringsAll old new n after out more = (f : Frame) (s : State) → Represents f old s
+    → Brings f old.counts new n (view_of s) (after f s) out more
 
 abbrev pub number_of : Given → ℕ
 number_of (Long n) = n

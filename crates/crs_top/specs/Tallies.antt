@@ -45,15 +45,15 @@ abbrev pub started : ℕ → Tally
 started n = record nothing { peak = n }
 
 -- a line is refused, or brings recognitions, by what becomes of it
-abbrev pub Happens : List (Chronicle (List ℕ)) → View → View → Outcome → (refused recognitions : ℕ) → Type 0
-Happens cs was now Passed refused recognitions = (refused ≡ 0) × (recognitions ≡ 0)
-Happens cs was now (Refused fault) refused recognitions = (refused ≡ 1) × (recognitions ≡ 0)
-Happens cs was now (Accepted entry) refused recognitions = (refused ≡ 0) × (recognitions ≡ 0)
-Happens cs was now (Marked mark) refused recognitions = (refused ≡ 0) × AllNew cs was now recognitions
+abbrev pub CountsAs : List (Chronicle (List ℕ)) → View → View → Outcome → (refused recognitions : ℕ) → Type 0
+CountsAs cs was now Passed refused recognitions = (refused ≡ 0) × (recognitions ≡ 0)
+CountsAs cs was now (Refused fault) refused recognitions = (refused ≡ 1) × (recognitions ≡ 0)
+CountsAs cs was now (Accepted entry) refused recognitions = (refused ≡ 0) × (recognitions ≡ 0)
+CountsAs cs was now (Marked mark) refused recognitions = (refused ≡ 0) × AllNew cs was now recognitions
 
 -- the tally of one line, after which recognition reads `now`
 abbrev pub IsLineTally : List (Chronicle (List ℕ)) → View → View → Outcome → Tally → Type 0
-IsLineTally cs was now outcome t = Happens cs was now outcome t.refused t.recognitions × AllLive cs now t.peak
+IsLineTally cs was now outcome t = CountsAs cs was now outcome t.refused t.recognitions × AllLive cs now t.peak
 
 -- the tally of lines that are met in the state s: each line is counted, and what lives after it
 abbrev pub IsTallyFrom : Setting → List (Chronicle (List ℕ)) → State → List Line → Tally → Type 0

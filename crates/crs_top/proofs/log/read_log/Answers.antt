@@ -20,31 +20,38 @@ loop-taken-init g c = record {
 
 pub returns-in-Err-Failed-clause-told : goal.returns-in-Err-Failed-clause-told
 returns-in-Err-Failed-clause-told g c = λ t f r.
-    stop_failed c.args.summary f _ c.args.log (omega (arith, g.met.D.Desk.places c.args.desk.now t)) (c.requires.fresh t) (g.D.Desk.told c.loop-taken.desk) _ c.args.limit _ c.loop-taken.session c.loop-taken.lines _
+    stop_failed c.args.summary f _ c.args.log (omega (arith, g.met.D.Desk.places c.args.desk.now t)) (c.requires.fresh t)
+    (g.D.Desk.told c.loop-taken.desk) _ c.args.limit _ c.loop-taken.session c.loop-taken.lines _
     (c.loop-taken.invariant.told t f r) (rw c.in-Err-Failed.field-0-is at (c.in-Err-Failed.ensures.told t)) (grind (arith, common_steps)) c.loop-taken-test.true
 
 pub returns-in-Err-Memory-clause-told : goal.returns-in-Err-Memory-clause-told
 returns-in-Err-Memory-clause-told g c = λ t f r.
-    stop_refused c.args.summary f _ c.args.log (omega (arith, g.met.D.Desk.places c.args.desk.now t)) (c.requires.fresh t) (g.D.Desk.told c.loop-taken.desk) _ c.args.limit _ c.loop-taken.session c.loop-taken.lines _
+    stop_refused c.args.summary f _ c.args.log (omega (arith, g.met.D.Desk.places c.args.desk.now t)) (c.requires.fresh t)
+    (g.D.Desk.told c.loop-taken.desk) _ c.args.limit _ c.loop-taken.session c.loop-taken.lines _
     (c.loop-taken.invariant.told t f r) (rw c.in-Err-Memory.field-0-is at (c.in-Err-Memory.ensures.told t))
 
 pub returns-then-count-eq0-clause-told : goal.returns-then-count-eq0-clause-told
 returns-then-count-eq0-clause-told g c = λ t f r.
-    end_by c.args.summary f _ (g.D.Desk.told c.loop-taken.desk) (g.D.Desk.told c.read.new.self) _ c.args.log c.args.limit _ _ c.loop-taken.session c.loop-taken.lines _ c.finish.result
+    end_by c.args.summary f _ (g.D.Desk.told c.loop-taken.desk)
+    (g.D.Desk.told c.read.new.self) _ c.args.log c.args.limit _ _ c.loop-taken.session c.loop-taken.lines _ c.finish.result
     (omega (arith, g.met.D.Desk.places c.args.desk.now t)) (c.requires.fresh t) (c.loop-taken.invariant.told t f r) (c.in-Ok-read.ensures.told t) (grind (arith, common_steps)) c.if-count-eq0.true c.loop-taken-test.true (c.finish.ensures.told t)
 
 pub returns-in-Err-Failed-write_all-clause-told : goal.returns-in-Err-Failed-write_all-clause-told
 returns-in-Err-Failed-write_all-clause-told g c = λ t f r.
     let few = c.in-Ok-read.ensures.count in
     let w = rw c.as_slice.ensures.value at (c.in-Err-Failed-write_all.ensures.told t) in
-    stop_write c.args.summary f _ c.args.log (omega (arith, g.met.D.Desk.places c.args.desk.now t)) (c.requires.fresh t) (g.D.Desk.told c.loop-taken.desk) (g.D.Desk.told c.read.new.self) _ c.args.limit _ _ c.loop-taken.session c.take_piece.new.session c.loop-taken.lines c.take_piece.new.lines _ _ WriteFault
+    stop_write c.args.summary f _ c.args.log (omega (arith, g.met.D.Desk.places c.args.desk.now t)) (c.requires.fresh t)
+    (g.D.Desk.told c.loop-taken.desk)
+    (g.D.Desk.told c.read.new.self) _ c.args.limit _ _ c.loop-taken.session c.take_piece.new.session c.loop-taken.lines c.take_piece.new.lines _ _ WriteFault
     (inl refl) (c.loop-taken.invariant.told t f r) (c.in-Ok-read.ensures.told t) (grind (arith, common_steps)) few (omega arith) (rw take-append-le at c.in-Ok-take_piece.ensures) w.0 w.1
 
 pub returns-in-Err-Memory-write_all-clause-told : goal.returns-in-Err-Memory-write_all-clause-told
 returns-in-Err-Memory-write_all-clause-told g c = λ t f r.
     let few = c.in-Ok-read.ensures.count in
     let w = rw c.as_slice.ensures.value at (c.in-Err-Memory-write_all.ensures.told t) in
-    stop_write c.args.summary f _ c.args.log (omega (arith, g.met.D.Desk.places c.args.desk.now t)) (c.requires.fresh t) (g.D.Desk.told c.loop-taken.desk) (g.D.Desk.told c.read.new.self) _ c.args.limit _ _ c.loop-taken.session c.take_piece.new.session c.loop-taken.lines c.take_piece.new.lines _ _ Memory
+    stop_write c.args.summary f _ c.args.log (omega (arith, g.met.D.Desk.places c.args.desk.now t)) (c.requires.fresh t)
+    (g.D.Desk.told c.loop-taken.desk)
+    (g.D.Desk.told c.read.new.self) _ c.args.limit _ _ c.loop-taken.session c.take_piece.new.session c.loop-taken.lines c.take_piece.new.lines _ _ Memory
     (inr refl) (c.loop-taken.invariant.told t f r) (c.in-Ok-read.ensures.told t) (grind (arith, common_steps)) few (omega arith) (rw take-append-le at c.in-Ok-take_piece.ensures) w.0 w.1
 
 pub loop-taken-preserved : goal.loop-taken-preserved
@@ -62,17 +69,22 @@ loop-taken-preserved g c =
       short = p.limit ∙ i.short;
       open_still = p.finished ∙ i.open_still;
       fed = p.fed ∙ (λ j. i.fed j + length-take-le c.in-Ok-read.count c.read.new.buf few j);
-      told = λ t f r. reading_more c.args.summary f _ c.args.log (omega (arith, g.met.D.Desk.places c.args.desk.now t)) (c.requires.fresh t) (g.D.Desk.told c.loop-taken.desk) (g.D.Desk.told c.read.new.self) _ c.args.limit _ _ c.loop-taken.session c.take_piece.new.session c.loop-taken.lines c.take_piece.new.lines _ _
-          (i.told t f r) (c.in-Ok-read.ensures.told t) (grind (arith, common_steps)) few some p (rw c.as_slice.ensures.value at (c.in-Ok-write_all.ensures.told t));
+      told = λ t f r. reading_more c.args.summary f _ c.args.log (omega (arith, g.met.D.Desk.places c.args.desk.now t))
+          (c.requires.fresh t) (g.D.Desk.told c.loop-taken.desk)
+          (g.D.Desk.told c.read.new.self) _ c.args.limit _ _ c.loop-taken.session c.take_piece.new.session c.loop-taken.lines c.take_piece.new.lines _ _
+          (i.told t f r) (c.in-Ok-read.ensures.told t) (grind (arith, common_steps)) few some p
+          (rw c.as_slice.ensures.value at (c.in-Ok-write_all.ensures.told t));
     }
 
 pub returns-clause-told : goal.returns-clause-told
-returns-clause-told g c = λ t f r. stop_long c.args.summary f _ c.args.log (omega (arith, g.met.D.Desk.places c.args.desk.now t)) (c.requires.fresh t) _ c.args.limit _ c.loop-taken.session c.loop-taken.lines (c.loop-taken.invariant.told t f r) (omega arith)
+returns-clause-told g c = λ t f r. stop_long c.args.summary f _ c.args.log (omega (arith, g.met.D.Desk.places c.args.desk.now t))
+    (c.requires.fresh t) _ c.args.limit _ c.loop-taken.session c.loop-taken.lines (c.loop-taken.invariant.told t f r) (omega arith)
 
 pub returns-in_default-clause-told : goal.returns-in_default-clause-told
 returns-in_default-clause-told g c = λ t f r. stop_before c.args.summary f _ c.args.log c.args.limit
 
 pub returns-in_default-take_piece-clause-told : goal.returns-in_default-take_piece-clause-told
 returns-in_default-take_piece-clause-told g c = λ t f r.
-    stop_piece c.args.summary f _ c.args.log (omega (arith, g.met.D.Desk.places c.args.desk.now t)) (c.requires.fresh t) (g.D.Desk.told c.loop-taken.desk) (g.D.Desk.told c.read.new.self) c.args.limit _ _ c.loop-taken.session c.loop-taken.lines _
+    stop_piece c.args.summary f _ c.args.log (omega (arith, g.met.D.Desk.places c.args.desk.now t)) (c.requires.fresh t)
+    (g.D.Desk.told c.loop-taken.desk) (g.D.Desk.told c.read.new.self) c.args.limit _ _ c.loop-taken.session c.loop-taken.lines _
     (c.loop-taken.invariant.told t f r) (c.in-Ok-read.ensures.told t) (grind (arith, common_steps)) c.in-Ok-read.ensures.count (omega arith)

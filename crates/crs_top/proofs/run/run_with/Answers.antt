@@ -19,7 +19,8 @@ returns-in-Ok-None-clause-told g c = λ t.
 pub returns-in-Ok-Some-Run-clause-complete : goal.returns-in-Ok-Some-Run-clause-complete
 returns-in-Ok-Some-Run-clause-complete g c = λ t.
     let asked = rw (c.in-Ok-Some-Run.field-0-is, c.in-Ok-Some-Run.field-0-0-is) at c.in-Ok-Some-Run.ensures in
-    rw (sym asked) (completes (g.D.Desk.inputs c.args.desk.now) (g.D.Desk.inputs c.recognise.new.desk) (tail_of c.in-Ok-Some-Run.summary) (most_of c.args.limits)
+    rw (sym asked) (completes (g.D.Desk.inputs c.args.desk.now) (g.D.Desk.inputs c.recognise.new.desk) (tail_of c.in-Ok-Some-Run.summary)
+    (most_of c.args.limits)
     (g.D.Desk.told c.args.desk.now) (g.D.Desk.told c.recognise.new.desk) c.in-Ok-Some-Run.models.now c.in-Ok-Some-Run.log.now
     (Rose (g.D.Desk.in_faults c.args.desk.now) (g.D.Desk.in_faults c.recognise.new.desk)
     ⊎ Rose (g.D.Desk.out_faults c.args.desk.now) (g.D.Desk.out_faults c.recognise.new.desk)) c.recognise.result

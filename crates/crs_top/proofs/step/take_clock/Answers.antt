@@ -42,15 +42,26 @@ returns-in-Ok g c =
     let new = c.clock.new.self in
     let y = c.count_mark.new.self in
     let then : record x { engine = new; counts = with_mark x.counts (length c.in-Ok.answer) (kept_of new) } ≡ y =
-    sym (c.count_mark.ensures.counted ∙ ap (λ (found : List Recognition). record x { engine = new; counts = with_mark x.counts (length found) (kept_of new) }) c.as_slice-found.ensures) in
+    sym (c.count_mark.ensures.counted
+    ∙ ap (λ (found : List Recognition). record x {
+      engine = new;
+      counts = with_mark x.counts (length found)
+          (kept_of new);
+    }) c.as_slice-found.ensures) in
     IfOk-weaker c.push_answer.result
-    (λ _. c.push_answer.new.out.items ≡ c.args.out.now.items ++ flat_map (line_in c.plans.result.now y.symbols.texts) c.as_slice-found.result.now)
-    (λ _. BringsAll x y c.args.number (λ f s. after_ordered (setting_of f) s (Clock c.args.t)) c.args.out.now.items c.push_answer.new.out.items)
+    (λ _. c.push_answer.new.out.items ≡ c.args.out.now.items ++ flat_map
+    (line_in c.plans.result.now y.symbols.texts) c.as_slice-found.result.now)
+    (λ _. BringsAll x y c.args.number
+    (λ f s. after_ordered (setting_of f) s (Clock c.args.t)) c.args.out.now.items c.push_answer.new.out.items)
     (λ _ h f s r.
     let w : c.push_answer.new.out.items ≡ c.args.out.now.items ++ flat_map (line_in new.plans x.symbols.texts) c.in-Ok.answer =
-    h ∙ (λ i. c.args.out.now.items ++ flat_map (line_in ((c.plans.ensures ∙ ap (λ z. z.engine.plans) c.count_mark.ensures.counted) i) (ap (λ z. z.symbols.texts) c.count_mark.ensures.counted i)) (c.as_slice-found.ensures i)) in
-    subst (λ (z : Session). Brings f x.counts z c.args.number (view_of s) (after_ordered (setting_of f) s (Clock c.args.t)) c.args.out.now.items c.push_answer.new.out.items) then
-    (clock_brings f x s r new c.in-Ok.answer c.requires.met (still_running x.engine.stopped new.stopped c.in-Ok.answer r.running c.in-Ok.ensures.raised) c.count_mark.ensures.unfocused
+    h ∙ (λ i. c.args.out.now.items ++ flat_map
+    (line_in ((c.plans.ensures ∙ ap (λ z. z.engine.plans) c.count_mark.ensures.counted) i)
+    (ap (λ z. z.symbols.texts) c.count_mark.ensures.counted i)) (c.as_slice-found.ensures i)) in
+    subst (λ (z : Session). Brings f x.counts z c.args.number (view_of s)
+    (after_ordered (setting_of f) s (Clock c.args.t)) c.args.out.now.items c.push_answer.new.out.items) then
+    (clock_brings f x s r new c.in-Ok.answer c.requires.met
+    (still_running x.engine.stopped new.stopped c.in-Ok.answer r.running c.in-Ok.ensures.raised) c.count_mark.ensures.unfocused
     c.args.t c.args.number c.args.out.now.items c.push_answer.new.out.items c.requires.open c.requires.date
     (clock_fine x.engine c.args.t c.in-Ok.answer r.running c.in-Ok.ensures.refused) c.in-Ok.ensures.moved
     (c.in-Ok.ensures.marked r.entries.settled r.entries.waiting r.entries.stands) w))
@@ -61,7 +72,8 @@ returns-in-Err-Back g c =
     let x = c.args.session.now in
     let t = c.in-Err-Back.t in
     let last = c.in-Err-Back.last in
-    let written : OnOk c.refuse.result (c.refuse.new.out.items ≡ c.args.out.now.items ++ refusal_line c.args.number (fault_of (run.Back t last))) =
+    let written : OnOk c.refuse.result
+    (c.refuse.new.out.items ≡ c.args.out.now.items ++ refusal_line c.args.number (fault_of (run.Back t last))) =
     rw (← c.in-Err-Back.t-is, ← c.in-Err-Back.last-is) c.refuse.ensures.written in
     back_brings c.refuse.result x c.clock.new.self c.refuse.new.session c.args.t c.args.number t last c.args.out.now.items c.refuse.new.out.items
     c.requires.ready.2.running (rw c.in-Err-Back.field-0-is at c.in-Err-Back.ensures.refused) c.in-Err-Back.ensures.unchanged written c.refuse.ensures.noted

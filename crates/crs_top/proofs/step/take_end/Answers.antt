@@ -38,15 +38,26 @@ returns-in-Ok g c =
     let new = c.finish.new.self in
     let y = c.count_mark.new.self in
     let then : record x { engine = new; ended = true; counts = with_mark x.counts (length c.in-Ok.answer) (kept_of new) } ≡ y =
-    sym (c.count_mark.ensures.counted ∙ ap (λ (found : List Recognition). record x { engine = new; ended = true; counts = with_mark x.counts (length found) (kept_of new) }) c.as_slice-found.ensures) in
+    sym (c.count_mark.ensures.counted
+    ∙ ap (λ (found : List Recognition). record x {
+      engine = new;
+      ended = true;
+      counts = with_mark x.counts (length found)
+          (kept_of new);
+    }) c.as_slice-found.ensures) in
     IfOk-weaker c.push_answer.result
-    (λ _. c.push_answer.new.out.items ≡ c.args.out.now.items ++ flat_map (line_in c.plans.result.now y.symbols.texts) c.as_slice-found.result.now)
+    (λ _. c.push_answer.new.out.items ≡ c.args.out.now.items ++ flat_map
+    (line_in c.plans.result.now y.symbols.texts) c.as_slice-found.result.now)
     (λ _. BringsAll x y c.args.number (λ f s. after_ordered (setting_of f) s Finish) c.args.out.now.items c.push_answer.new.out.items)
     (λ _ h f s r.
     let w : c.push_answer.new.out.items ≡ c.args.out.now.items ++ flat_map (line_in new.plans x.symbols.texts) c.in-Ok.answer =
-    h ∙ (λ i. c.args.out.now.items ++ flat_map (line_in ((c.plans.ensures ∙ ap (λ z. z.engine.plans) c.count_mark.ensures.counted) i) (ap (λ z. z.symbols.texts) c.count_mark.ensures.counted i)) (c.as_slice-found.ensures i)) in
-    subst (λ (z : Session). Brings f x.counts z c.args.number (view_of s) (after_ordered (setting_of f) s Finish) c.args.out.now.items c.push_answer.new.out.items) then
-    (end_brings f x s r new c.in-Ok.answer c.requires.met (still_running x.engine.stopped new.stopped c.in-Ok.answer r.running c.in-Ok.ensures.raised) c.count_mark.ensures.unfocused
+    h ∙ (λ i. c.args.out.now.items ++ flat_map
+    (line_in ((c.plans.ensures ∙ ap (λ z. z.engine.plans) c.count_mark.ensures.counted) i)
+    (ap (λ z. z.symbols.texts) c.count_mark.ensures.counted i)) (c.as_slice-found.ensures i)) in
+    subst (λ (z : Session). Brings f x.counts z c.args.number (view_of s)
+    (after_ordered (setting_of f) s Finish) c.args.out.now.items c.push_answer.new.out.items) then
+    (end_brings f x s r new c.in-Ok.answer c.requires.met
+    (still_running x.engine.stopped new.stopped c.in-Ok.answer r.running c.in-Ok.ensures.raised) c.count_mark.ensures.unfocused
     c.args.number c.args.out.now.items c.push_answer.new.out.items c.requires.open c.in-Ok.ensures.moved
     (c.in-Ok.ensures.marked r.entries.settled r.entries.waiting r.entries.stands) w))
     c.push_answer.ensures

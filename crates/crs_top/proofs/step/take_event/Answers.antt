@@ -17,8 +17,11 @@ pub returns-in-Err-Late : goal.returns-in-Err-Late
 returns-in-Err-Late c =
     let x = c.args.session.now in
     let e = event_seen c.args.line.now c.args.raw.now in
-    let z : OnOk c.refuse.result (c.refuse.new.out.items ≡ c.args.out.now.items ++ refusal_line c.args.number (fault_of (run.Late c.in-Err-Late.date c.in-Err-Late.horizon))) = rw (← c.in-Err-Late.date-is, ← c.in-Err-Late.horizon-is) c.refuse.ensures.written in
-    refuse_brings c.refuse.result x c.refuse.new.session c.args.number (run.Late c.in-Err-Late.date c.in-Err-Late.horizon) (λ f s. after_ordered (setting_of f) s (Happens e))
+    let z : OnOk c.refuse.result (c.refuse.new.out.items ≡ c.args.out.now.items ++ refusal_line c.args.number
+    (fault_of (run.Late c.in-Err-Late.date c.in-Err-Late.horizon))) = rw
+    (← c.in-Err-Late.date-is, ← c.in-Err-Late.horizon-is) c.refuse.ensures.written in
+    refuse_brings c.refuse.result x c.refuse.new.session c.args.number (run.Late c.in-Err-Late.date c.in-Err-Late.horizon)
+    (λ f s. after_ordered (setting_of f) s (Happens e))
     c.args.out.now.items c.refuse.new.out.items z c.refuse.ensures.noted
     (λ f s r. late_is f x s r e c.in-Err-Late.date c.in-Err-Late.horizon (rw c.in-Err-Late.field-0-is at c.in-Err-Late.ensures))
 
@@ -29,8 +32,10 @@ returns-in-Ok-Name c =
     let e = event_seen c.args.line.now c.args.raw.now in
     IfOk-weaker c.accept_event.result _
     (λ _. BringsAll x y c.args.number (λ f s. after_ordered (setting_of f) s (Happens e)) c.args.out.now.items c.accept_event.new.out.items)
-    (λ _ h f s r. subst (λ (a : State × Outcome). Brings f x.counts y c.args.number (view_of s) a c.args.out.now.items c.accept_event.new.out.items)
-    (sym (verdict_is f x s r e c.plans.result.now (Named c.in-Ok-Name.field-0-0) c.in-Ok.ensures c.plans.ensures (rw c.in-Ok-Name.field-0-is at c.in-Ok-Name.ensures.says))) (h f s r))
+    (λ _ h f s r. subst (λ (a : State × Outcome). Brings f x.counts y c.args.number
+    (view_of s) a c.args.out.now.items c.accept_event.new.out.items)
+    (sym (verdict_is f x s r e c.plans.result.now (Named c.in-Ok-Name.field-0-0) c.in-Ok.ensures c.plans.ensures
+    (rw c.in-Ok-Name.field-0-is at c.in-Ok-Name.ensures.says))) (h f s r))
     c.accept_event.ensures
 
 pub returns-in-Ok-Other : goal.returns-in-Ok-Other
@@ -38,7 +43,8 @@ returns-in-Ok-Other c = λ f s r.
     let x = c.args.session.now in
     let e = event_seen c.args.line.now c.args.raw.now in
     passed_brings f x s r c.args.number (after_ordered (setting_of f) s (Happens e)) c.args.out.now.items
-    (sym (verdict_is f x s r e c.plans.result.now Other c.in-Ok.ensures c.plans.ensures (rw c.in-Ok-Other.field-0-is at c.in-Ok-Other.ensures.says)))
+    (sym (verdict_is f x s r e c.plans.result.now Other c.in-Ok.ensures c.plans.ensures
+    (rw c.in-Ok-Other.field-0-is at c.in-Ok-Other.ensures.says)))
 
 pub returns-in-Err-Arity : goal.returns-in-Err-Arity
 returns-in-Err-Arity c =
@@ -47,7 +53,8 @@ returns-in-Err-Arity c =
     let r = c.refuse-in-Err-Arity in
     refuse_brings r.result x r.new.session c.args.number run.Arity (λ f s. after_ordered (setting_of f) s (Happens e))
     c.args.out.now.items r.new.out.items r.ensures.written r.ensures.noted
-    (λ f s k. verdict_is f x s k e c.plans.result.now BadArity c.in-Ok.ensures c.plans.ensures (rw c.in-Err-Arity.field-0-is at c.in-Err-Arity.ensures.says))
+    (λ f s k. verdict_is f x s k e c.plans.result.now BadArity c.in-Ok.ensures c.plans.ensures
+    (rw c.in-Err-Arity.field-0-is at c.in-Err-Arity.ensures.says))
 
 pub returns-in-Err-Value : goal.returns-in-Err-Value
 returns-in-Err-Value c =
@@ -56,4 +63,5 @@ returns-in-Err-Value c =
     let r = c.refuse-in-Err-Value in
     refuse_brings r.result x r.new.session c.args.number run.Value (λ f s. after_ordered (setting_of f) s (Happens e))
     c.args.out.now.items r.new.out.items r.ensures.written r.ensures.noted
-    (λ f s k. verdict_is f x s k e c.plans.result.now BadValue c.in-Ok.ensures c.plans.ensures (rw c.in-Err-Value.field-0-is at c.in-Err-Value.ensures.says))
+    (λ f s k. verdict_is f x s k e c.plans.result.now BadValue c.in-Ok.ensures c.plans.ensures
+    (rw c.in-Err-Value.field-0-is at c.in-Err-Value.ensures.says))

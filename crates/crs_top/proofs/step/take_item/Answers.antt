@@ -37,7 +37,8 @@ returns c =
     (λ _. BringsAll x c.take_ordered.new.session c.args.number (λ f s. after_what (setting_of f) s w) c.args.out.now.items c.take_ordered.new.out.items)
     (λ _ h f s r.
     let order : (s.ended || (is_delay_what w && s.met)) ≡ false = (λ i. r.ended i || (is_delay_what w && r.met i)) ∙ sym (c.is_out_of_order-refused.ensures c.args.line.now) ∙ c.if-refused.false in
-    subst (λ (a : State × Outcome). Brings f x.counts c.take_ordered.new.session c.args.number (view_of s) a c.args.out.now.items c.take_ordered.new.out.items)
+    subst (λ (a : State × Outcome). Brings f x.counts c.take_ordered.new.session c.args.number
+    (view_of s) a c.args.out.now.items c.take_ordered.new.out.items)
     (in_order (setting_of f) s w (sym (c.is_blank.ensures c.args.line.now) ∙ c.if-is_blank.false) order (not_faulty c.args.line.now c.args.item))
     (h f (is_met s) (met f x s r)))
     c.take_ordered.ensures

@@ -16,7 +16,8 @@ use Rattle.crs_top.proofs.step.take_line.Goals as goal
 pub returns-in-Long : goal.returns-in-Long
 returns-in-Long c =
     let x = c.args.session.now in
-    rw c.in-Long.is (refuse_brings c.refuse.result x c.refuse.new.session c.in-Long.number run.TooLong (λ f s. after_given (setting_of f) s (Long c.in-Long.number))
+    rw c.in-Long.is (refuse_brings c.refuse.result x c.refuse.new.session c.in-Long.number run.TooLong
+    (λ f s. after_given (setting_of f) s (Long c.in-Long.number))
     c.args.out.now.items c.refuse.new.out.items c.refuse.ensures.written c.refuse.ensures.noted (λ f s r. refl))
 
 pub returns-in-Ok : goal.returns-in-Ok
@@ -24,7 +25,8 @@ returns-in-Ok c =
     let x = c.args.session.now in
     rw c.in-Plain.is (IfOk-weaker c.take_item.result _
     (λ _. BringsAll x c.take_item.new.session c.in-Plain.number (λ f s. after_given (setting_of f) s (Plain c.in-Plain.number c.in-Plain.bytes.now)) c.args.out.now.items c.take_item.new.out.items)
-    (λ _ h f s r. subst (λ (a : State × Outcome). Brings f x.counts c.take_item.new.session c.in-Plain.number (view_of s) a c.args.out.now.items c.take_item.new.out.items)
+    (λ _ h f s r. subst (λ (a : State × Outcome). Brings f x.counts c.take_item.new.session c.in-Plain.number
+    (view_of s) a c.args.out.now.items c.take_item.new.out.items)
     (ap (after_what (setting_of f) s) c.in-Ok.ensures.exact) (h f s r))
     c.take_item.ensures)
 

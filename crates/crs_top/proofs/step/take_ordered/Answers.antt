@@ -8,7 +8,8 @@ use Rattle.crs_top.proofs.step.take_ordered.Goals as goal
 
 pub returns-in-Blank : goal.returns-in-Blank
 returns-in-Blank c = λ f s r.
-    passed_brings f c.args.session.now s r c.args.number (ordered_what (setting_of f) s (what_seen c.args.line.now c.args.item)) c.args.out.now.items
+    passed_brings f c.args.session.now s r c.args.number
+    (ordered_what (setting_of f) s (what_seen c.args.line.now c.args.item)) c.args.out.now.items
     (ap (λ i. ordered_what (setting_of f) s (what_seen c.args.line.now i)) (sym c.in-Blank.is))
 
 pub returns-in-Delay : goal.returns-in-Delay
