@@ -12,7 +12,8 @@ returns-clause-told c =
       files = refl;
       opened = refl;
       bytes = comes stream_of _ c.args.self.now.sources.items c.args.input c.moved-count.result
-          c.index_mut-from.result.now _ _ c.copy_from_slice.new.self _ _ refl refl at (read_on _ _ _) (grind (arith, common_steps)) refl (grind (arith, common_steps)) (grind (arith, common_steps));
+          c.index_mut-from.result.now _ _ c.copy_from_slice.new.self _ _ refl refl at (read_on _ _ _)
+          (grind (arith, common_steps)) refl (grind (arith, common_steps)) (grind (arith, common_steps));
       written = refl;
       turns = rw at (search rules);
     }
