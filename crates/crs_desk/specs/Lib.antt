@@ -1,3 +1,4 @@
+pub mod Calm
 pub mod Desk
 pub mod FailingRead
 pub mod File

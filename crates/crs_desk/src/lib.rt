@@ -1,6 +1,7 @@
 //! The outside: named inputs that are read, and one output that is written.
 #![tactic(auto)]
 
+mod calm;
 mod desk;
 mod file;
 mod memory;
@@ -11,6 +12,7 @@ mod tests;
 mod turn;
 mod whole;
 
+pub use calm::CalmDesk;
 pub use desk::{Desk, DeskError};
 pub use memory::MemoryDesk;
 pub use real::RealDesk;

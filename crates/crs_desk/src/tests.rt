@@ -1,7 +1,7 @@
 ghost use Rattle.std.specs.Prelude.{◌≡◌, IfOk};
 ghost use Rattle.crs_desk.specs.Memory.{memory_inputs};
 
-use crate::{Desk, DeskError, MemoryDesk, ReadAllError, RealDesk, read_all, write_all};
+use crate::{CalmDesk, Desk, DeskError, MemoryDesk, ReadAllError, RealDesk, read_all, write_all};
 use std::alloc::{AllocError, Global};
 use std::test::Fail;
 
@@ -87,6 +87,34 @@ fn an_input_is_read_whole_or_not(rt: HostRuntime) -> Result<(), Fail> {
     desk.fail_write(3)?;
     assert_eq!(rt; write_all(&mut desk, b"abcdef"), Err(DeskError::Failed));
     assert!(rt; desk.written() == b"abcd".as_slice());
+    Ok(())
+}
+
+#[test]
+fn a_calm_desk_reads_and_writes(rt: HostRuntime) -> Result<(), Fail> {
+    let alloc = rt.alloc();
+    for (piece, front) in [(None, "one "), (Some(1), "o"), (Some(3), "one")] {
+        let mut desk = CalmDesk::new(alloc);
+        desk.add_file("a", b"one two")?;
+        desk.add_file("a", b"three")?;
+        if let Some(piece) = piece {
+            desk.set_piece(piece);
+        }
+        let first = desk.open("a")?;
+        let missing = desk.open("b")?;
+        assert_eq!(rt; (first, missing), (0, 1));
+        let mut buf = [0; 4];
+        let count = desk.read(first, &mut buf)?;
+        assert!(rt; &buf[..count] == front.as_bytes());
+        let rest = read_all(alloc, &mut desk, first, 7)?;
+        assert_eq!(rt; count + rest.len(), 7);
+        assert!(rt; b"one two".ends_with(rest.as_slice()));
+        assert!(rt; read_all(alloc, &mut desk, missing, 7)?.is_empty());
+        assert_eq!(rt; desk.write(b"wxyz")?, front.len());
+        write_all(&mut desk, b"!wxyz")?;
+        assert!(rt; desk.written().ends_with(b"!wxyz"));
+        assert_eq!(rt; desk.written().len(), front.len() + 5);
+    }
     Ok(())
 }
 

@@ -12,6 +12,7 @@ pub mod LogReading
 pub mod Follows
 pub mod Runs
 pub mod Wanting
+pub mod Calmly
 pub mod Completes
 pub mod Preparing
 pub mod Tables

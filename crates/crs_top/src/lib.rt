@@ -1,6 +1,8 @@
 //! The top call: the words, the desk and a status.
 #![tactic(auto)]
 
+#[cfg(test)]
+mod calm_tests;
 mod laws;
 mod limits;
 mod listing;

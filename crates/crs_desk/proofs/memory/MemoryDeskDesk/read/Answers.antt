@@ -1,12 +1,12 @@
 use Rattle.std.proofs.Common.{rules, arith, refl, ap, ℕ, List}
 use Rattle.std.proofs.lemmas.Grind.{common_steps}
-use Rattle.crs_desk.specs.Memory.{memory_schedule}
-use Rattle.crs_desk.proofs.Inputs.{stream_is, reads_is, streams_kept, reads_once, comes}
+use Rattle.crs_desk.specs.Memory.{memory_schedule, stream_of}
+use Rattle.crs_desk.proofs.Inputs.{stream_is, reads_is, streams_kept, reads_once, read_on, comes}
 use Rattle.crs_desk.proofs.memory.MemoryDeskDesk.read.Goals as goal
 
 pub returns-then-fails-clause-told : goal.returns-then-fails-clause-told
 returns-then-fails-clause-told c =
-    let at = stream_is c.args.self.now.inputs.items c.args.input c.index_mut-from.result.now c.requires.opened c.index_mut-from.ensures.value in
+    let at = stream_is stream_of c.args.self.now.inputs.items c.args.input c.index_mut-from.result.now c.requires.opened c.index_mut-from.ensures.value in
     record {
       files = refl;
       opened = refl;
@@ -27,12 +27,12 @@ returns-then-fails-clause-schedule c =
 
 pub returns-clause-told : goal.returns-clause-told
 returns-clause-told c =
-    let at = stream_is c.args.self.now.inputs.items c.args.input c.index_mut-from.result.now c.requires.opened c.index_mut-from.ensures.value in
+    let at = stream_is stream_of c.args.self.now.inputs.items c.args.input c.index_mut-from.result.now c.requires.opened c.index_mut-from.ensures.value in
     record {
       files = refl;
       opened = refl;
-      bytes = comes _ c.args.self.now.inputs.items c.args.input c.moved-count.result c.index_mut-from.result.now _ _ c.copy_from_slice.new.self _ _
-          refl refl at refl refl (grind (arith, common_steps)) refl (grind (arith, common_steps)) (grind (arith, common_steps));
+      bytes = comes stream_of _ c.args.self.now.inputs.items c.args.input c.moved-count.result c.index_mut-from.result.now _ _ c.copy_from_slice.new.self _ _
+          refl refl at (read_on _ _ _) (grind (arith, common_steps)) refl (grind (arith, common_steps)) (grind (arith, common_steps));
       written = refl;
       turns = rw at (search rules);
     }
