@@ -5,7 +5,6 @@ use Rattle.std.proofs.Math.Seq.{take-add, set-set}
 use Rattle.std.proofs.lemmas.List.{length-drop}
 use Rattle.crs_desk.specs.Desk.{Told, Stream, stream_at, advanced, turn_of, Reads, Writes, Wrote, Took, Rises}
 use Rattle.crs_desk.specs.declared.turn.Turn.{Turn}
-use Rattle.crs_desk.specs.declared.desk.DeskError.{DeskError}
 use Rattle.crs_desk.specs.declared.desk.DeskError.TheVariants.{Failed, Memory}
 
 pub take_on : (k n : ℕ) (xs : List ℕ) → take k xs ++ take n (drop k xs) ≡ take (k + n) xs

@@ -95,9 +95,9 @@ fn worked_logs(rt: HostRuntime) -> Result<(), Fail> {
         ),
         (
             "message a 0\nmessage b 0\nchronicle q {\nevent(a, t1)\nnoevent(b, (t1 + 1, t1 + 10))\n}\n",
-            "1 a\n",
-            Status::Rejected,
-            "model line 6 form\n",
+            "1 a\nclock 10\nclock 11\n20 a\n29 b\n40 a\n50 b\nclock 60\n",
+            Status::Done,
+            "q at 11 t1=1\nq at 60 t1=40\n",
         ),
         (
             "message a 0\nmessage a 1\n",
