@@ -95,7 +95,6 @@ floor_early plan proper d floor (inr some) =
 -- ---- a fork
 
 module _ (plan : Plan) (proper : IsProper plan) (history : HistoryState) (x : Entry Sym) (i : InstanceState) (e : ℕ) (of : IsOf plan i) (inside : e < length plan.chronicle.events) where
-
   never_fork : (CanBe plan (put i.partial e x) → ⊥) → IsForkAt plan history x i e None
   never_fork n = λ entries now over. (λ h. n (open_can plan entries entries x.date (put i.partial e x) h.2), tt)
 
