@@ -31,7 +31,7 @@ pub key_exact : (j k : Key) → key_cmp j k ≡ Equal → j ≡ k
 key_exact j k h =
     let first = both_tie (nat_cmp j.date k.date) (ordering_then (slice_cmp nat_cmp j.text k.text) (nat_cmp j.arrival k.arrival)) h in
     let rest = both_tie (slice_cmp nat_cmp j.text k.text) (nat_cmp j.arrival k.arrival) first.1 in
-    same_key j k (exact_unsigned j.date k.date first.0) (exact_bytes j.text k.text rest.0) (exact_unsigned j.arrival k.arrival rest.1)
+    (same_key j k (exact_unsigned j.date k.date first.0) (exact_bytes j.text k.text rest.0) (exact_unsigned j.arrival k.arrival rest.1))
 
 date_by : (a b : ℕ) (o r : Ordering) → MatchOrdering o (a < b) (a ≡ b) (b < a) → ordering_then o r ≡ Less → a ≤ b
 date_by a b Less r m h = omega (arith, m)

@@ -88,4 +88,4 @@ read_front text raw rest n is h at behind = sym (ap lines_of (append-nil text)) 
 pub read_last : (text raw rest : List ℕ) (n : ℕ) → n ≡ prefix_len is_no_feed text → 0 < length text → n ≤ length text → length text ≤ n → raw ≡ take (length text) text → rest ≡ drop (length text) text → lines_of text ≡ rest_of_text raw ∷ lines_of rest
 read_last text raw rest n is some h k at behind =
     let full : prefix_len is_no_feed text ≡ length text = omega (arith, is) in
-    line_last text some full ∙ (λ i. rest_of_text (sym (at ∙ take_all (length text) text (le_refl (length text))) i) ∷ lines_of (sym (behind ∙ drop_of_length-le text (le_refl (length text))) i))
+    (line_last text some full ∙ (λ i. rest_of_text (sym (at ∙ take_all (length text) text (le_refl (length text))) i) ∷ lines_of (sym (behind ∙ drop_of_length-le text (le_refl (length text))) i)))

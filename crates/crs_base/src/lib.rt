@@ -9,6 +9,7 @@ mod numbers;
 mod output;
 mod steps;
 mod sym_list;
+mod symbol_text;
 mod symbols;
 mod text;
 mod tokens;

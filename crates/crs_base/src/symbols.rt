@@ -5,6 +5,7 @@ ghost use Rattle.crs_base.specs.TextSet.{texts_of};
 ghost use Rattle.crs_base.specs.Refusals.{IsRefusal};
 ghost use Rattle.crs_base.specs.declared.symbols.SymRefused.TheVariants.{Values};
 
+use crate::symbol_text::{Seeded, Sought, SymbolText};
 use indexmap::IndexSet;
 use std::alloc::{AllocError, Global};
 use std::marker::Model;
@@ -56,7 +57,7 @@ pub fn is_symbol_byte(b: u8) -> bool
 /// The symbols met so far, each with its number.
 #[derive(Drop)]
 pub struct Symbols {
-    set: IndexSet<Vec<u8>>,
+    set: IndexSet<SymbolText, Seeded>,
     limit: u32,
     alloc: Global,
 }
@@ -68,29 +69,33 @@ impl Model for Symbols {
 
     ghost Value = { Table };
 
-    ghost view = { λ s. record { texts = map (λ v. v.items) s.set.keys; limit = s.limit } };
+    ghost view = { λ s. record { texts = map (λ t. t.bytes.items) s.set.keys; limit = s.limit } };
 
     ghost invariant = { λ s. (length s.set.keys ≤ s.limit) × (s.limit < 2 ^ 32) };
 }
 
 /// The place of a text.
-fn index_of(set: &IndexSet<Vec<u8>>, text: &[u8]) -> Option<usize>
+fn index_of(set: &IndexSet<SymbolText, Seeded>, text: &[u8]) -> Option<usize>
     ensures place { result ≡ position (bytes_eq text.now) (texts_of set.now) }
     ensures known { is_some result ≡ is_known (texts_of set.now) text.now }
     ensures within { IfSome result (λ i. i < length set.now.keys) }
 {
-    set.get_index_of(text)
+    set.get_index_of(Sought { bytes: text })
 }
 
 /// Puts a text that isn't there last.
-fn put_last(alloc: Global, set: &mut IndexSet<Vec<u8>>, text: &[u8]) -> Result<(), AllocError>
+fn put_last(
+    alloc: Global,
+    set: &mut IndexSet<SymbolText, Seeded>,
+    text: &[u8],
+) -> Result<(), AllocError>
     requires { is_known (texts_of set.old) text.now ≡ false }
     ensures ok { OnOk result (texts_of set.new ≡ texts_of set.old ++ text.now ∷ []) }
     ensures len { OnOk result (length set.new.keys ≡ length set.old.keys + 1) }
     ensures err { OnErr result (set.new.keys ≡ set.old.keys) }
 {
-    let copy = Vec::from_slice(alloc, text)?;
-    let _ = set.insert(copy)?;
+    let bytes = Vec::from_slice(alloc, text)?;
+    let _ = set.insert(SymbolText { bytes })?;
     Ok(())
 }
 
@@ -99,11 +104,19 @@ impl Symbols {
     pub fn new(alloc: Global, limit: u32) -> Result<Symbols, AllocError>
         ensures ok { IfOk result (λ s. s ≡ record { texts = []; limit = limit }) }
     {
-        Ok(Symbols {
-            set: IndexSet::new(alloc),
+        Ok(Symbols::seeded(alloc, limit, 0))
+    }
+
+    /// The same. Its texts are hashed from the seed, so that only who knows it can choose texts that
+    /// collide; nothing else depends on it.
+    pub fn seeded(alloc: Global, limit: u32, seed: u64) -> Symbols
+        ensures { result ≡ record { texts = []; limit = limit } }
+    {
+        Symbols {
+            set: IndexSet::with_hasher(alloc, Seeded::new(seed)),
             limit,
             alloc,
-        })
+        }
     }
 
     pub fn len(&self) -> u32
@@ -140,7 +153,7 @@ impl Symbols {
         ensures { result.now ≡ text_at self.now.texts s.0 }
     {
         match self.set.get_index(s.0 as usize) {
-            Some(text) => text.as_slice(),
+            Some(text) => text.bytes.as_slice(),
             None => unreachable!(),
         }
     }

@@ -48,6 +48,19 @@ fn symbols_are_numbered_once(rt: HostRuntime) -> Result<(), Fail> {
 }
 
 #[test]
+fn numbers_are_the_same_for_each_seed(rt: HostRuntime) -> Result<(), Fail> {
+    for seed in [0, 1, 0x1319_8a2e_0370_7344, u64::MAX] {
+        let mut symbols = Symbols::seeded(rt.alloc(), 3, seed);
+        assert!(rt; symbols.intern(b"a") == Ok(Sym(0)));
+        assert!(rt; symbols.intern(b"a_text_of_more_than_sixteen_bytes") == Ok(Sym(1)));
+        assert!(rt; symbols.intern(b"a") == Ok(Sym(0)));
+        assert!(rt; symbols.find(b"a_text_of_more_than_sixteen_bytes") == Some(Sym(1)));
+        assert!(rt; symbols.find(b"a_text_of_more_than_sixteen_bytez") == None);
+    }
+    Ok(())
+}
+
+#[test]
 fn a_symbol_has_up_to_64_symbol_bytes(rt: HostRuntime) -> Result<(), Fail> {
     assert!(rt; is_symbol(b"A.b-9_"));
     assert!(rt; is_symbol(&[b'x'; 64]));

@@ -28,6 +28,7 @@ pub struct CalmDesk {
     written: Vec<u8>,
     turns: Vec<Turn>,
     piece: Option<usize>,
+    seed: u64,
     ghost few: { vec_len sources ≤ 2 ^ 32 - 1 },
     ghost moves: { (n : _) → piece ≡ Some n → 0 < n },
 }
@@ -49,6 +50,7 @@ impl CalmDesk {
             written: Vec::new(alloc),
             turns: Vec::new(alloc),
             piece: None,
+            seed: 0,
         }
     }
 
@@ -81,6 +83,15 @@ impl CalmDesk {
         ensures piece { calm_piece self.new ≡ Some n }
     {
         self.piece = Some(n);
+    }
+
+    /// From now on hash tables are seeded from this number, which is 0 at first.
+    pub fn set_seed(&mut self, seed: u64)
+        ensures inputs { calm_inputs self.new ≡ calm_inputs self.old }
+        ensures told { calm_told self.new ≡ calm_told self.old }
+        ensures piece { calm_piece self.new ≡ calm_piece self.old }
+    {
+        self.seed = seed;
     }
 }
 
@@ -161,5 +172,9 @@ impl Desk for CalmDesk {
         let count = schedule::moved(self.piece, bytes.len());
         self.written.extend_from_slice(&bytes[..count])?;
         Ok(count)
+    }
+
+    fn seed(&self) -> u64 {
+        self.seed
     }
 }

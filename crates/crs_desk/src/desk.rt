@@ -81,6 +81,12 @@ pub trait Desk {
         ensures writing { HasCause (out_faults self.old) (out_faults self.new) result }
         ensures told { tells ≡ true → Writes (told self.old) bytes.now result (told self.new) };
 
+    /// A number from which hash tables are seeded, so that who writes a log can't choose texts that
+    /// collide. Nothing that is written depends on it.
+    fn seed(&self) -> u64 {
+        0
+    }
+
     /// Each input that was opened has its place in what is told.
     ghost places: { (d : Self) → tells ≡ true → length (told d).left ≡ inputs d };
 }

@@ -4,6 +4,7 @@ ghost use Rattle.std.specs.Prelude.{◌≡◌, ◌<◌, ◌≤◌, ◌+◌, ◌^
 use crate::{Desk, DeskError};
 use std::fs;
 use std::io::{Print, Read};
+use std::random::RandomSource;
 use std::rt::Files;
 
 const SLOTS: usize = 16;
@@ -12,24 +13,36 @@ const SLOTS: usize = 16;
 ///
 /// It opens at most sixteen inputs, which stay open; a further open is `Failed`. A count of faults stands still at its last value.
 #[derive(Drop)]
-pub struct RealDesk<R: Files + Print + Drop> {
+pub struct RealDesk<R: Files + Print + RandomSource + Drop> {
     rt: R,
     inputs: [Option<R::File>; SLOTS],
     count: u32,
     in_faults: u64,
     out_faults: u64,
+    seed: u64,
     ghost few: { count ≤ 16 },
 }
 
-impl<R: Files + Print + Drop> RealDesk<R> {
-    /// A desk that has opened nothing.
+/// A random number, or 0 where the system gives none.
+fn random_seed(rt: &impl RandomSource) -> u64 {
+    let mut bytes = [0; 8];
+    match rt.fill_bytes(&mut bytes) {
+        Ok(()) => u64::from_le_bytes(bytes),
+        Err(_) => 0,
+    }
+}
+
+impl<R: Files + Print + RandomSource + Drop> RealDesk<R> {
+    /// A desk that has opened nothing. Its seed is random.
     pub fn new(rt: R) -> RealDesk<R>
         ensures inputs { ⟦<RealDesk<R> as Desk>⟧.inputs result ≡ 0 }
         ensures reading { ⟦<RealDesk<R> as Desk>⟧.in_faults result ≡ 0 }
         ensures writing { ⟦<RealDesk<R> as Desk>⟧.out_faults result ≡ 0 }
     {
+        let seed = random_seed(&rt);
         RealDesk {
             rt,
+            seed,
             inputs: [
                 None, None, None, None, None, None, None, None, None, None, None, None, None, None,
                 None, None,
@@ -41,7 +54,7 @@ impl<R: Files + Print + Drop> RealDesk<R> {
     }
 }
 
-impl<R: Files + Print + Drop> Desk for RealDesk<R> {
+impl<R: Files + Print + RandomSource + Drop> Desk for RealDesk<R> {
     ghost use Rattle.std.specs.Prelude.{false, []};
     ghost use Rattle.std.proofs.lemmas.Bool.{false≢true};
 
@@ -85,6 +98,10 @@ impl<R: Files + Print + Drop> Desk for RealDesk<R> {
         }
         self.in_faults = self.in_faults.saturating_add(1);
         Err(DeskError::Failed)
+    }
+
+    fn seed(&self) -> u64 {
+        self.seed
     }
 
     // Standard output that takes no byte is a fault: the caller would try forever.

@@ -296,7 +296,7 @@ end_again old new small at now mark s w answer stands m =
 
 pub again_by : (r : Result (List Recognition) Refused) (seen old new : EngineState) (mark : Mark) → seen ≡ old → IsEngine seen → OnOk r (HasMoved old new (2 ^ 42) (2 ^ 42)) → IfOk r (λ a. (s w : List (Entry Sym)) → StandsFor old s w → AfterMark old new mark s w a) → old.horizon ≡ 2 ^ 42 → IfOk r (λ a. (s w : List (Entry Sym)) → StandsFor old s w → a ≡ [])
 again_by (Ok a) seen old new mark view is moved marked at = λ s w stands.
-    end_again old new (subst (λ (o : EngineState). AllByRecursion (IsWaiting o.accepted) o.waiting) view is.waiting) at (moved.moved ∙ max-eq_right (let e = at in omega arith)) mark s w a stands (marked s w stands)
+    (end_again old new (subst (λ (o : EngineState). AllByRecursion (IsWaiting o.accepted) o.waiting) view is.waiting) at (moved.moved ∙ max-eq_right (let e = at in omega arith)) mark s w a stands (marked s w stands))
 again_by (Err e) seen old new mark view is moved marked at = tt
 
 -- a delay changes nothing of what an engine stands for

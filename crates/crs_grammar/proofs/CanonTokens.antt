@@ -55,7 +55,7 @@ numeral_of n ds w e below some few is = subst (IsNumeralOf n) (sym e) (record {
 numeral : (n : ℕ) → n < 10000000000000000000 → IsNumeralOf n (decimal n)
 numeral zero h = subst (IsNumeralOf zero) (sym (decimal_digit zero (omega arith))) (record { digits = refl; some = omega arith; is = refl })
 numeral (suc n) h =
-    numeral_of (suc n) (digits_of 10 (suc n)) (decimal (suc n)) (decimal-digits_of (suc n) (omega arith) (omega arith)) (all_below_base_digits_of 10 (suc n) (omega arith))
+    (numeral_of (suc n) (digits_of 10 (suc n)) (decimal (suc n)) (decimal-digits_of (suc n) (omega arith) (omega arith)) (all_below_base_digits_of 10 (suc n) (omega arith)))
     (some_digits (digits_of 10 (suc n)) (first_digits_of 10 (suc n) (omega arith) (omega arith))) (length-digits_of-le 10 19 (suc n) (omega arith) h) (number_digits_of 10 (suc n) (omega arith))
 
 not_minus : (c : ℕ) → is_digit c ≡ true → (c == 45) ≡ false
@@ -333,7 +333,7 @@ body_then (Occurs least most p) rest h = (
           (
             tt,
             tt,
-            most_parted most (Sign 41 ∷ Sign 44 ∷ Gap ∷ (pattern_form p ++ rest)) (tt, (refl, refl, refl), (tt, (refl, refl, refl), (tt, tt, pattern_then p rest h))),
+            (most_parted most (Sign 41 ∷ Sign 44 ∷ Gap ∷ (pattern_form p ++ rest)) (tt, (refl, refl, refl), (tt, (refl, refl, refl), (tt, tt, pattern_then p rest h)))),
           ),
         ),
       ),
@@ -414,7 +414,7 @@ form_parted (Between d) = (
                 (
                   tt,
                   (refl, refl, refl),
-                  low_parted d.low (Sign 44 ∷ Gap ∷ high_part d.high ∷ Sign 93 ∷ []) (tt, (refl, refl, refl), (tt, tt, high_parted d.high (Sign 93 ∷ []) (tt, (refl, refl, refl), tt))),
+                  (low_parted d.low (Sign 44 ∷ Gap ∷ high_part d.high ∷ Sign 93 ∷ []) (tt, (refl, refl, refl), (tt, tt, high_parted d.high (Sign 93 ∷ []) (tt, (refl, refl, refl), tt)))),
                 ),
               ),
             ),

@@ -61,8 +61,7 @@ module _ (i : InstanceState) (level : ℕ → ℕ) (n : ℕ) where
 
 pub deadline_is : (i : InstanceState) (level : ℕ → ℕ) (n : ℕ) (es fs : List (Option (Rc CodeEntry Global))) (ws vs : List DateWindow) (b : List (Option Sym)) (ps : List Progress) (d : Option ℤ) → record { partial = partial_of es; binding = b; windows = ws; progress = ps } ≡ i → fs ≡ es → vs ≡ ws →
     d ≡ least_of (λ e. end_if (level e == n) (at (partial_of fs) e) (window_at vs e)) (length fs) → IsDeadline level n i d
-deadline_is i level n es fs ws vs b ps d view se sw is =
-    deadline_by i level n d (sym (
+deadline_is i level n es fs ws vs b ps d view se sw is = deadline_by i level n d (sym (
     is
     ∙ ap (λ (t : List (Option (Rc CodeEntry Global))). least_of (λ e. end_if (level e == n) (at (partial_of t) e) (window_at vs e)) (length t)) se
     ∙ ap (λ (t : List DateWindow). least_of (λ e. end_if (level e == n) (at (partial_of es) e) (window_at t e)) (length es)) sw

@@ -158,7 +158,7 @@ module _ (p : Plan) (least : ℕ) (f : IsFixture least p.chronicle) where
     declared = (
       message e.pattern.name,
       record { among = i; same = refl; arity = sym (length-map e.pattern.terms term_of ∙ ap length h.terms) },
-      plain_change e.pattern.change h.change,
+      (plain_change e.pattern.change h.change),
     );
     below = plain_below e (length p.chronicle.variables) h;
     level = h.level;

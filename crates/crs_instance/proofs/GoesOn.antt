@@ -55,7 +55,7 @@ module _ (plan : Plan) (proper : IsProper plan) (i : InstanceState) (of : IsOf p
   goes_on : (d : Option ℤ) → IsDeadline flat 0 i d → IfSome d (λ v. pos h ≤ℤ v) → CanGoOn (chronicle plan) flat i.partial h
   goes_on d is l =
       let joint = joint_demand plan.chronicle.bounds (length i.partial) (dates_of i.partial) (λ r. unbound (at i.partial r)) (pos h) of.dates (λ r k t.
-      by_window (window_at i.windows r).most r (of.most r (point r k)) (all_above d is l r k (none_of (at i.partial r) t))) in
+      (by_window (window_at i.windows r).most r (of.most r (point r k)) (all_above d is l r k (none_of (at i.partial r) t)))) in
       (joint.0, joint.1, joint.2, λ f w. joint.3 f w.within (unbound_of (at i.partial f) w.unbound))
 
   at_most : (o : Option ℤ) (v : ℤ) (r : ℕ) (t : ℕ → ℤ) → IsLatest plan.chronicle.bounds (dates_of i.partial) r o → o ≡ Some v → Agrees (dates_of i.partial) t → Meets plan.chronicle.bounds t → t r ≤ℤ v

@@ -33,8 +33,7 @@ module _ (T : List (List ℕ)) (t : List ℕ) where
   pub number_found : (o : Option Sym) → AreDistinct T → option_map (λ s. s.0) o ≡ position (bytes_eq t) T → is_some o ≡ is_known T t → IsNumberOf T t o
   number_found None distinct place known = λ s lt. not_there (sym known) s.0 lt (bytes_eq t (text_at T s.0)) refl
   number_found (Some n) distinct place known = λ s lt.
-      let k = number_within T t n (sym known) place in
-      one_number distinct n.0 s.0 k.0 k.1 lt (s.0 == n.0) refl
+      let k = number_within T t n (sym known) place in one_number distinct n.0 s.0 k.0 k.1 lt (s.0 == n.0) refl
 
   -- a text without a number is that of no symbol
   pub none_among : (ss : List Sym) → AreKnown T ss → IsNumberOf T t None → list_any (bytes_eq t) (map (text_in T) ss) ≡ false

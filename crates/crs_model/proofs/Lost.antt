@@ -72,7 +72,7 @@ module _ {S : Type 0} (entries more : List (Entry S)) (h g : ℕ) (later : h ≤
       spoilt (subst (λ n. IsCount entries look p from to n) z r.1)
   spoilt_not_so look (Occurs least most p) from to spoilt so =
       let r = count_front _ entries more so.0 so.1 in
-      above_most most (λ n. IsCount entries look p from to n) (λ n. IsCount entries look p from to n) so.0 r.0 spoilt r.1 r.2 so.3
+      (above_most most (λ n. IsCount entries look p from to n) (λ n. IsCount entries look p from to n) so.0 r.0 spoilt r.1 r.2 so.3)
   spoilt_not_so look (Hold name terms value) from to (a, v, is, inl u) so = u.4 (held_back a u.0 v u.3 (so a v is u.0 u.1 u.2))
   spoilt_not_so look (Hold name terms value) from to (a, v, is, inr ch) so =
       ch.4 (change_agrees a (entries ++ more) v ch.0 (in_append_left entries more ch.0 ch.1) ch.2 (so a v is (pos (ch.0).date) (ch.3).0 (ch.3).1))

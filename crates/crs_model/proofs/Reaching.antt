@@ -65,7 +65,7 @@ module _ {S : Type 0} (c : Chronicle S) (r : ℤ) (reach : ReachesBack c r) wher
   starts_in_reach b dates e x l i w from to m stretch =
       let t = dates.0 in
       let s = and_some (at b w.from.event) _ stretch.starts in
-      back_start x.date (s.0).date (t e) (t w.from.event) w.from.offset r from (agrees_at b t e x dates.1 i) (agrees_at b t w.from.event s.0 dates.1 s.1) s.2 (reach.starts t dates.2 w m e l)
+      (back_start x.date (s.0).date (t e) (t w.from.event) w.from.offset r from (agrees_at b t e x dates.1 i) (agrees_at b t w.from.event s.0 dates.1 s.1) s.2 (reach.starts t dates.2 w m e l))
 
   pub not_negative : (b : Partial S) → MeetsInPart c.bounds (dates_of b) → 0 < length c.events → pos 0 ≤ℤ r
   not_negative b dates l = not_back (dates.0 0) r (reach.events dates.0 dates.2 0 0 l l)

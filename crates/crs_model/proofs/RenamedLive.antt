@@ -1,6 +1,6 @@
 -- Live partial assignments with other symbols in place of theirs.
 use Rattle.std.proofs.Common.{◌≡◌, ◌≢◌, inl, inr, ℕ, zero, suc, ℤ, pos, Bool, true, false, cond, List, [], ◌∷◌, map, length, refl, sym, ap, subst, ◌∙◌, true≢false, arith}
-use Rattle.std.specs.Prelude.{Option, Some, None, IfSome, slice_get, slice_index_or, option_map, if◌then◌else◌}
+use Rattle.std.specs.Prelude.{Option, Some, None, IfSome, slice_get, option_map}
 use Rattle.std.specs.List.{AllByRecursion}
 use Rattle.std.proofs.lemmas.List.{length-map}
 use Rattle.std.proofs.lemmas.Option.{slice_get-map}
@@ -13,7 +13,6 @@ use Rattle.crs_model.specs.Matching.{Binding, Assignment, PatternIs, IsAllowed}
 use Rattle.crs_model.specs.Partial.{Partial, at, EqualsAll, IsLeast, IsLevelClosed, IsAwaited, CanGoOn, dates_of}
 use Rattle.crs_model.specs.Proper.{IsNamed, term_has, terms_have, change_has, pattern_has}
 use Rattle.crs_model.specs.Open.{IsOpen, IsLive, whole}
-use Rattle.crs_model.specs.Levels.{level_in}
 use Rattle.crs_model.specs.Order.{AreAll}
 use Rattle.crs_model.proofs.Offers.{in_whole}
 use Rattle.crs_model.specs.Renaming.{renamed_term, renamed_pattern, renamed_event, renamed_window, renamed_chronicle, renamed_entry, renamed_assignment, IsPatternOf, IsBodyOf, IsChronicleOf, IsEntryOf}
@@ -108,8 +107,7 @@ module _ {S T : Type 0} (f : S → T) (P : S → Type 0) (apart : (x y : S) → 
       each_at (w ∷ vs) h (suc e) v i = each_at vs h.1 e v i
 
   all_back : (look : Binding S) (a : Partial S) → IsLookOf f P look → IsKnownPart a → EqualsAll (renamed_chronicle f c) (renamed_partial f a) (renamed_look f look) → EqualsAll c a look
-  all_back look a k known h e =
-      equal_back look k (slice_get c.events e) (at a e) (λ v i. pattern_known e v i) (λ x i. known e x i)
+  all_back look a k known h e = equal_back look k (slice_get c.events e) (at a e) (λ v i. pattern_known e v i) (λ x i. known e x i)
       (rw (slice_get-map (renamed_event f) c.events e, at_renamed f a e) at (h e))
 
   -- the same of what is bound, and of dates
@@ -405,11 +403,3 @@ module _ {S T : Type 0} (f : S → T) (P : S → Type 0) (apart : (x y : S) → 
                 (same_part x m.0 (known_given x (e x (inl refl)).0.partial.given) (known_given m.0 (e m.0 (inr m.1)).0.partial.given) (same ∙ m.2))),
             ordered_members xs (λ a i. e a (inr i)) d.1,
           )
-
-same_levels : {S T : Type 0} (f : S → T) (events : List (EventDef S)) → map (λ v. v.level) (map (renamed_event f) events) ≡ map (λ v. v.level) events
-same_levels f [] = refl
-same_levels f (v ∷ vs) = ap (λ (levels : List ℕ). v.level ∷ levels) (same_levels f vs)
-
--- events have the same levels
-pub levels_renamed : {S T : Type 0} (f : S → T) (events : List (EventDef S)) (focus : Bool) → level_in (map (renamed_event f) events) focus ≡ level_in events focus
-levels_renamed f events focus = ap (λ (levels : List ℕ). λ (e : ℕ). if focus then slice_index_or levels e 0 else 0) (same_levels f events)

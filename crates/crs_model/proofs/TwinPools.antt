@@ -128,7 +128,7 @@ module _ {S : Type 0} where
   before_zip T t h (x ∷ xs) [] z = absurd z
   before_zip T t h (x ∷ xs) (y ∷ ys) z =
       let same : nat_lt x.date h ≡ nat_lt y.date h = ap (λ n. nat_lt n h) (t.same x y z.0).date in
-      before_step (nat_lt x.date h) (nat_lt y.date h) T x y (before h xs) (before h ys) same z.0 (before_zip T t h xs ys z.1)
+      (before_step (nat_lt x.date h) (nat_lt y.date h) T x y (before h xs) (before h ys) same z.0 (before_zip T t h xs ys z.1))
 
   -- what two lists of entries have to be, so that their entries can be paired
   pub record AreAlike (xs ys : List (Entry S)) : Type 0 where

@@ -55,7 +55,7 @@ module _ {S : Type 0} where
   IsProperBody names n (NoEvent p) = IsDeclared names p × PatternIsBelow n p
   IsProperBody names n (Occurs least most p) = IsDeclared names p × PatternIsBelow n p × IfSome most (λ m. least ≤ m)
   IsProperBody names n (Hold name terms value) =
-      IsOfAttribute names name (length terms) × AllByRecursion (TermIsBelow n) (value ∷ terms) × AllByRecursion IsDefinite (value ∷ terms)
+      (IsOfAttribute names name (length terms) × AllByRecursion (TermIsBelow n) (value ∷ terms) × AllByRecursion IsDefinite (value ∷ terms))
 
   pub record IsProperWindow (names : List (Name S)) (c : Chronicle S) (w : Window S) : Type 0 where
     pub body : IsProperBody names (length c.variables) w.body

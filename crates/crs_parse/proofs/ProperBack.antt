@@ -85,7 +85,7 @@ module _ {S T : Type 0} (f : S → T) (Q : S → Type 0) (one : (s t : S) → Q 
         (
           r.0,
           subst (λ n. Declares names name n r.0) (terms_count terms) r.1.declares,
-          attribute_back r.0.kind (subst (λ (n : Name T). IsAttribute n.kind) r.1.is h.0.2),
+          (attribute_back r.0.kind (subst (λ (n : Name T). IsAttribute n.kind) r.1.is h.0.2)),
         ),
         terms_below n (value ∷ terms) h.1,
         each_back _ _ (renamed_term f) (value ∷ terms) definite_back h.2,

@@ -158,7 +158,7 @@ place_at : (xs : List (List ℕ)) (v : ℕ) → Distinct xs → v < length xs �
 place_at [] v d l = absurd (omega arith)
 place_at (x ∷ xs) zero d l = λ i. cond (not (same_bytes x i)) (1 + place_in xs x) 0
 place_at (x ∷ xs) (suc v) d l =
-    place_next (bytes_eq (text_at xs v) x) (place_in xs (text_at xs v)) v (other x (text_at xs v) xs (bytes_eq (text_at xs v) x) refl (known_at xs v (omega arith)) d.0) (place_at xs v d.1 (omega arith))
+    (place_next (bytes_eq (text_at xs v) x) (place_in xs (text_at xs v)) v (other x (text_at xs v) xs (bytes_eq (text_at xs v) x) refl (known_at xs v (omega arith)) d.0) (place_at xs v d.1 (omega arith)))
 
 at_slice : {A : Type 0} (P : A → Type 0) (xs : List A) (e : ℕ) (y : A) → AllByRecursion P xs → slice_get xs e ≡ Some y → P y
 at_slice P [] e y h k = cc
@@ -265,7 +265,7 @@ bounds_meant c n [] e h k = tt
 bounds_meant c n (d ∷ ds) e h k =
     let to : place_in (points_of c) d.to < n = subst (λ n. place_in (points_of c) d.to < n) (sym e) (point_below c d.to h.0.0) in
     let from : place_in (points_of c) d.from < n = subst (λ n. place_in (points_of c) d.from < n) (sym e) (point_below c d.from h.0.1) in (
-      bound_meant n (record { from = place_in (points_of c) d.from; to = place_in (points_of c) d.to; most = d.high }) from to k.0.high,
+      (bound_meant n (record { from = place_in (points_of c) d.from; to = place_in (points_of c) d.to; most = d.high }) from to k.0.high),
       (
         bound_meant n (record { from = place_in (points_of c) d.to; to = place_in (points_of c) d.from; most = option_map neg_ℤ d.low }) to from (low_near d.low k.0.low),
         bounds_meant c n ds e h.1 k.1,

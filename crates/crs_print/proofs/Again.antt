@@ -179,7 +179,7 @@ module _ (texts : List (List ℕ)) (limit : ℕ) (few : length texts ≤ limit) 
   chronicles_go names (c ∷ cs) done line table h begins short t =
       let one = chronicle_go names done c line table (lines (flat_map statements_of cs)) h.0 begins.0 (ap (nat_le 64) (sym (length-map done (λ d. d.1.name))) ∙ begins.1)
       (all_left (λ s. is_long (line_of s) ≡ false) (statements_of c) (flat_map statements_of cs) short) t in
-      one_then names c cs done line one.0 table one.1
+      (one_then names c cs done line one.0 table one.1)
       (chronicles_go names cs (done ++ (one.0, c) ∷ []) one.1.line_behind one.1.table h.1 (subst (λ l. AreBegun l (map (λ c. c.name) cs)) (sym (called_put done one.0 c)) begins.2)
       (all_right (λ s. is_long (line_of s) ≡ false) (statements_of c) (flat_map statements_of cs) short) one.1.is_table)
 

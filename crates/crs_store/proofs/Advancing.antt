@@ -158,7 +158,7 @@ module _ (old new : StoreState) (is : IsStore old) (history : HistoryState) (mar
 
 pub advanced : (old new : StoreState) → IsStore old → (history : HistoryState) (mark : Mark) (answer : List Recognition) (h : ℕ) → IsSameStore old new → new.date ≡ h → MovesOn old.plan history old.date h old.number mark old.held new.held answer → IsAdvanced old history h mark new answer
 advanced old new is history mark answer h same judged moves was pool settled d g stands kept far few apart later dated in_dates =
-    is_marked old new is history mark answer h same judged moves was pool settled d g stands kept far few apart later dated in_dates
+    (is_marked old new is history mark answer h same judged moves was pool settled d g stands kept far few apart later dated in_dates)
 
 pub advanced_from : (seen old new : StoreState) (history : HistoryState) (p : Plan) (mark : Mark) (answer : List Recognition) (h : ℕ) → seen ≡ old → IsStore seen → p ≡ seen.plan → IsSameStore seen new → new.date ≡ h → MovesOn p history seen.date h seen.number mark seen.held new.held answer → IsAdvanced old history h mark new answer
 advanced_from seen old new history p mark answer h view is sp same judged moves =

@@ -89,7 +89,7 @@ no_tie pool d (r ∷ found) over o = (first found over.1 o.0, no_tie pool d foun
     first : (rest : List Recognition) → AllByRecursion (IsOver pool) rest → AllByRecursion (λ b. whole (assignment_of r) ≡ b → ⊥) (wholes rest) → AllByRecursion (λ s. tie r s ≡ false) rest
     first [] a n = tt
     first (s ∷ rest) a n = (
-      not_tied (answer_cmp r s) (λ e. n.0 (ap (λ (t : List (Entry Sym)). map Some_of t) (tied pool d (assignment_of r).entries (assignment_of s).entries over.0 a.0 e))),
+      (not_tied (answer_cmp r s) (λ e. n.0 (ap (λ (t : List (Entry Sym)). map Some_of t) (tied pool d (assignment_of r).entries (assignment_of s).entries over.0 a.0 e)))),
       first rest a.1 n.1,
     )
       where
@@ -136,7 +136,7 @@ ascends (r ∷ rs) up d = (each rs (first_is_least r rs up) d.0, ascends rs (sor
     each : (ss : List Recognition) → ((s : Recognition) → IsIn s ss → later s r ≡ false) → AllByRecursion (λ s. tie r s ≡ false) ss → AllByRecursion (λ b. assignment_cmp (assignment_of r) b ≡ Less) (map assignment_of ss)
     each [] low t = tt
     each (s ∷ ss) low t = (
-      less_by (answer_cmp r s) (answer_cmp s r) (entries_total.antisymm (assignment_of r).entries (assignment_of s).entries) t.0 (low s (inl refl)),
+      (less_by (answer_cmp r s) (answer_cmp s r) (entries_total.antisymm (assignment_of r).entries (assignment_of s).entries) t.0 (low s (inl refl))),
       each ss (λ u i. low u (inr i)) t.1,
     )
 

@@ -91,7 +91,7 @@ module _ (Fine : Partial Sym → Type 0) (x : Entry Sym) where
     distinct = ordered_append (λ a b. a ≡ b → ⊥) kept new h.distinct k.distinct (λ y z i j e.
         let r = h.sound y i in
         let s = k.sound z j in
-        kept_no_fork r.0 s.0 y (in_from_each (IsFree x) held ready.0 r.0 r.1) (r.2).0 (subst (λ (w : Partial Sym). IsForkOf Fine x s.0 w) (sym e) s.2));
+        (kept_no_fork r.0 s.0 y (in_from_each (IsFree x) held ready.0 r.0 r.1) (r.2).0 (subst (λ (w : Partial Sym). IsForkOf Fine x s.0 w) (sym e) s.2)));
     sound = λ y i. elim (in_append kept new y i) [
       | inl a ↦ let r = h.sound y a in (r.0, r.1, inl r.2)
       | inr b ↦ let r = k.sound y b in (r.0, r.1, inr r.2)
@@ -125,7 +125,7 @@ forks_on plan history x i n out new more l q all h of k =
       λ entries now over free.
           let f = h entries now over free in
           let g = k entries now over in (
-            forks_more (IsOpenNow plan entries x) x i.partial n out (option_to_list more) l free f.0 (fork_image (IsOpenNow plan entries x) x i n more g.0),
+            (forks_more (IsOpenNow plan entries x) x i.partial n out (option_to_list more) l free f.0 (fork_image (IsOpenNow plan entries x) x i n more g.0)),
             all_append (IsOverNow plan entries x) out (option_to_list more) f.1 (each_of (IsOverNow plan entries x) more g.1),
           ),
     )

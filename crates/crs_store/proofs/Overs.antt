@@ -73,10 +73,10 @@ starts_after plan proper i of e x at_e floor far k = some_if (slice_get (chronic
     by : (w : Window Sym) → slice_get (chronicle plan).windows k ≡ Some w → (from to : ℤ) → IsStretch i.partial w from to → IsFarBack plan.reach x.date floor → floor ≤ℤ from
     by w is from to stretch (inl low) =
         let y = and_some (at i.partial w.from.event) _ stretch.starts in
-        low_start floor from w.from.offset (y.0).date low y.2 ((anchors_of plan proper k w is).0).not_small
+        (low_start floor from w.from.offset (y.0).date low y.2 ((anchors_of plan proper k w is).0).not_small)
     by w is from to stretch (inr some) =
         let r = and_some plan.reach _ some in
-        reached_start floor from r.0 x.date r.2 (starts_in_reach (chronicle plan) r.0 (reaches_back plan proper r.0 r.1) i.partial of.dates e x inside at_e w from to (in_place (chronicle plan).windows k w is) stretch)
+        (reached_start floor from r.0 x.date r.2 (starts_in_reach (chronicle plan) r.0 (reaches_back plan proper r.0 r.1) i.partial of.dates e x inside at_e w from to (in_place (chronicle plan).windows k w is) stretch))
 
 low_date : (floor : ℤ) (d : ℕ) → floor ≡ negsuc 35184372088831 → floor ≤ℤ pos d
 low_date floor d e = omega (arith, ints)
@@ -90,7 +90,7 @@ floor_early plan proper d floor (inl low) = low_date floor d low
 floor_early plan proper d floor (inr some) =
     let r = and_some plan.reach _ some in
     let inside : 0 < length (chronicle plan).events = let a = proper.events_some in let b = length-map plan.chronicle.events event_of in omega arith in
-    reached_date floor r.0 (proper.consistent.0 0) d r.2 ((reaches_back plan proper r.0 r.1).events proper.consistent.0 proper.consistent.1 0 0 inside inside)
+    (reached_date floor r.0 (proper.consistent.0 0) d r.2 ((reaches_back plan proper r.0 r.1).events proper.consistent.0 proper.consistent.1 0 0 inside inside))
 
 -- ---- a fork
 
@@ -100,7 +100,7 @@ module _ (plan : Plan) (proper : IsProper plan) (history : HistoryState) (x : En
 
   pub fork_unfit : at i.partial e ≡ None → (def : EventDef Sym) → slice_get (chronicle plan).events e ≡ Some def → (b : Bool) → (IsTrue b ↔ IsFit def.pattern i.binding x) → b ≡ false → IsForkAt plan history x i e None
   fork_unfit free def is b says f =
-      never_fork (not_matched plan proper i of e x inside free def is (not_fitting (chronicle plan) def.pattern i.binding x (λ fit. let t = says.1 fit in absurd cc)))
+      (never_fork (not_matched plan proper i of e x inside free def is (not_fitting (chronicle plan) def.pattern i.binding x (λ fit. let t = says.1 fit in absurd cc))))
 
   module _ (old f : InstanceState) (y : Entry Sym) (fit : Fit) (so : old ≡ i) (sy : y ≡ x) where
     pub fork_no : fit ≡ No → IsAnswered plan old e y f fit → IsForkAt plan history x i e None

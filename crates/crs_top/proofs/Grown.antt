@@ -192,7 +192,7 @@ accepted f x s r was_met room e due new table en a running texts limit seen know
     let now : table.texts ≡ x.symbols.texts ++ g.0 = texts ∙ g.1 in
     let is : entry_seen (x.symbols.texts ++ g.0) en ≡ entry_of_event (length s.accepted) e = ap (λ (t : List (List ℕ)). entry_seen t en) (sym now) ∙ seen ∙ ap (λ n. entry_of_event n e) (sym r.count) in
     let models : HasModels f x.engine.plans (record { texts = x.symbols.texts ++ g.0; limit = x.symbols.limit }) =
-    models_grown x.symbols.texts g.0 f x.engine.plans x.symbols.limit r.models (subst AreDistinct g.1 (with_apart x.symbols.texts (texts_of e) r.models.distinct)) in
+    (models_grown x.symbols.texts g.0 f x.engine.plans x.symbols.limit r.models (subst AreDistinct g.1 (with_apart x.symbols.texts (texts_of e) r.models.distinct))) in
     let entries : HasEntries new (x.symbols.texts ++ g.0) (s.accepted ++ entry_of_event (length s.accepted) e ∷ []) =
     entries_grown x.symbols.texts g.0 x.engine new s.accepted r.entries (entry_of en) (entry_of_event (length s.accepted) e) is refl
     (subst (λ (t : List (List ℕ)). IsEntryIn t en) now known) st in

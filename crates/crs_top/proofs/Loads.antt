@@ -104,7 +104,7 @@ all_loaded base now limit old mid new models i result ie be ne o h le =
     let taken_is : (stream_at mid.left i).taken ≡ 0 = ap (λ (x : Stream). x.taken) at in
     let zero : 0 + h.k ≡ h.k = omega arith in
     let room : 0 + (limit + 1) ≡ limit + 1 = omega arith in
-    loaded base now limit old mid new models i h.k h.more ie be ne o h.took.files h.took.opened h.took.left h.took.turns h.took.written
+    (loaded base now limit old mid new models i h.k h.more ie be ne o h.took.files h.took.opened h.took.left h.took.turns h.took.written)
     (record { unread = λ l. absurd (omega arith); within = rw rest_is at h.took.within; most = le; rises = rw (taken_is, ie, zero) at h.rises; rooms = rw room at (rw taken_is at h.rooms) })
 
 module _ (base now limit : ℕ) (Printed Refused : List ℕ → Type 0) (old : Told) (models : List ℕ) where

@@ -270,7 +270,7 @@ module _ (summary : Bool) (f : Frame) (old : Told) (i : ℕ) (lt : i < length ol
       subst (λ (bs : List ℕ). IsAt (t + n) bs now (h.told ++ p.told)) (sym piece) (at_more t n lines now h.told (take t log) (take n buf) x y text (length-take-le n buf few) h.at p) in
       let takes = takes_append f h.start x y (at_start f.texts) h.told p.told h.text text h.takes
       (p.takes f (after_all (setting_of f) (at_start f.texts) h.told) h.takes.state) in
-      cut_short mid new last limit t n x y lines buf text stop either h r room few pos k w
+      (cut_short mid new last limit t n x y lines buf text stop either h r room few pos k w)
       (inl (
         t + n,
         omega arith,

@@ -56,7 +56,7 @@ same_short (Plain n bytes) h = h
 pub given_short : (old new : Reader) (g : Given) → old.limit ≡ 4096 → Gives old g new → IsShort g
 given_short old new g e h =
     let first = h.ahead [] (λ q. refl) in
-    same_short g (subst (λ (n : ℕ). IsShortBy n g) e (first_short old.limit old.number (lines_of (old.rest ++ [])) g (ahead new []) first))
+    (same_short g (subst (λ (n : ℕ). IsShortBy n g) e (first_short old.limit old.number (lines_of (old.rest ++ [])) g (ahead new []) first)))
 
 -- one more line behind those that were taken
 after_more : (c : Setting) (s : State) (gs : List Given) (g : Given) → after_all c s (gs ++ g ∷ []) ≡ (after_given c (after_all c s gs) g).0

@@ -61,7 +61,9 @@ pub fn drop_front(held: &mut Vec<u8>, count: usize)
     requires { count ≤ length held.old.items }
     ensures { held.new.items ≡ drop count held.old.items }
 {
-    let _ = held.drain(..count);
+    let rest = held.len() - count;
+    held.copy_within(count.., 0);
+    held.truncate(rest);
 }
 
 /// The line of these bytes.
