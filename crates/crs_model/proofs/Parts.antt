@@ -91,7 +91,8 @@ module _ {S : Type 0} where
 
     pub go_on_back : CanGoOn c level b g → CanGoOn c level a h
     go_on_back k = (
-      k.0, agrees_part a b k.0 part k.1,
+      k.0,
+      (agrees_part a b k.0 part k.1),
       k.2,
       λ f w. elim (cases_of (at b f)) [
         | inl n ↦ earlier (k.0 f) (k.3 f (still_awaited f w n))

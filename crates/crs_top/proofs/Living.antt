@@ -81,8 +81,10 @@ module _ (texts : List (List ℕ)) (distinct : AreDistinct texts) (settled : Lis
   stores_live (p ∷ ps) [] proper of unfocused at = absurd at
   stores_live (p ∷ ps) (s ∷ ss) proper of unfocused at = (
     length s.held,
-    sum (map (λ s. length s.held) ss), store_live p s proper.0 of.0 unfocused.0 at.0,
-    stores_live ps ss proper.1 of.1 unfocused.1 at.1, sum_more (length s.held) (map (λ s. length s.held) ss),
+    sum (map (λ s. length s.held) ss),
+    (store_live p s proper.0 of.0 unfocused.0 at.0),
+    stores_live ps ss proper.1 of.1 unfocused.1 at.1,
+    (sum_more (length s.held) (map (λ s. length s.held) ss)),
   )
 
 -- how many partial assignments an engine holds
