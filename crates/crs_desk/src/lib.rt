@@ -15,6 +15,6 @@ mod whole;
 pub use calm::CalmDesk;
 pub use desk::{Desk, DeskError};
 pub use memory::MemoryDesk;
-pub use real::RealDesk;
+pub use real::{Fault, RealDesk};
 pub use turn::Turn;
 pub use whole::{ReadAllError, read_all, write_all};

@@ -1,13 +1,26 @@
 // Files and standard output, which tell no contents.
-ghost use Rattle.std.specs.Prelude.{◌≡◌, ◌<◌, ◌≤◌, ◌+◌, ◌^◌};
+ghost use Rattle.std.specs.Prelude.{◌≡◌, ◌<◌, ◌≤◌, ◌+◌, ◌^◌, length, IfOk};
 
 use crate::{Desk, DeskError};
 use std::fs;
-use std::io::{Print, Read};
+use std::io::{self, ErrorKind, Print, Read};
 use std::random::RandomSource;
 use std::rt::Files;
 
 const SLOTS: usize = 16;
+
+/// How often a call that is only interrupted is made.
+const TRIES: usize = 1000;
+
+/// A call of the outside that failed.
+#[derive(Clone, Copy)]
+pub struct Fault {
+    /// The number of the input, which is the next one where it could not be opened, or None for
+    /// standard output.
+    pub input: Option<u32>,
+    /// What the system said, where it said anything.
+    pub error: Option<io::Error>,
+}
 
 /// The files of the system as inputs, and standard output.
 ///
@@ -20,6 +33,7 @@ pub struct RealDesk<R: Files + Print + RandomSource + Drop> {
     in_faults: u64,
     out_faults: u64,
     seed: u64,
+    fault: Option<Fault>,
     ghost few: { count ≤ 16 },
 }
 
@@ -43,6 +57,7 @@ impl<R: Files + Print + RandomSource + Drop> RealDesk<R> {
         RealDesk {
             rt,
             seed,
+            fault: None,
             inputs: [
                 None, None, None, None, None, None, None, None, None, None, None, None, None, None,
                 None, None,
@@ -51,6 +66,39 @@ impl<R: Files + Print + RandomSource + Drop> RealDesk<R> {
             in_faults: 0,
             out_faults: 0,
         }
+    }
+}
+
+/// Reads some bytes. A read that is only interrupted is made again.
+fn read_some<F: Read>(file: &mut F, buf: &mut [u8]) -> io::Result<usize>
+    ensures { IfOk result (λ n. n ≤ length buf.new) }
+{
+    for _ in 0..TRIES {
+        match file.read(buf) {
+            Err(error) if error.kind() == ErrorKind::Interrupted => {}
+            answer => return answer,
+        }
+    }
+    Err(io::Error::from(ErrorKind::Interrupted))
+}
+
+/// Writes some bytes. A write that is only interrupted is made again.
+fn write_some<R: Print>(rt: &R, bytes: &[u8]) -> io::Result<usize>
+    ensures { IfOk result (λ n. n ≤ length bytes.now) }
+{
+    for _ in 0..TRIES {
+        match rt.write_some(bytes) {
+            Err(error) if error.kind() == ErrorKind::Interrupted => {}
+            answer => return answer,
+        }
+    }
+    Err(io::Error::from(ErrorKind::Interrupted))
+}
+
+impl<R: Files + Print + RandomSource + Drop> RealDesk<R> {
+    /// The last call that failed, if one did.
+    pub fn fault(&self) -> Option<Fault> {
+        self.fault
     }
 }
 
@@ -73,17 +121,21 @@ impl<R: Files + Print + RandomSource + Drop> Desk for RealDesk<R> {
     fn open(&mut self, name: &str) -> Result<u32, DeskError> {
         let number = self.count;
         let opened = if (number as usize) < SLOTS {
-            fs::open(&self.rt, name).ok()
+            fs::open(&self.rt, name)
         } else {
-            None
+            Err(io::Error::from(ErrorKind::Other))
         };
         match opened {
-            Some(file) => {
+            Ok(file) => {
                 self.inputs[number as usize] = Some(file);
                 self.count = number + 1;
                 Ok(number)
             }
-            None => {
+            Err(error) => {
+                self.fault = Some(Fault {
+                    input: Some(number),
+                    error: Some(error),
+                });
                 self.in_faults = self.in_faults.saturating_add(1);
                 Err(DeskError::Failed)
             }
@@ -91,11 +143,17 @@ impl<R: Files + Print + RandomSource + Drop> Desk for RealDesk<R> {
     }
 
     fn read(&mut self, input: u32, buf: &mut [u8]) -> Result<usize, DeskError> {
-        if let Some(file) = &mut self.inputs[input as usize]
-            && let Ok(count) = file.read(buf)
-        {
-            return Ok(count);
+        let mut said = None;
+        if let Some(file) = &mut self.inputs[input as usize] {
+            match read_some(file, buf) {
+                Ok(count) => return Ok(count),
+                Err(error) => said = Some(error),
+            }
         }
+        self.fault = Some(Fault {
+            input: Some(input),
+            error: said,
+        });
         self.in_faults = self.in_faults.saturating_add(1);
         Err(DeskError::Failed)
     }
@@ -106,12 +164,16 @@ impl<R: Files + Print + RandomSource + Drop> Desk for RealDesk<R> {
 
     // Standard output that takes no byte is a fault: the caller would try forever.
     fn write(&mut self, bytes: &[u8]) -> Result<usize, DeskError> {
-        match self.rt.write_some(bytes) {
-            Ok(count) if count > 0 => Ok(count),
-            _ => {
-                self.out_faults = self.out_faults.saturating_add(1);
-                Err(DeskError::Failed)
-            }
-        }
+        let said = match write_some(&self.rt, bytes) {
+            Ok(count) if count > 0 => return Ok(count),
+            Ok(_) => None,
+            Err(error) => Some(error),
+        };
+        self.fault = Some(Fault {
+            input: None,
+            error: said,
+        });
+        self.out_faults = self.out_faults.saturating_add(1);
+        Err(DeskError::Failed)
     }
 }

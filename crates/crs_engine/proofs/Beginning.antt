@@ -6,12 +6,18 @@ use Rattle.std.proofs.lemmas.List.{map-append, take_more}
 use Rattle.crs_model.specs.declared.plan.Plan.{Plan}
 use Rattle.crs_history.specs.Histories.{HistoryState, lowest, IsFarBack}
 use Rattle.crs_store.specs.Stores.{StoreState, Stands}
-use Rattle.std.specs.Prelude.{false, ℤ}
+use Rattle.std.specs.Prelude.{◌^◌, false, ℤ, ◌≤ℤ◌, Option, Some, None}
+use Rattle.std.proofs.lemmas.Int.{ints}
+use Rattle.crs_base.specs.Entry.{IsInKeyOrder}
+use Rattle.crs_base.proofs.Alls.{all_each}
+use Rattle.crs_model.specs.Plans.{IsProper}
+use Rattle.crs_model.specs.Reach.{IsReachOfAll, IsSmallSpan}
+use Rattle.crs_engine.proofs.Floors.{small_span}
 use Rattle.crs_base.specs.declared.symbols.Sym.{Sym}
 use Rattle.crs_base.specs.Entry.{Entry}
 use Rattle.crs_base.proofs.Alls.{all_put}
 use Rattle.crs_model.specs.declared.plan.Plans.{Plans}
-use Rattle.crs_engine.specs.Engines.{StandsFor, AreStoresOf, plans_of}
+use Rattle.crs_engine.specs.Engines.{StandsFor, AreStoresOf, IsEngine, IsWaiting, plans_of, reaches_of, floor_at}
 use Rattle.crs_engine.proofs.Marking.{stores_at}
 
 abbrev pub planned : List (Rc Plan Global) → List Plan
@@ -59,3 +65,33 @@ new_stands plans stores limit of stand past none ws e = record {
   far_back = all_far (ap (λ (h : HistoryState). h.floor) none) (plans_of plans);
   stores = stores_at [] 0 (plans_of plans) 0 stores of stand;
 }
+
+pub plans_proper : (rs : List (Rc Plan Global)) → AllByRecursion (λ r. IsProper r.value) rs → AllByRecursion (λ p. IsProper p) (planned rs)
+plans_proper [] h = tt
+plans_proper (r ∷ rs) h = (h.0, plans_proper rs h.1)
+
+from_lowest : (all : Option ℤ) → IsSmallSpan all → lowest ≤ℤ floor_at all 0
+from_lowest None k = omega (arith, ints)
+from_lowest (Some d) k = omega (arith, ints)
+
+pub new_engine : (plans : Plans) (stores : List StoreState) (limit : ℕ) → AreStoresOf (plans_of plans) 0 stores → AllByRecursion (λ p. IsProper p) (plans_of plans) → IsReachOfAll (reaches_of plans) plans.reach → limit < 2 ^ 32 →
+    (past : HistoryState) → past ≡ record { entries = []; floor = lowest } → (ws : List (Entry Sym)) → ws ≡ [] →
+    IsEngine (record { plans = plans; stores = stores; history = past; waiting = ws; delay = 0; last = 0; horizon = 0; accepted = 0; limit = limit; stopped = false })
+new_engine plans stores limit of proper reach limited past none ws e =
+    let small = small_span plans.reach (plans_of plans) reach (all_each {P = IsProper} (plans_of plans) (λ p k. k.small) proper) in
+    let floor : past.floor ≡ lowest = ap (λ (h : HistoryState). h.floor) none in
+    record {
+      stores = of;
+      waiting = subst (AllByRecursion (IsWaiting 0)) (sym e) tt;
+      few = omega arith;
+      limited = limited;
+      not_late = omega arith;
+      behind = λ l. omega arith;
+      in_order = subst (λ (t : List (Entry Sym)). IsInKeyOrder (t ++ ws)) (sym (ap (λ (h : HistoryState). h.entries) none)) (subst IsInKeyOrder (sym e) tt);
+      reach = reach;
+      small = small;
+      due = subst (AllByRecursion (λ x. 0 ≤ x.date)) (sym e) tt;
+      least = subst (λ (z : ℤ). lowest ≤ℤ z) (sym floor) (omega (arith, ints));
+      needed = subst (λ (z : ℤ). z ≤ℤ floor_at plans.reach 0) (sym floor) (from_lowest plans.reach small);
+      settled = λ running. subst (AllByRecursion (λ x. x.date < 0)) (sym (ap (λ (h : HistoryState). h.entries) none)) tt;
+    }

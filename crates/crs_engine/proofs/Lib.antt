@@ -3,3 +3,5 @@ pub mod Beginning
 pub mod Order
 pub mod Accepting
 pub mod Marking
+pub mod Floors
+pub mod Forgetting

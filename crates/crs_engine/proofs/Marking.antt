@@ -22,11 +22,12 @@ use Rattle.crs_model.specs.Plans.{chronicle}
 use Rattle.crs_model.specs.Seen.{assignment_of}
 use Rattle.crs_store.specs.Stores.{StoreState, Stands}
 use Rattle.crs_store.specs.Answers.{IsAnswer, IsMarked}
-use Rattle.std.specs.Prelude.{ℤ, pos, ◌≤ℤ◌, false, Result, Ok, Err, IfOk, OnOk}
-use Rattle.crs_history.specs.Histories.{HistoryState, IsFarBack, StandsFor as HistoryStandsFor}
+use Rattle.std.specs.Prelude.{ℤ, ◌≤ℤ◌, false, Result, Ok, Err, IfOk, OnOk}
+use Rattle.crs_history.specs.Histories.{HistoryState, lowest, IsFarBack, StandsFor as HistoryStandsFor}
 use Rattle.crs_model.specs.Models.{Chronicle}
 use Rattle.crs_engine.specs.declared.refused.Refused.{Refused}
-use Rattle.crs_engine.specs.Engines.{HasMoved, EngineState, StandsFor, HaveNumbersBelow, IsStoreAt, AreStoresOf, IsWaiting, IsEngine, plans_of, since}
+use Rattle.crs_engine.specs.Engines.{HasMoved, EngineState, StandsFor, HaveNumbersBelow, IsStoreAt, AreStoresOf, IsWaiting, IsEngine, plans_of, floor_at, since}
+use Rattle.crs_engine.proofs.Floors.{floor_later}
 use Rattle.crs_engine.specs.Marks.{ListsNew, ListsAllNew, AfterMark}
 use Rattle.crs_engine.specs.Moves.{AreSameStores, AreOffered, HasPut, AreOfferedAll, AreAdvanced, AreMarked, IsRestOf}
 use Rattle.crs_engine.proofs.Order.{numbers_few, ordered_left, ordered_right, ordered_cross, before_parts, since_parts}
@@ -251,8 +252,9 @@ rest_waiting n held rest h r = all_right (IsWaiting n) r.0 rest (subst (AllByRec
 
 pub engine_on : (seen : EngineState) (news : List StoreState) (now : HistoryState) (rest : List (Entry Sym)) (t h : ℕ) (stopped : Bool) → IsEngine seen → AreSameStores seen.stores news → IsRestOf seen.waiting rest → h ≤ 2 ^ 42 → (t < 2 ^ 40 → h ≤ t - seen.delay) →
     IsInKeyOrder (now.entries ++ rest) → now.floor ≡ seen.history.floor → (stopped ≡ false → AllByRecursion (λ x. x.date < h) now.entries) →
+    seen.horizon ≤ h → AllByRecursion (λ x. h ≤ x.date) rest →
     IsEngine (record { plans = seen.plans; stores = news; history = now; waiting = rest; delay = seen.delay; last = t; horizon = h; accepted = seen.accepted; limit = seen.limit; stopped = stopped })
-engine_on seen news now rest t h stopped is same r low behind order floor settled = record {
+engine_on seen news now rest t h stopped is same r low behind order floor settled later due = record {
   stores = stores_same (plans_of seen.plans) 0 seen.stores news is.stores same;
   waiting = rest_waiting seen.accepted seen.waiting rest is.waiting r;
   few = is.few;
@@ -260,9 +262,16 @@ engine_on seen news now rest t h stopped is same r low behind order floor settle
   not_late = low;
   behind = behind;
   in_order = order;
-  low = subst (λ (z : ℤ). z ≤ℤ pos 0) (sym floor) is.low;
+  reach = is.reach;
+  small = is.small;
+  due = due;
+  least = subst (λ (z : ℤ). lowest ≤ℤ z) (sym floor) is.least;
+  needed = subst (λ (z : ℤ). z ≤ℤ floor_at seen.plans.reach h) (sym floor) (floor_later seen.plans.reach seen.horizon h seen.history.floor later is.needed);
   settled = settled;
 }
+
+pub rest_due : (h : ℕ) (held rest : List (Entry Sym)) → AllByRecursion (λ x. h ≤ x.date) held → IsRestOf held rest → AllByRecursion (λ x. h ≤ x.date) rest
+rest_due h held rest all r = all_right (λ x. h ≤ x.date) r.0 rest (subst (AllByRecursion (λ x. h ≤ x.date)) r.1 all)
 
 pub marked_from : (seen old : EngineState) (news : List StoreState) (now : HistoryState) (rest : List (Entry Sym)) (t h : ℕ) (stopped : Bool) (mark : Mark) (answer : List Recognition) → seen ≡ old → IsEngine seen → seen.horizon ≤ h → AreMarked h mark seen.stores seen.history seen.waiting news now rest answer → AreSameStores seen.stores news → now.floor ≡ seen.history.floor →
     (s w : List (Entry Sym)) → StandsFor old s w → AfterMark old (record { plans = seen.plans; stores = news; history = now; waiting = rest; delay = seen.delay; last = t; horizon = h; accepted = seen.accepted; limit = seen.limit; stopped = stopped }) mark s w answer

@@ -1,6 +1,7 @@
 -- The entries that are settled one after another, and all stores' part in it.
-use Rattle.std.proofs.Common.{◌≡◌, ℕ, ◌<◌, ◌^◌, List, [], ◌∷◌, ◌++◌, refl, sym, ap, subst, ◌∙◌, inl, append_assoc, append-nil, cond, nat_lt, Bool, true, false}
-use Rattle.std.specs.Prelude.{Some, None}
+use Rattle.std.proofs.Common.{◌≡◌, ℕ, ◌<◌, ◌^◌, List, [], ◌∷◌, ◌++◌, refl, sym, ap, subst, ◌∙◌, inl, arith, append_assoc, append-nil, cond, nat_lt, Bool, true, false}
+use Rattle.std.specs.Prelude.{Some, None, pos, ◌≤ℤ◌}
+use Rattle.std.proofs.lemmas.Int.{ints}
 use Rattle.std.specs.List.{AllByRecursion}
 use Rattle.std.proofs.lemmas.Bool.{ltb-true}
 use Rattle.crs_base.specs.declared.symbols.Sym.{Sym}
@@ -53,10 +54,11 @@ pub record AreSettledSoFar (olds : List StoreState) (past : HistoryState) (held 
   pub kept : now.entries ≡ past.entries ++ done
   pub order : IsInKeyOrder (now.entries ++ rest)
   pub floor : now.floor ≡ past.floor
+  pub due : AllByRecursion (λ x. past.floor ≤ℤ pos x.date) rest
   pub offered : AreOfferedAll olds past done news now
 
-pub settled_none : (olds : List StoreState) (past : HistoryState) (held : List (Entry Sym)) (h : ℕ) → AllByRecursion IsSmall held → IsInKeyOrder (past.entries ++ held) → AreSettledSoFar olds past held h olds past held
-settled_none olds past held h small order = record {
+pub settled_none : (olds : List StoreState) (past : HistoryState) (held : List (Entry Sym)) (h : ℕ) → AllByRecursion IsSmall held → IsInKeyOrder (past.entries ++ held) → AllByRecursion (λ x. past.floor ≤ℤ pos x.date) held → AreSettledSoFar olds past held h olds past held
+settled_none olds past held h small order due = record {
   same = same_all olds;
   small = small;
   done = [];
@@ -65,6 +67,7 @@ settled_none olds past held h small order = record {
   kept = sym (append-nil past.entries);
   order = order;
   floor = refl;
+  due = due;
   offered = (refl, refl);
 }
 
@@ -98,6 +101,10 @@ module _ (olds : List StoreState) (past : HistoryState) (held : List (Entry Sym)
   -- the entry comes after the history
   pub comes_last : (y : Entry Sym) → y ≡ x → IsAfterAll now.entries y
   comes_last y s = subst (IsAfterAll now.entries) (sym s) (each_from_in (λ d. entry_cmp d x ≡ Less) now.entries (λ d i. ordered_cross (λ a b. entry_cmp a b ≡ Less) now.entries (x ∷ after) order_cut d x i (inl refl)))
+
+  -- the entry isn't before the floor
+  pub not_early : (y : Entry Sym) → y ≡ x → now.floor ≤ℤ pos y.date
+  not_early y s = let l = (subst (AllByRecursion (λ y. past.floor ≤ℤ pos y.date)) cut so.due).0 in let f = so.floor in let d = ap (λ (e : Entry Sym). e.date) s in omega (arith, ints, f, d)
 
   -- without the entry
   pub order_without : IsInKeyOrder (now.entries ++ after)
@@ -133,6 +140,7 @@ module _ (olds : List StoreState) (past : HistoryState) (held : List (Entry Sym)
         kept = entries_are ∙ ap (λ (t : List (Entry Sym)). t ++ x ∷ []) so.kept ∙ append_assoc past.entries so.done (x ∷ []);
         order = order_with;
         floor = floor_with;
+        due = (subst (AllByRecursion (λ y. past.floor ≤ℤ pos y.date)) cut so.due).1;
         offered = offered_more olds past so.done x news now next pushed so.offered put_last same offered;
       }
 

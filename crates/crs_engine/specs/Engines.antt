@@ -1,5 +1,5 @@
 -- Engines, and what they stand for.
-use Rattle.std.specs.Prelude.{◌≡◌, ◌<◌, ◌≤◌, ◌≤ℤ◌, pos, ◌+◌, ◌-◌, ◌^◌, ◌↔◌, ℕ, suc, List, [], ◌∷◌, ◌++◌, map, filter, not, nat_lt, min, max, sum, length, Bool, false}
+use Rattle.std.specs.Prelude.{◌≡◌, ◌<◌, ◌≤◌, ◌≤ℤ◌, ◌-ℤ◌, pos, ◌+◌, ◌-◌, ◌^◌, ◌↔◌, ℕ, ℤ, suc, Option, Some, None, List, [], ◌∷◌, ◌++◌, map, filter, not, nat_lt, min, max, sum, length, Bool, false}
 use Rattle.std.specs.List.{AllByRecursion, AllZip}
 use Rattle.std.specs.declared.cmp.Ordering.TheVariants.{Less}
 use Rattle.crs_base.specs.declared.symbols.Sym.{Sym}
@@ -8,7 +8,8 @@ use Rattle.crs_base.specs.Entry.{Entry, entry_cmp, IsInKeyOrder}
 use Rattle.crs_model.specs.declared.plan.Plan.{Plan}
 use Rattle.crs_model.specs.declared.plan.Plans.{Plans}
 use Rattle.crs_model.specs.Matching.{AreDistinct}
-use Rattle.crs_history.specs.Histories.{HistoryState, IsFarBack, StandsFor as HistoryStandsFor}
+use Rattle.crs_model.specs.Reach.{IsReachOfAll, IsSmallSpan}
+use Rattle.crs_history.specs.Histories.{HistoryState, lowest, IsFarBack, StandsFor as HistoryStandsFor}
 use Rattle.crs_store.specs.Stores.{StoreState, Stands}
 
 -- an engine, as contracts see it
@@ -26,6 +27,15 @@ pub record EngineState : Type 0 where
 
 abbrev pub plans_of : Plans → List Plan
 plans_of ps = map (λ r. r.value) ps.plans
+
+-- the reach of each plan
+abbrev pub reaches_of : Plans → List (Option ℤ)
+reaches_of ps = map (λ p. p.reach) (plans_of ps)
+
+-- the floor of the history after a mark: the horizon less the reach, and the first floor of all where the reach is infinite
+abbrev pub floor_at : Option ℤ → ℕ → ℤ
+floor_at None h = lowest
+floor_at (Some reach) h = pos h -ℤ reach
 
 module _ {S : Type 0} where
   -- the entries dated at or after h
@@ -91,7 +101,11 @@ pub record IsEngine (e : EngineState) : Type 0 where
   pub not_late : e.horizon ≤ 2 ^ 42
   pub behind : e.last < 2 ^ 40 → e.horizon ≤ e.last - e.delay
   pub in_order : IsInKeyOrder (e.history.entries ++ e.waiting)
-  pub low : e.history.floor ≤ℤ pos 0
+  pub reach : IsReachOfAll (reaches_of e.plans) e.plans.reach
+  pub small : IsSmallSpan e.plans.reach
+  pub due : AllByRecursion (λ x. e.horizon ≤ x.date) e.waiting
+  pub least : lowest ≤ℤ e.history.floor
+  pub needed : e.history.floor ≤ℤ floor_at e.plans.reach e.horizon
   pub settled : e.stopped ≡ false → AllByRecursion (λ x. x.date < e.horizon) e.history.entries
 
 -- an entry was accepted

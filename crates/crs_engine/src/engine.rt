@@ -6,13 +6,14 @@ ghost use Rattle.crs_base.specs.Seen.{entry_of};
 ghost use Rattle.crs_model.specs.Order.{put_in_order};
 ghost use Rattle.crs_model.specs.Plans.{IsProper};
 ghost use Rattle.crs_model.specs.declared.recognition.Mark.TheVariants.{Clock, Finish};
-ghost use Rattle.crs_engine.specs.Engines.{EngineState, StandsFor, IsNewEngine, HasAccepted, HasMoved, kept_of};
+ghost use Rattle.crs_engine.specs.Engines.{EngineState, StandsFor, IsNewEngine, HasAccepted, HasMoved, kept_of, reaches_of, floor_at};
+ghost use Rattle.crs_model.specs.Reach.{IsReachOfAll};
 ghost use Rattle.crs_engine.specs.Refusals.{test_refusal, accept_refusal, clock_refusal, finish_refusal, answer_by, IsRefusedAs};
 ghost use Rattle.crs_engine.specs.Marks.{AfterMark};
 ghost use Rattle.crs_engine.specs.declared.refused.Refused.{Refused};
 ghost use Rattle.crs_engine.specs.declared.refused.Refused.TheVariants.{Memory};
 
-use crate::moving::{hold, mark_all};
+use crate::moving::{forget_behind, hold, mark_all};
 use crate::refused::Refused;
 use crate::starting::stores_of;
 use crate::sums::kept_by;
@@ -62,6 +63,7 @@ impl Engine {
         requires unfocused { focus ≡ false }
         requires proper { AllByRecursion (λ r. IsProper r.value) plans.plans }
         requires few { length plans.plans ≤ 64 }
+        requires reach { IsReachOfAll (reaches_of plans) plans.reach }
         ensures new { IfOk result (IsNewEngine plans limit) }
         ensures stands { IfOk result (λ e. StandsFor e [] []) }
     {
@@ -195,6 +197,7 @@ impl Engine {
         ensures unchanged { IsSome (clock_refusal self.old t) → self.new ≡ self.old }
         ensures raised { IsTrue self.new.stopped ↔ (IsTrue self.old.stopped ⊎ (result ≡ Err Memory)) }
         ensures moved { OnOk result (HasMoved self.old self.new t (t - self.old.delay)) }
+        ensures forgets { OnOk result (self.new.history.floor ≡ floor_at self.old.plans.reach self.new.horizon) }
         ensures marked { IfOk result (λ answer. (settled : Items (LogEntry Sym)) (waiting : Items (LogEntry Sym)) → StandsFor self.old settled waiting → AfterMark self.old self.new (Clock t) settled waiting answer) }
     {
         if self.stopped {
@@ -204,7 +207,7 @@ impl Engine {
             return Err(Refused::Back { t, last: self.last });
         }
         let h = t.saturating_sub(self.delay);
-        self.move_on(t, h, Mark::Clock(t), steps)
+        self.mark(t, h, Mark::Clock(t), steps)
     }
 
     /// Settles all entries, and answers what is newly recognised. From then on each date is late,
@@ -214,13 +217,48 @@ impl Engine {
         ensures unchanged { IsSome (finish_refusal self.old) → self.new ≡ self.old }
         ensures raised { IsTrue self.new.stopped ↔ (IsTrue self.old.stopped ⊎ (result ≡ Err Memory)) }
         ensures moved { OnOk result (HasMoved self.old self.new (2 ^ 42) (2 ^ 42)) }
+        ensures forgets { OnOk result (self.new.history.floor ≡ floor_at self.old.plans.reach self.new.horizon) }
         ensures marked { IfOk result (λ answer. (settled : Items (LogEntry Sym)) (waiting : Items (LogEntry Sym)) → StandsFor self.old settled waiting → AfterMark self.old self.new Finish settled waiting answer) }
         ensures again { self.old.horizon ≡ 2 ^ 42 → IfOk result (λ answer. (settled : Items (LogEntry Sym)) (waiting : Items (LogEntry Sym)) → StandsFor self.old settled waiting → answer ≡ []) }
     {
         if self.stopped {
             return Err(Refused::Stopped);
         }
-        self.move_on(END, END, Mark::Finish, steps)
+        self.mark(END, END, Mark::Finish, steps)
+    }
+
+    /// Takes a mark, and forgets what is then no longer needed.
+    fn mark<L: Ledger>(
+        &mut self,
+        t: u64,
+        h: u64,
+        mark: Mark,
+        steps: &mut Steps<L>,
+    ) -> Result<List<Recognition>, Refused>
+        requires running { self.old.stopped ≡ false }
+        requires forward { self.old.horizon ≤ h }
+        requires small { h ≤ 2 ^ 42 }
+        requires behind { t < 2 ^ 40 → h ≤ t - self.old.delay }
+        ensures refused { (r : Refused) → result ≡ Err r → r ≡ Memory }
+        ensures raised { IsTrue self.new.stopped ↔ (result ≡ Err Memory) }
+        ensures moved { OnOk result (HasMoved self.old self.new t h) }
+        ensures forgets { OnOk result (self.new.history.floor ≡ floor_at self.old.plans.reach self.new.horizon) }
+        ensures marked { IfOk result (λ answer. (settled : Items (LogEntry Sym)) (waiting : Items (LogEntry Sym)) → StandsFor self.old settled waiting → AfterMark self.old self.new mark settled waiting answer) }
+    {
+        let answer = self.move_on(t, h, mark, steps)?;
+        self.forget();
+        Ok(answer)
+    }
+
+    /// Forgets what lies further before the horizon than the reach, where that is finite.
+    fn forget(&mut self)
+        ensures same { self.new ≡ record self.old { history = self.new.history } }
+        ensures floor { self.new.history.floor ≡ floor_at self.old.plans.reach self.old.horizon }
+        ensures stands { (settled : Items (LogEntry Sym)) (waiting : Items (LogEntry Sym)) → StandsFor self.old settled waiting → StandsFor self.new settled waiting }
+    {
+        if let Some(reach) = self.plans.reach {
+            forget_behind(&mut self.history, self.horizon, reach);
+        }
     }
 
     /// Moves the clock on to `t`, and the horizon to `h`.

@@ -1,8 +1,10 @@
-ghost use Rattle.std.specs.Prelude.{◌≡◌, ◌<◌, ◌≤◌, ◌≤ℤ◌, ◌^◌, ◌++◌, pos, OnOk, OnErr, IfOk, List as Items};
+ghost use Rattle.std.specs.Prelude.{◌≡◌, ◌<◌, ◌≤◌, ◌≤ℤ◌, ◌<ℤ◌, ◌-ℤ◌, ◌^◌, ◌++◌, ℕ, pos, OnOk, OnErr, IfOk, List as Items};
+ghost use Rattle.std.specs.Int.{int_max};
 ghost use Rattle.std.specs.List.{AllByRecursion};
-ghost use Rattle.crs_base.specs.Entry.{IsInKeyOrder};
+ghost use Rattle.crs_base.specs.declared.symbols.Sym.{Sym};
+ghost use Rattle.crs_base.specs.Entry.{Entry as LogEntry, IsInKeyOrder};
 ghost use Rattle.crs_base.specs.Seen.{entry_of};
-ghost use Rattle.crs_history.specs.Histories.{EndsWith};
+ghost use Rattle.crs_history.specs.Histories.{EndsWith, StandsFor};
 ghost use Rattle.crs_model.specs.declared.recognition.Recognition.{Recognition};
 ghost use Rattle.crs_engine.specs.Moves.{AreSameStores, AreOffered, AreSettled, IsRestOf, AreAdvanced, AreMarked};
 ghost use Rattle.crs_buffer.specs.Entries.{IsNewKey};
@@ -50,7 +52,7 @@ pub(crate) fn settle<L: Ledger>(
 ) -> Result<(), NoMemory>
     requires small { AllByRecursion (λ x. x.date < 2 ^ 40) buffer.old }
     requires order { IsInKeyOrder (history.old.entries ++ buffer.old) }
-    requires low { history.old.floor ≤ℤ pos 0 }
+    requires due { AllByRecursion (λ x. history.old.floor ≤ℤ pos x.date) buffer.old }
     ensures same { AreSameStores stores.old stores.new }
     ensures rest { IsRestOf buffer.old buffer.new }
     ensures order { IsInKeyOrder (history.new.entries ++ buffer.new) }
@@ -125,7 +127,7 @@ pub(crate) fn mark_all<L: Ledger>(
 ) -> Result<List<Recognition>, NoMemory>
     requires small { AllByRecursion (λ x. x.date < 2 ^ 40) buffer.old }
     requires order { IsInKeyOrder (history.old.entries ++ buffer.old) }
-    requires low { history.old.floor ≤ℤ pos 0 }
+    requires due { AllByRecursion (λ x. history.old.floor ≤ℤ pos x.date) buffer.old }
     requires horizon { h ≤ 2 ^ 42 }
     ensures same { AreSameStores stores.old stores.new }
     ensures rest { IsRestOf buffer.old buffer.new }
@@ -136,6 +138,19 @@ pub(crate) fn mark_all<L: Ledger>(
     settle(stores, history, buffer, h, steps)?;
     let answer = advance(alloc, stores, history, h, mark)?;
     Ok(answer)
+}
+
+/// Forgets what lies further before the horizon `h` than the reach.
+pub(crate) fn forget_behind(history: &mut History, h: u64, reach: i64)
+    requires least { pos 0 ≤ℤ reach }
+    requires most { reach <ℤ pos (2 ^ 45) }
+    requires small { h ≤ 2 ^ 42 }
+    ensures floor { history.new.floor ≡ int_max history.old.floor (pos h -ℤ reach) }
+    ensures stands { (settled : Items (LogEntry Sym)) → StandsFor settled history.old → StandsFor settled history.new }
+    ensures order { (waiting : Items (LogEntry Sym)) → IsInKeyOrder (history.old.entries ++ waiting) → IsInKeyOrder (history.new.entries ++ waiting) }
+    ensures dated { (t : ℕ) → AllByRecursion (λ x. x.date < t) history.old.entries → AllByRecursion (λ x. x.date < t) history.new.entries }
+{
+    history.forget_before(h as i64 - reach);
 }
 
 /// Puts the entry into the buffer.

@@ -1,6 +1,8 @@
-ghost use Rattle.std.specs.Prelude.{◌≡◌, ◌<◌, ◌≤◌, ◌^◌, [], length, None, IfOk};
+ghost use Rattle.std.specs.Prelude.{◌≡◌, ◌<◌, ◌≤◌, ◌^◌, [], pos, length, None, Some, IfOk};
 ghost use Rattle.std.specs.List.{AllByRecursion};
 ghost use Rattle.crs_model.specs.Plans.{IsProper};
+ghost use Rattle.crs_model.specs.Reach.{IsReachOfAll};
+ghost use Rattle.crs_engine.specs.Engines.{reaches_of};
 ghost use Rattle.crs_instance.specs.Fixtures.{IsPlain, IsFixture, spaced};
 
 use crate::{Engine, Refused};
@@ -68,7 +70,8 @@ fn a_then_b(alloc: Global) -> Result<Chronicle, AllocError>
 }
 
 fn plan(alloc: Global) -> Result<Rc<Plan>, AllocError>
-    ensures { IfOk result (λ r. IsProper r.value) }
+    ensures proper { IfOk result (λ r. IsProper r.value) }
+    ensures reach { IfOk result (λ r. r.value.reach ≡ Some (pos 5)) }
 {
     let chronicle = a_then_b(alloc)?;
     match Network::close(alloc, 2, chronicle.bounds.as_slice()) {
@@ -87,6 +90,7 @@ fn plan(alloc: Global) -> Result<Rc<Plan>, AllocError>
 fn plans(alloc: Global) -> Result<Plans, AllocError>
     ensures proper { IfOk result (λ p. AllByRecursion (λ r. IsProper r.value) p.plans) }
     ensures few { IfOk result (λ p. length p.plans ≤ 64) }
+    ensures reach { IfOk result (λ p. IsReachOfAll (reaches_of p) p.reach) }
 {
     let mut plans = List::new(alloc);
     plans.push(plan(alloc)?)?;
@@ -188,6 +192,24 @@ fn recognises_in_order(rt: HostRuntime) -> Result<(), Fail> {
     assert!(rt; tells(&answer, 0, 0, 1, 6));
     assert!(rt; tells(&answer, 1, 0, 2, 6));
     assert_eq!(rt; engine.kept(), 4);
+    // a at 1 lies further back than the reach
+    assert_eq!(rt; engine.history().len(), 3);
+    Ok(())
+}
+
+#[test]
+fn the_history_reaches_back_from_the_horizon(rt: HostRuntime) -> Result<(), Fail> {
+    let alloc = rt.alloc();
+    let mut engine = Engine::new(alloc, plans(alloc)?, false, 4)?;
+    for (date, name) in [(10, 0), (12, 1), (17, 0)] {
+        assert_eq!(rt; feed(&mut engine, alloc, date, name)?, Ok(()));
+    }
+    let _ = clock_apart::<Brand>(Blank::new(1), &mut engine, 17)?;
+    assert_eq!(rt; engine.history().len(), 1);
+    let _ = clock_apart::<Brand>(Blank::new(1), &mut engine, 22)?;
+    assert_eq!(rt; engine.history().len(), 1);
+    let _ = clock_apart::<Brand>(Blank::new(1), &mut engine, 23)?;
+    assert_eq!(rt; engine.history().len(), 0);
     Ok(())
 }
 

@@ -1,4 +1,3 @@
-pub mod Shifts
 pub mod Listed
 pub mod Grown
 pub mod Again

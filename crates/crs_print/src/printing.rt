@@ -227,7 +227,6 @@ fn put_values(out: &mut Vec<u8>, symbols: &Symbols, values: &[Sym]) -> Result<()
     }
 }
 
-#[tactic(auto, using(crate::proofs::Shifts::later_text, crate::proofs::Shifts::earlier_text, crate::proofs::Shifts::here_text))]
 fn put_shift(out: &mut Vec<u8>, offset: i64) -> Result<(), AllocError>
     ensures { OnOk result (out.new.items ≡ out.old.items ++ said.text_of (forms.shift_form (from.shift_from offset))) }
 {

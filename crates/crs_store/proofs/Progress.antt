@@ -167,9 +167,6 @@ each_window plan P f k = elim (cases_lt k (length plan.chronicle.windows)) [
   | inr g ↦ none_beyond (chronicle plan).windows k (P k) (let e = length-map plan.chronicle.windows window_of in omega arith)
 ]
 
-pub same_itself : (i : InstanceState) → IsSameInstance i i
-same_itself i = record { same = refl; len = refl }
-
 pub same_after : (a b c : InstanceState) → IsSameInstance a b → IsSameInstance b c → IsSameInstance a c
 same_after a b c s t = record {
   same = t.same ∙ (λ i. record (s.same i) { progress = c.progress });
@@ -192,34 +189,6 @@ still_of plan old new s of = subst (IsOf plan) (sym s.same) (record {
 
 pub has_same : (plan : Plan) (old new : InstanceState) → IsSameInstance old new → (entries : List (Entry Sym)) (d k : ℕ) (q : Progress) → HasAt plan old.partial old.binding entries d k q → HasAt plan new.partial new.binding entries d k q
 has_same plan old new s entries d k q h = subst (λ (i : InstanceState). HasAt plan i.partial i.binding entries d k q) (sym s.same) h
-
-pub stepped_none : (Step : ℕ → Progress → Type 0) (i : InstanceState) → AreStepped Step 0 i i
-stepped_none Step i = record { same = same_itself i; below = λ k l. absurd (omega arith); rest = λ k l. refl }
-
-pub stepped_on : (Step : ℕ → Progress → Type 0) (n : ℕ) (old cur next : InstanceState) (q : Progress) → AreStepped Step n old cur → n < length cur.progress → next ≡ record cur { progress = slice_set cur.progress n q } → Step n q → AreStepped Step (n + 1) old next
-stepped_on Step n old cur next q s l e step =
-    let progress : next.progress ≡ slice_set cur.progress n q = ap (λ (i : InstanceState). i.progress) e in
-    record {
-      same = same_after old cur next s.same (record {
-        same = e ∙ (λ i. record cur { progress = sym progress i });
-        len = ap length progress ∙ length-set cur.progress n q;
-      });
-      below = λ k m. elim (cases_lt k n) [
-        | inl b ↦ subst (Step k) (sym (ap (λ (ps : List Progress). progress_at ps k) progress ∙ get_or-set_other cur.progress n k q no_progress (λ f. omega (arith, f)))) (s.below k b)
-        | inr b ↦ (let f : k ≡ n = omega arith in subst (λ (j : ℕ). Step j (progress_at next.progress j)) (sym f) (subst (Step n) (sym (ap (λ (ps : List Progress). progress_at ps n) progress ∙ get_or-set_same cur.progress n q no_progress l)) step))
-      ];
-      rest = λ k m. ap (λ (ps : List Progress). progress_at ps k) progress ∙ get_or-set_other cur.progress n k q no_progress (λ f. omega (arith, f)) ∙ s.rest k (omega arith);
-    }
-
--- a step of the instance as it is now is one of the instance as it was
-pub settles_as : (plan : Plan) (x : Entry Sym) (old cur : InstanceState) (n : ℕ) (q : Progress) → IsSameInstance old cur → progress_at cur.progress n ≡ progress_at old.progress n → Settles plan x cur.partial cur.binding n (progress_at cur.progress n) q → Settles plan x old.partial old.binding n (progress_at old.progress n) q
-settles_as plan x old cur n q s e h = subst (λ (p : Progress). Settles plan x old.partial old.binding n p q) e (subst (λ (i : InstanceState). Settles plan x i.partial i.binding n (progress_at cur.progress n) q) s.same h)
-
-pub passes_as : (plan : Plan) (history : HistoryState) (since h : ℕ) (old cur : InstanceState) (n : ℕ) (q : Progress) → IsSameInstance old cur → progress_at cur.progress n ≡ progress_at old.progress n → Passes plan history since h cur.partial cur.binding n (progress_at cur.progress n) q → Passes plan history since h old.partial old.binding n (progress_at old.progress n) q
-passes_as plan history since h old cur n q s e k = subst (λ (p : Progress). Passes plan history since h old.partial old.binding n p q) e (subst (λ (i : InstanceState). Passes plan history since h i.partial i.binding n (progress_at cur.progress n) q) s.same k)
-
-pub begins_as : (plan : Plan) (history : HistoryState) (h : ℕ) (parent old cur : InstanceState) (n : ℕ) (q : Progress) → IsSameInstance old cur → Begins plan history h parent cur n q → Begins plan history h parent old n q
-begins_as plan history h parent old cur n q s k = subst (λ (i : InstanceState). Begins plan history h parent i n q) s.same k
 
 module _ (plan : Plan) (history : HistoryState) (since : ℕ) where
   pub passed_all : (h : ℕ) (old new : InstanceState) → AreStepped (λ k q. Passes plan history since h old.partial old.binding k (progress_at old.progress k) q) (length plan.chronicle.windows) old new → IsPassed plan history since h old new

@@ -88,7 +88,7 @@ fn recognise<D: Desk>(
         Ok(text) => text,
         Err(status) => return status,
     };
-    match prepare(alloc, text.as_slice(), limits) {
+    match prepare(alloc, text.as_slice(), limits, desk.seed()) {
         Ok(session) => follow(alloc, desk, log, limits.bytes, session, summary),
         Err(refused) => refuse(alloc, desk, refused),
     }

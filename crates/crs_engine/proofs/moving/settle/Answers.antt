@@ -5,11 +5,11 @@ use Rattle.crs_base.specs.declared.entry.Entry.{Entry as CodeEntry}
 use Rattle.crs_base.specs.Seen.{entry_of}
 use Rattle.crs_base.specs.Entry.{IsInKeyOrder}
 use Rattle.crs_history.specs.Histories.{HistoryState}
-use Rattle.crs_engine.proofs.Settling.{settled_none, settled_on, rest_of, same_on, comes_last, order_without, order_with, floor_with, ends_with}
+use Rattle.crs_engine.proofs.Settling.{settled_none, settled_on, rest_of, same_on, comes_last, order_without, order_with, floor_with, ends_with, not_early}
 use Rattle.crs_engine.proofs.moving.settle.Goals as goal
 
 pub loop-entry-init : goal.loop-entry-init
-loop-entry-init g c = settled_none c.args.stores.now c.args.history.now c.args.buffer.now c.args.h c.requires.small c.requires.order
+loop-entry-init g c = settled_none c.args.stores.now c.args.history.now c.args.buffer.now c.args.h c.requires.small c.requires.order c.requires.due
 
 pub returns-in_err-shared-clause-rest : goal.returns-in_err-shared-clause-rest
 returns-in_err-shared-clause-rest g c =
@@ -24,6 +24,12 @@ returns-in_err-shared-clause-order g c =
 pub push-requires-clause-after : goal.push-requires-clause-after
 push-requires-clause-after g c =
     comes_last c.args.stores.now c.args.history.now c.args.buffer.now c.args.h c.loop-entry.stores c.loop-entry.history c.loop-entry.buffer c.loop-entry.invariant (entry_of c.in-Some.entry.value) c.release_before.new.self
+    (sym c.release_before.ensures.first ∙ ap (λ (o : Option (Rc CodeEntry Global)). option_map (λ r. entry_of r.value) o) c.in-Some.is) c.release_before.ensures.rest
+    (entry_of c.in_ok-shared.shared.value) (ap entry_of (search rules))
+
+pub push-requires-clause-from_floor : goal.push-requires-clause-from_floor
+push-requires-clause-from_floor g c =
+    not_early c.args.stores.now c.args.history.now c.args.buffer.now c.args.h c.loop-entry.stores c.loop-entry.history c.loop-entry.buffer c.loop-entry.invariant (entry_of c.in-Some.entry.value) c.release_before.new.self
     (sym c.release_before.ensures.first ∙ ap (λ (o : Option (Rc CodeEntry Global)). option_map (λ r. entry_of r.value) o) c.in-Some.is) c.release_before.ensures.rest
     (entry_of c.in_ok-shared.shared.value) (ap entry_of (search rules))
 

@@ -6,8 +6,8 @@ use Rattle.crs_model.specs.Plans.{IsProper}
 use Rattle.crs_instance.proofs.Fixture.{fixture_proper}
 use Rattle.crs_engine.proofs.tests.plan.Goals as goal
 
-pub returns-in_ok-new-in-Ok : goal.returns-in_ok-new-in-Ok
-returns-in_ok-new-in-Ok c =
+pub returns-in_ok-new-in-Ok-clause-proper : goal.returns-in_ok-new-in-Ok-clause-proper
+returns-in_ok-new-in-Ok-clause-proper c =
     let n = c.in-Ok.network in
     subst IsProper (sym (c.in_ok-new-in-Ok.ensures {u = tt}).ok)
     (fixture_proper (record { chronicle = c.in_ok-chronicle.chronicle; network = n; reach = Some (pos 5) }) 1

@@ -5,10 +5,10 @@ use Rattle.crs_top.proofs.listing.read_text.Goals as goal
 
 pub returns-in_err-models-clause-refused : goal.returns-in_err-models-clause-refused
 returns-in_err-models-clause-refused c =
-    let p = err_from_is_err_and c.from_residual-in_err-models.result c.from_residual-in_err-models.ensures.1 in
-    rw (p.1, p.2) (read_faulty c.args.limit c.args.text.now c.in_err-models.field-0.0 (rw c.in_ok-symbols.ensures.ok at c.in_err-models.ensures.refused))
+    let p = err_from_is_err_and c.from_residual.result c.from_residual.ensures.1 in
+    rw (p.1, p.2) (read_faulty c.args.limit c.args.text.now c.in_err-models.field-0.0 (rw c.seeded-symbols.ensures at c.in_err-models.ensures.refused))
 
 pub returns-clause-ok : goal.returns-clause-ok
 returns-clause-ok c =
     let r = c.in_ok-models.ensures in
-    record { read = rw c.in_ok-symbols.ensures.ok at r.ok; numbered = r.numbered; proper = r.proper; distinct = r.distinct; limit = r.limit ∙ ap (λ t. t.limit) c.in_ok-symbols.ensures.ok }
+    record { read = rw c.seeded-symbols.ensures at r.ok; numbered = r.numbered; proper = r.proper; distinct = r.distinct; limit = r.limit ∙ ap (λ t. t.limit) c.seeded-symbols.ensures }

@@ -1,9 +1,10 @@
-use Rattle.std.proofs.Common.{arith, List, subst, sym, ap, ◌∙◌, ◌+◌, ◌++◌}
+use Rattle.std.proofs.Common.{arith, List, ◌≤◌, subst, sym, ap, ◌∙◌, ◌+◌, ◌++◌}
 use Rattle.std.specs.List.{AllByRecursion}
 use Rattle.crs_base.specs.declared.symbols.Sym.{Sym}
 use Rattle.crs_base.specs.Entry.{Entry, IsInKeyOrder}
 use Rattle.crs_base.specs.Seen.{entry_of}
 use Rattle.crs_engine.specs.Engines.{EngineState, IsWaiting}
+use Rattle.crs_engine.proofs.Order.{put_each}
 use Rattle.crs_engine.proofs.Accepting.{new_key, waiting_more, in_order_more, accepted_from}
 use Rattle.crs_engine.proofs.engine.Engine.accept.Goals as goal
 
@@ -23,7 +24,12 @@ invariant_of-self c =
       in_order = subst (λ (t : List (Entry Sym)). IsInKeyOrder (c.self.inside.history.entries ++ t)) (sym put)
           (in_order_more c.self.inside.history.entries c.self.inside.buffer (entry_of c.args.entry) c.self.inside.horizon c.self.invariant.in_order (c.self.invariant.settled c.if-self.false) c.if-entry-self.false
           (subst IsInKeyOrder put ((c.in-Ok.ensures {u = tt}).sorted)));
-      low = c.self.invariant.low;
+      reach = c.self.invariant.reach;
+      small = c.self.invariant.small;
+      due = subst (λ (t : List (Entry Sym)). AllByRecursion (λ x. c.self.inside.horizon ≤ x.date) t) (sym put)
+          (put_each (entry_of c.args.entry) (λ x. c.self.inside.horizon ≤ x.date) c.self.inside.buffer c.if-entry-self.false c.self.invariant.due);
+      least = c.self.invariant.least;
+      needed = c.self.invariant.needed;
       settled = c.self.invariant.settled;
     }
 

@@ -1,9 +1,10 @@
-use Rattle.std.proofs.Common.{rules, List, ℕ, ◌<◌, ◌≤◌, ◌-◌, ◌^◌, subst, sym, ap, true}
+use Rattle.std.proofs.Common.{rules, List, ℕ, ◌<◌, ◌≤◌, ◌-◌, ◌^◌, subst, sym, ap, true, le_refl}
 use Rattle.crs_store.specs.Stores.{StoreState}
 use Rattle.crs_engine.specs.Engines.{EngineState, IsEngine}
 use Rattle.crs_engine.specs.Marks.{AfterMark}
 use Rattle.crs_engine.specs.Moves.{AreSameStores, AreMarked}
-use Rattle.crs_engine.proofs.Marking.{engine_on, history_before, marked_from, written_back}
+use Rattle.crs_engine.proofs.Marking.{engine_on, rest_due, history_before, marked_from, written_back}
+use Rattle.crs_engine.proofs.Forgetting.{waits_from_floor}
 use Rattle.crs_engine.proofs.engine.Engine.move_on.Goals as goal
 
 pub invariant_of-self : goal.invariant_of-self
@@ -16,7 +17,8 @@ invariant_of-self g c =
     (engine_on (record { plans = c.self.inside.plans; stores = c.self.inside.stores.items; history = c.self.inside.history; waiting = c.self.inside.buffer; delay = c.self.inside.delay; last = c.self.inside.last; horizon = c.self.inside.horizon; accepted = c.self.inside.accepted; limit = c.self.inside.limit; stopped = c.self.inside.stopped })
     c.mark_all.new.stores c.mark_all.new.history c.mark_all.new.buffer c.args.t c.args.h c.self.inside.stopped c.self.invariant same c.mark_all.ensures.rest c.requires.small
     (subst (λ (d : ℕ). c.args.t < 2 ^ 40 → c.args.h ≤ c.args.t - d) (sym delay) c.requires.behind) c.mark_all.ensures.order c.mark_all.ensures.floor
-    (λ running. history_before c.args.h c.self.inside.horizon c.self.inside.history c.mark_all.new.history c.deref_mut.result.now c.mark_all.new.stores c.self.inside.buffer c.mark_all.new.buffer c.args.mark c.in-Ok.answer (c.self.invariant.settled running) forward ((c.in-Ok.ensures {u = tt}).marked)))
+    (λ running. history_before c.args.h c.self.inside.horizon c.self.inside.history c.mark_all.new.history c.deref_mut.result.now c.mark_all.new.stores c.self.inside.buffer c.mark_all.new.buffer c.args.mark c.in-Ok.answer (c.self.invariant.settled running) forward ((c.in-Ok.ensures {u = tt}).marked))
+    forward (((c.in-Ok.ensures {u = tt}).marked).settled).rest_after)
 
 pub invariant_of-self-in-Err : goal.invariant_of-self-in-Err
 invariant_of-self-in-Err g c =
@@ -24,7 +26,14 @@ invariant_of-self-in-Err g c =
     let back = written_back c.self.inside.stores.items c.mark_all.new.stores c.self.inside.stores.len (search rules) same in
     subst (λ (t : List StoreState). IsEngine (record { plans = c.self.inside.plans; stores = t; history = c.mark_all.new.history; waiting = c.mark_all.new.buffer; delay = c.self.inside.delay; last = c.self.inside.last; horizon = c.self.inside.horizon; accepted = c.self.inside.accepted; limit = c.self.inside.limit; stopped = true })) (sym back)
     (engine_on (record { plans = c.self.inside.plans; stores = c.self.inside.stores.items; history = c.self.inside.history; waiting = c.self.inside.buffer; delay = c.self.inside.delay; last = c.self.inside.last; horizon = c.self.inside.horizon; accepted = c.self.inside.accepted; limit = c.self.inside.limit; stopped = c.self.inside.stopped })
-    c.mark_all.new.stores c.mark_all.new.history c.mark_all.new.buffer c.self.inside.last c.self.inside.horizon true c.self.invariant same c.mark_all.ensures.rest c.self.invariant.not_late c.self.invariant.behind c.mark_all.ensures.order c.mark_all.ensures.floor (λ never. absurd cc))
+    c.mark_all.new.stores c.mark_all.new.history c.mark_all.new.buffer c.self.inside.last c.self.inside.horizon true c.self.invariant same c.mark_all.ensures.rest c.self.invariant.not_late c.self.invariant.behind c.mark_all.ensures.order c.mark_all.ensures.floor (λ never. absurd cc)
+    (le_refl c.self.inside.horizon) (rest_due c.self.inside.horizon c.self.inside.buffer c.mark_all.new.buffer c.self.invariant.due c.mark_all.ensures.rest))
+
+pub mark_all-requires-clause-due : goal.mark_all-requires-clause-due
+mark_all-requires-clause-due g c =
+    waits_from_floor
+    (record { plans = c.self.inside.plans; stores = c.self.inside.stores.items; history = c.self.inside.history; waiting = c.self.inside.buffer; delay = c.self.inside.delay; last = c.self.inside.last; horizon = c.self.inside.horizon; accepted = c.self.inside.accepted; limit = c.self.inside.limit; stopped = c.self.inside.stopped })
+    c.self.invariant
 
 pub returns-in-Ok-clause-marked : goal.returns-in-Ok-clause-marked
 returns-in-Ok-clause-marked g c = λ settled waiting stands.

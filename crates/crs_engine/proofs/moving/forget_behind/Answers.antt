@@ -1,0 +1,10 @@
+use Rattle.crs_engine.proofs.Forgetting.{what_is_left, left_in_order, left_before}
+use Rattle.crs_engine.proofs.moving.forget_behind.Goals as goal
+
+pub returns-clause-order : goal.returns-clause-order
+returns-clause-order c = λ waiting. left_in_order _ c.args.history.now.entries c.forget_before.new.self.entries waiting
+    (what_is_left c.args.history.now c.forget_before.new.self _ c.forget_before.ensures.low c.forget_before.ensures.held)
+
+pub returns-clause-dated : goal.returns-clause-dated
+returns-clause-dated c = left_before _ c.args.history.now.entries c.forget_before.new.self.entries
+    (what_is_left c.args.history.now c.forget_before.new.self _ c.forget_before.ensures.low c.forget_before.ensures.held)
