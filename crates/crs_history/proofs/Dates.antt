@@ -3,7 +3,7 @@ use Rattle.std.proofs.Common.{◌≡◌, ℕ, ◌≤◌, ◌<◌, true, nat_lt, 
 use Rattle.std.specs.Prelude.{ℤ, pos, negsuc, ◌≤ℤ◌, ◌<ℤ◌}
 use Rattle.std.proofs.lemmas.Int.{ints}
 use Rattle.std.proofs.lemmas.Bool.Decides.{nat_tests}
-use Rattle.crs_history.specs.Gathering.{nat_of}
+use Rattle.crs_history.specs.Dates.{nat_of}
 
 pub before_of : (d : ℕ) (t : ℤ) → pos d <ℤ t → nat_lt d (nat_of t) ≡ true
 before_of d (pos n) h = let k : d < n = omega (arith, ints) in grind (arith, nat_tests)
@@ -20,3 +20,12 @@ since_of d (negsuc n) h = grind (arith, nat_tests)
 pub of_since : (d : ℕ) (t : ℤ) → nat_le (nat_of t) d ≡ true → t ≤ℤ pos d
 of_since d (pos n) h = let k : n ≤ d = grind (arith, nat_tests) in omega (arith, ints)
 of_since d (negsuc n) h = omega (arith, ints)
+
+pub nat_before : (d : ℕ) (t : ℤ) → d < nat_of t → pos d <ℤ t
+nat_before d t h = of_before d t (grind (arith, nat_tests))
+
+pub before_nat : (d : ℕ) (t : ℤ) → pos d <ℤ t → d < nat_of t
+before_nat d t h = let e = before_of d t h in grind (arith, nat_tests)
+
+pub nat_since : (d : ℕ) (t : ℤ) → nat_of t ≤ d → t ≤ℤ pos d
+nat_since d t h = of_since d t (grind (arith, nat_tests))

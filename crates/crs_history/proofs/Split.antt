@@ -1,8 +1,10 @@
 -- A list in order of dates, split at a date.
-use Rattle.std.proofs.Common.{◌≡◌, ℕ, ◌≤◌, ◌<◌, Bool, true, false, cond, nat_lt, nat_le, List, [], ◌∷◌, length, map, filter, take, drop, refl, sym, ap, arith, get_or, zero, suc}
+use Rattle.std.proofs.Common.{◌≡◌, ℕ, ◌≤◌, ◌<◌, Bool, true, false, cond, nat_lt, nat_le, List, [], ◌∷◌, ◌++◌, length, map, filter, take, drop, refl, sym, ap, arith, get_or, zero, suc, Some, ◌+◌}
+use Rattle.std.specs.Prelude.{slice_get}
 use Rattle.std.proofs.lemmas.Bool.Decides.{nat_tests}
 use Rattle.std.specs.List.{AllByRecursion}
 use Rattle.crs_base.specs.Words.{Ordered}
+use Rattle.crs_base.proofs.Words.{each_from_in, in_from_each, in_append_left}
 
 module _ {X : Type 0} where
   filter_none : (p : X → Bool) (xs : List X) → ((k : ℕ) (d : X) → k < length xs → p (get_or xs k d) ≡ false) → filter p xs ≡ []
@@ -55,3 +57,29 @@ not_lt_le a b h = grind (arith, nat_tests)
 
 pub lt_down : (a b c : ℕ) → a ≤ b → nat_lt b c ≡ true → nat_lt a c ≡ true
 lt_down a b c h k = grind (arith, nat_tests)
+
+-- both parts of a list in order are in order
+module _ {A : Type 0} (R : A → A → Type 0) where
+  pub ordered_front : (xs ys : List A) → Ordered R (xs ++ ys) → Ordered R xs
+  ordered_front [] ys h = tt
+  ordered_front (x ∷ xs) ys h = (each_from_in (R x) xs (λ y i. in_from_each (R x) (xs ++ ys) h.0 y (in_append_left xs ys y i)), ordered_front xs ys h.1)
+
+  pub ordered_back : (xs ys : List A) → Ordered R (xs ++ ys) → Ordered R ys
+  ordered_back [] ys h = h
+  ordered_back (x ∷ xs) ys h = ordered_back xs ys h.1
+
+pub filter-append : {A : Type 0} (p : A → Bool) (xs ys : List A) → filter p (xs ++ ys) ≡ filter p xs ++ filter p ys
+filter-append p [] ys = refl
+filter-append {A} p (x ∷ xs) ys = step (p x) (filter-append p xs ys)
+  where
+    step : (b : Bool) → filter p (xs ++ ys) ≡ filter p xs ++ filter p ys → cond b (x ∷ filter p (xs ++ ys)) (filter p (xs ++ ys)) ≡ cond b (x ∷ filter p xs) (filter p xs) ++ filter p ys
+    step true e = ap (λ w. x ∷ w) e
+    step false e = e
+
+-- a list whose item at the last place is x ends with x
+pub ends_at : {A : Type 0} (xs : List A) (n : ℕ) (x : A) → n + 1 ≡ length xs → Some x ≡ slice_get xs n → (front : List A) × (xs ≡ front ++ x ∷ [])
+ends_at [] n x l e = absurd (omega arith)
+ends_at (y ∷ []) zero x l e = ([], cc)
+ends_at (y ∷ []) (suc n) x l e = absurd (omega arith)
+ends_at (y ∷ z ∷ xs) zero x l e = absurd (omega arith)
+ends_at (y ∷ z ∷ xs) (suc n) x l e = let p = ends_at (z ∷ xs) n x (omega arith) e in (y ∷ p.0, ap (λ w. y ∷ w) p.1)

@@ -34,3 +34,15 @@ change_told a e = elim (told (sym_eq e.name a.name) (same_decides e.name a.name)
   ]
   | inr f ↦ inr (λ c. f c.named)
 ]
+
+told_record : (a b : Attribute Sym) → a.name ≡ b.name → a.args ≡ b.args → a ≡ b
+told_record a b n m = λ i. record { name = n i; args = m i }
+
+pub attribute_told : (a b : Attribute Sym) → (a ≡ b) ⊎ (a ≡ b → ⊥)
+attribute_told a b = elim (told (sym_eq a.name b.name) (same_decides a.name b.name)) [
+  | inl n ↦ elim (told (pointwise sym_eq a.args b.args) (slice_eq-Decides same_decides a.args b.args (pointwise sym_eq a.args b.args) refl)) [
+    | inl m ↦ inl (told_record a b n m)
+    | inr f ↦ inr (λ e. f (ap (λ w. w.args) e))
+  ]
+  | inr f ↦ inr (λ e. f (ap (λ w. w.name) e))
+]

@@ -1,3 +1,10 @@
 pub mod Histories
-pub mod Gathering
+pub mod Dates
 pub mod Looking
+pub mod Lanes
+pub mod Numbers
+pub mod Tracks
+pub mod Held
+pub mod Dropping
+pub mod Changed
+pub mod Holdings

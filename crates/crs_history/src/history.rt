@@ -1,4 +1,4 @@
-ghost use Rattle.std.specs.Prelude.{◌≡◌, ◌≤◌, ◌≤ℤ◌, ◌<ℤ◌, ◌^◌, pos, neg_ℤ, [], ◌∷◌, ◌++◌, length, drop, vec_len, true, false, OnOk, OnErr, List as Items};
+ghost use Rattle.std.specs.Prelude.{◌≡◌, ◌≤◌, ◌≤ℤ◌, ◌<ℤ◌, ◌^◌, pos, neg_ℤ, [], ◌∷◌, ◌++◌, length, true, false, OnOk, OnErr, List as Items};
 ghost use Rattle.std.specs.Int.{int_max};
 ghost use Rattle.crs_base.specs.declared.symbols.Sym.{Sym};
 ghost use Rattle.crs_base.specs.Entry.{Entry as LogEntry, IsInKeyOrder};
@@ -7,9 +7,10 @@ ghost use Rattle.crs_base.specs.Sifted.{Sifts};
 ghost use Rattle.crs_history.specs.Histories.{IsAfterAll, IsKept, StandsFor};
 ghost use Rattle.crs_history.specs.Looking.{IsNamedIn, HasValueOver};
 
-use crate::gathering::{gather, to_date};
-use crate::looking::{holds_over, split_by_date};
+use crate::holdings::Holdings;
+use crate::looking::holds_over;
 use crate::range::Range;
+use crate::reading::to_date;
 use crs_base::{Entry, Sym, SymList};
 use std::alloc::{AllocError, Global};
 use std::marker::Model;
@@ -23,26 +24,19 @@ const LOWEST: i64 = -35_184_372_088_832;
 /// ticks of the log's clock.
 #[derive(Drop)]
 pub struct History {
-    items: Vec<Rc<Entry>>,
+    held: Holdings,
     floor: i64,
 }
 
 impl Model for History {
-    ghost use Rattle.crs_base.specs.Entry.{IsInKeyOrder};
-    ghost use Rattle.crs_history.specs.Histories.{HistoryState, entries_of};
+    ghost use Rattle.crs_history.specs.Histories.{HistoryState};
+    ghost use Rattle.crs_history.specs.Holdings.{held_of, IsSplitAt};
 
     ghost Value = { HistoryState };
 
-    ghost view = { λ h. record { entries = entries_of h.items.items; floor = h.floor } };
+    ghost view = { λ h. record { entries = held_of h.held; floor = h.floor } };
 
-    ghost invariant = { λ h. IsInKeyOrder (entries_of h.items.items) };
-}
-
-fn drop_front(items: &mut Vec<Rc<Entry>>, count: usize)
-    requires { count ≤ vec_len items.old }
-    ensures { items.new.items ≡ drop count items.old.items }
-{
-    let _ = items.drain(..count);
+    ghost invariant = { λ h. IsSplitAt h.floor h.held };
 }
 
 impl History {
@@ -51,7 +45,7 @@ impl History {
         ensures { result ≡ record { entries = []; floor = neg_ℤ (pos (2 ^ 45)) } }
     {
         History {
-            items: Vec::new(alloc),
+            held: Holdings::new(alloc),
             floor: LOWEST,
         }
     }
@@ -61,7 +55,7 @@ impl History {
         ensures len { result ≡ length self.now.entries }
         ensures in_order { IsInKeyOrder self.now.entries }
     {
-        self.items.len()
+        self.held.len()
     }
 
     /// Adds an entry, whose key is after those of all held ones. After a refusal the history is as
@@ -73,18 +67,17 @@ impl History {
         ensures err { OnErr result (self.new ≡ self.old) }
         ensures stands { OnOk result ((settled : Items (LogEntry Sym)) → StandsFor settled self.old → StandsFor (settled ++ entry_of entry.value ∷ []) self.new) }
     {
-        self.items.push(entry)?;
-        Ok(())
+        self.held.push(entry)
     }
 
     /// The held entries of the name dated from the one date on and before the other, in key order.
+    /// Where the first is before the floor, they begin at the floor.
     pub fn range(&self, name: Sym, from: i64, to: i64) -> Range<'_>
-        ensures held { Sifts (IsNamedIn name from to) self.now.entries result }
+        ensures held { Sifts (IsNamedIn name (int_max self.now.floor from) to) self.now.entries result }
         ensures stands { self.now.floor ≤ℤ from → (settled : Items (LogEntry Sym)) → StandsFor settled self.now → Sifts (IsNamedIn name from to) settled result }
     {
-        let (_, since) = split_by_date(self.items.as_slice(), to_date(from));
-        let (items, _) = split_by_date(since, to_date(to));
-        Range { items, name }
+        let lane = self.held.lane(name);
+        lane.since(to_date(from)).before(to_date(to))
     }
 
     /// Whether the attribute has the value at each date from the one on and before the other, where
@@ -93,11 +86,12 @@ impl History {
         ensures yes { result ≡ true → self.now.floor ≤ℤ from → (settled : Items (LogEntry Sym)) → StandsFor settled self.now → HasValueOver (record { name = name; args = args.now }) settled value from to }
         ensures no { result ≡ false → self.now.floor ≤ℤ from → (settled : Items (LogEntry Sym)) → StandsFor settled self.now → HasValueOver (record { name = name; args = args.now }) settled value from to → ⊥ }
     {
-        holds_over(self.items.as_slice(), name, args, value, from, to)
+        holds_over(&self.held.track(name, args), value, from, to)
     }
 
     /// Raises the floor to the date, if it is lower, and drops the entries dated before the floor
-    /// but, for each attribute, its changes of the greatest date before the floor.
+    /// but, for each attribute, its changes of the greatest date before the floor. It takes no
+    /// memory, and for each entry that leaves time in the logarithm of how many are held.
     pub fn forget_before(&mut self, date: i64)
         ensures floor { self.new.floor ≡ int_max self.old.floor date }
         ensures low { date ≤ℤ self.old.floor → self.new ≡ self.old }
@@ -107,8 +101,8 @@ impl History {
         if date <= self.floor {
             return;
         }
-        let start = gather(self.items.as_mut_slice(), to_date(date));
-        drop_front(&mut self.items, start);
+        let limit = to_date(date);
+        while self.held.forget_one(limit) {}
         self.floor = date;
     }
 }

@@ -1,14 +1,20 @@
 //! The settled entries that are still needed.
 #![tactic(auto)]
 
-mod gathering;
+mod changed;
+mod held;
 mod history;
+mod holdings;
+mod lanes;
 mod looking;
+mod numbers;
 mod range;
+mod reading;
+mod tracks;
 
-pub use gathering::{brings, changes, to_date};
 pub use history::History;
 pub use range::Range;
+pub use reading::{brings, changes, to_date};
 
 #[cfg(test)]
 mod tests;

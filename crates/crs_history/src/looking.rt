@@ -1,11 +1,14 @@
 ghost use Rattle.std.specs.Prelude.{◌≡◌, ◌+ℤ◌, ◌<ℤ◌, ◌-◌, ◌^◌, pos, filter, nat_lt, true, false};
 ghost use Rattle.crs_base.specs.Seen.{entry_of};
+ghost use Rattle.crs_base.specs.Values.{Attribute};
+ghost use Rattle.crs_base.specs.declared.symbols.Sym.{Sym};
 ghost use Rattle.crs_history.specs.Histories.{entries_of};
-ghost use Rattle.crs_history.specs.Gathering.{IsByDate, nat_of};
-ghost use Rattle.crs_history.specs.Looking.{is_before, is_since, AllAgree, IsLatestChange, HasValueOver};
+ghost use Rattle.crs_history.specs.Dates.{IsByDate, nat_of};
+ghost use Rattle.crs_history.specs.Looking.{is_before, is_since, AllBring, AreChanges, HasValueOver};
 
-use crate::gathering::{brings, changes, to_date};
-use crs_base::{Entry, Sym, SymList};
+use crate::range::Range;
+use crate::reading::{brings, to_date};
+use crs_base::{Entry, Sym};
 use std::rc::Rc;
 
 /// The entries dated before the date, and the others.
@@ -22,33 +25,17 @@ pub(crate) fn split_by_date(items: &[Rc<Entry>], date: u64) -> (&[Rc<Entry>], &[
     items.split_at(place)
 }
 
-/// Whether all changes of the attribute bring this value.
-fn all_agree(items: &[Rc<Entry>], name: Sym, args: &SymList, value: Sym) -> bool
-    ensures yes { result ≡ true → AllAgree (record { name = name; args = args.now }) value (entries_of items.now) }
-    ensures no { result ≡ false → AllAgree (record { name = name; args = args.now }) value (entries_of items.now) → ⊥ }
+/// Whether all entries bring this value.
+fn all_bring(entries: Range<'_>, value: Sym) -> bool
+    ensures yes { result ≡ true → AllBring value entries.entry }
+    ensures no { result ≡ false → AllBring value entries.entry → ⊥ }
 {
-    for e in items {
-        if changes(e, name, args) && !brings(e, value) {
+    for e in entries {
+        if !brings(e, value) {
             return false;
         }
     }
     true
-}
-
-/// The date of the last change of the attribute.
-fn latest_change(items: &[Rc<Entry>], name: Sym, args: &SymList) -> Option<u64>
-    requires { IsByDate (entries_of items.now) }
-    ensures { IsLatestChange (record { name = name; args = args.now }) (entries_of items.now) result }
-{
-    let mut i = items.len();
-    while i > 0 {
-        i -= 1;
-        let e = &items[i];
-        if changes(e, name, args) {
-            return Some(e.date);
-        }
-    }
-    None
 }
 
 /// The least date of an entry after this one.
@@ -59,32 +46,22 @@ fn to_date_after(t: i64) -> u64
     to_date(t + 1)
 }
 
-/// Whether the attribute has the value at each date of the range.
-pub(crate) fn holds_over(
-    items: &[Rc<Entry>],
-    name: Sym,
-    args: &SymList,
-    value: Sym,
-    from: i64,
-    to: i64,
-) -> bool
-    requires { IsByDate (entries_of items.now) }
-    ensures yes { result ≡ true → HasValueOver (record { name = name; args = args.now }) (entries_of items.now) value from to }
-    ensures no { result ≡ false → HasValueOver (record { name = name; args = args.now }) (entries_of items.now) value from to → ⊥ }
+/// Whether the attribute, of which these are the changes, has the value at each date of the range.
+pub(crate) fn holds_over(track: &Range<'_>, value: Sym, from: i64, to: i64) -> bool
+    requires by_date { IsByDate track.now }
+    ensures yes { (a : Attribute Sym) → AreChanges a track.now → result ≡ true → HasValueOver a track.now value from to }
+    ensures no { (a : Attribute Sym) → AreChanges a track.now → result ≡ false → HasValueOver a track.now value from to → ⊥ }
 {
     if from >= to {
         return true;
     }
-    let (front, back) = split_by_date(items, to_date_after(from));
-    let (middle, _) = split_by_date(back, to_date(to));
-    if !all_agree(middle, name, args, value) {
+    let after = track.since(to_date_after(from));
+    if !all_bring(after.before(to_date(to)), value) {
         return false;
     }
-    match latest_change(front, name, args) {
+    let until = track.before(to_date_after(from));
+    match until.latest() {
         None => false,
-        Some(date) => {
-            let (_, last) = split_by_date(front, date);
-            all_agree(last, name, args, value)
-        }
+        Some(last) => all_bring(until.since(last.date), value),
     }
 }

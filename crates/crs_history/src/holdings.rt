@@ -1,0 +1,162 @@
+ghost use Rattle.std.specs.Prelude.{◌≡◌, ◌<◌, ◌≤◌, [], ◌∷◌, ◌++◌, length, drop, true, false, OnOk, OnErr, List as Items};
+ghost use Rattle.std.specs.List.{AllByRecursion};
+ghost use Rattle.crs_base.specs.Entry.{Entry as LogEntry, IsInKeyOrder};
+ghost use Rattle.crs_base.specs.Seen.{entry_of};
+ghost use Rattle.crs_base.specs.Sifted.{Sifts};
+ghost use Rattle.crs_base.specs.declared.symbols.Sym.{Sym};
+ghost use Rattle.crs_base.specs.Values.{Attribute, IsChange};
+ghost use Rattle.crs_history.specs.Histories.{IsAfterAll, entries_of};
+ghost use Rattle.crs_history.specs.Dates.{IsByDate};
+ghost use Rattle.crs_history.specs.Dropping.{Drops};
+ghost use Rattle.crs_history.specs.Lanes.{lane_of, IsSetTo};
+ghost use Rattle.crs_history.specs.Holdings.{held_of, IsNamed, IsChanging, AreLatest, AreBefore, IsPast, Extends, weight};
+ghost use Rattle.crs_history.specs.Tracks.{track_of, AreSame};
+
+use crate::changed::Changed;
+use crate::lanes::Lanes;
+use crate::range::Range;
+use crate::tracks::Tracks;
+use crs_base::{Entry, Sym, SymList};
+use std::alloc::{AllocError, Global};
+use std::collections::VecDeque;
+use std::marker::Model;
+use std::rc::Rc;
+
+/// What a history holds, whatever its floor: older changes, and behind them the ring, in key order.
+#[derive(Drop)]
+pub(crate) struct Holdings {
+    ring: VecDeque<Rc<Entry>>,
+    /// The ring's entries by the number of their name.
+    lanes: Lanes,
+    /// All held changes by attribute.
+    tracks: Tracks,
+    /// All held changes in key order.
+    changed: Changed,
+}
+
+impl Model for Holdings {
+    ghost use Rattle.crs_history.specs.Histories.{entries_of};
+    ghost use Rattle.crs_history.specs.Holdings.{HoldingsState, AreHoldings};
+
+    ghost Value = { HoldingsState };
+
+    ghost view = { λ h. record { older = h.changed.older; ring = entries_of h.ring.items } };
+
+    ghost invariant = { λ h. AreHoldings h.changed.older h.changed.later (entries_of h.ring.items) h.lanes h.tracks };
+}
+
+/// Adds a change to its track and to the others. After a refusal they are as they were.
+fn push_change(
+    tracks: &mut Tracks,
+    changed: &mut Changed,
+    entry: &Rc<Entry>,
+) -> Result<(), AllocError>
+    requires { IsAfterAll (changed.old.older ++ changed.old.later) (entry_of entry.now.value) }
+    ensures older { changed.new.older ≡ changed.old.older }
+    ensures later { OnOk result (Extends IsChanging (entry_of entry.now.value) changed.old.later changed.new.later) }
+    ensures tracks { OnOk result ((a : Attribute Sym) → Extends (IsChange a) (entry_of entry.now.value) (track_of tracks.old a) (track_of tracks.new a)) }
+    ensures err { OnErr result ((changed.new ≡ changed.old) × AreSame tracks.old tracks.new) }
+{
+    if entry.change.is_none() {
+        return Ok(());
+    }
+    let for_changed = entry.clone()?;
+    tracks.push(entry.clone()?)?;
+    if let Err(refused) = changed.push(for_changed) {
+        tracks.drop_last(entry.name, &entry.args);
+        return Err(refused);
+    }
+    Ok(())
+}
+
+/// Takes the first entry out of the ring and of its lane.
+fn pop_first(ring: &mut VecDeque<Rc<Entry>>, lanes: &mut Lanes)
+    ensures { (e : LogEntry Sym) (rest : Items (LogEntry Sym)) → entries_of ring.old.items ≡ e ∷ rest → (entries_of ring.new.items ≡ rest) × IsSetTo lanes.old e.name.0 (drop 1 (lane_of lanes.old e.name.0)) lanes.new }
+{
+    if let Some(first) = ring.pop_front() {
+        let _ = lanes.pop_first(first.name.0 as usize);
+    }
+}
+
+impl Holdings {
+    /// No entries, which take no memory.
+    pub fn new(alloc: Global) -> Holdings
+        ensures { result ≡ record { older = []; ring = [] } }
+    {
+        Holdings {
+            ring: VecDeque::new(alloc),
+            lanes: Lanes::new(alloc),
+            tracks: Tracks::new(alloc),
+            changed: Changed::new(alloc),
+        }
+    }
+
+    /// How many entries are held.
+    pub fn len(&self) -> usize
+        ensures len { result ≡ length (held_of self.now) }
+        ensures in_order { IsInKeyOrder (held_of self.now) }
+    {
+        self.changed.count() + self.ring.len()
+    }
+
+    /// Adds an entry behind all others. After a refusal what is held is as it was.
+    pub fn push(&mut self, entry: Rc<Entry>) -> Result<(), AllocError>
+        requires { IsAfterAll (held_of self.old) (entry_of entry.value) }
+        ensures ok { OnOk result (self.new ≡ record { older = self.old.older; ring = self.old.ring ++ entry_of entry.value ∷ [] }) }
+        ensures err { OnErr result (self.new ≡ self.old) }
+    {
+        let name = entry.name.0 as usize;
+        self.ring.reserve(1)?;
+        self.lanes.push(name, entry.clone()?)?;
+        if let Err(refused) = push_change(&mut self.tracks, &mut self.changed, &entry) {
+            self.lanes.drop_last(name);
+            return Err(refused);
+        }
+        self.ring.push_back_reserved(entry);
+        Ok(())
+    }
+
+    /// The ring's entries of the name.
+    pub fn lane(&self, name: Sym) -> Range<'_>
+        ensures named { Sifts (IsNamed name) self.now.ring result }
+        ensures by_date { IsByDate result }
+    {
+        self.lanes.lane(name.0 as usize)
+    }
+
+    /// The held changes of the attribute.
+    pub fn track(&self, name: Sym, args: &SymList) -> Range<'_>
+        ensures changes { Sifts (IsChange (record { name = name; args = args.now })) (held_of self.now) result }
+        ensures by_date { IsByDate result }
+    {
+        self.tracks.track(name, args)
+    }
+
+    /// Takes the first entry, which is dated before the date, out of the ring, or drops a change of
+    /// its attribute that is dated before it. Answers whether there was one.
+    pub fn forget_one(&mut self, date: u64) -> bool
+        ensures latest { AreLatest self.new.older }
+        ensures before { AreBefore date self.old.older → AreBefore date self.new.older }
+        ensures past { Drops (IsPast (held_of self.old) date) (held_of self.old) (held_of self.new) }
+        ensures shrinks { result ≡ true → weight self.new < weight self.old }
+        ensures done { result ≡ false → AllByRecursion (λ e. date ≤ e.date) self.new.ring }
+    {
+        let Some(first) = self.ring.front() else {
+            return false;
+        };
+        if first.date >= date {
+            return false;
+        }
+        if first.change.is_none() {
+            pop_first(&mut self.ring, &mut self.lanes);
+            return true;
+        }
+        if let Some(overtaken) = self.tracks.pop_before(first.name, &first.args, first.date) {
+            self.changed.drop_older(overtaken);
+            return true;
+        }
+        self.changed.age();
+        pop_first(&mut self.ring, &mut self.lanes);
+        true
+    }
+}
