@@ -1,1 +1,4 @@
+pub mod After
 pub mod Known
+pub mod Lists
+pub mod Members

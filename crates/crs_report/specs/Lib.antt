@@ -1,3 +1,4 @@
 pub mod Lines
+pub mod Listeners
 pub mod Printed
 pub mod Summaries

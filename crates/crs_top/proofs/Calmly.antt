@@ -4,7 +4,7 @@ use Rattle.crs_desk.specs.Desk.{Told, Rose}
 use Rattle.crs_top.specs.Commands.{CompletesCommand}
 use Rattle.crs_top.specs.Run.{Most}
 use Rattle.crs_top.specs.declared.status.Status.{Status}
-use Rattle.crs_words.specs.Commands.{Command, Run, Print, Import}
+use Rattle.crs_words.specs.Commands.{Command, Run, Print, Drill, Import}
 
 pub none_rose : Rose 0 0 ⊎ Rose 0 0 → ⊥
 none_rose (inl r) = omega (arith, r)
@@ -20,6 +20,11 @@ completes_calmly most old (Some (Run summary models log)) fault status h n = rec
 }
 completes_calmly most old (Some (Print listing models)) fault status h n = record {
   accepted = λ m a _. h.accepted m a n;
+  refused = λ line word k _. h.refused line word k n;
+}
+completes_calmly most old (Some (Drill seed lines)) fault status h n = record {
+  accepted = λ f a l _. h.accepted f a l n;
+  too_long = λ f a l _. h.too_long f a l n;
   refused = λ line word k _. h.refused line word k n;
 }
 completes_calmly most old (Some (Import table)) fault status h n = record {

@@ -8,12 +8,16 @@ pub mod Marking
 pub mod Accepting
 pub mod Ordering
 pub mod Taken
+pub mod Summing
 pub mod LogReading
 pub mod Follows
 pub mod Runs
 pub mod Wanting
 pub mod Calmly
 pub mod Completes
+pub mod Drilled
+pub mod MadeLogs
+pub mod Unrefused
 pub mod Preparing
 pub mod Tables
 pub mod OneText

@@ -1,5 +1,5 @@
 -- A log, read by read.
-use Rattle.std.proofs.Common.{◌≡◌, ◌⊎◌, ◌∙◌, ap, sym, refl, subst, inl, inr, ℕ, ◌+◌, ◌-◌, ◌<◌, ◌≤◌, min, nat_lt, zero-add, Bool, true}
+use Rattle.std.proofs.Common.{◌≡◌, ◌⊎◌, ◌∙◌, ap, sym, refl, subst, inl, inr, ℕ, ◌+◌, ◌-◌, ◌<◌, ◌≤◌, min, Bool, true}
 use Rattle.std.proofs.Common.{false, List, [], ◌∷◌, ◌++◌, length, take, drop, arith, add-zero, append-nil, append_assoc, length-append}
 use Rattle.std.proofs.Common.{length-take-le, Ok, Err}
 use Rattle.std.proofs.lemmas.List.{length-drop, take-append-le}
@@ -11,31 +11,21 @@ use Rattle.crs_desk.specs.Desk.{Told, Stream, stream_at, advanced, turn_of, Read
 use Rattle.crs_desk.specs.declared.turn.Turn.{Turn}
 use Rattle.crs_desk.specs.declared.desk.DeskError.TheVariants as errors
 use Rattle.crs_desk.proofs.Calls.{took_none, stream_after, advanced_twice, rises_push, rises_weaker}
-use Rattle.crs_log.specs.Reading.{Reader, Given, HasGiven, HasNoLine, given, given_lines, ahead, whole_lines}
+use Rattle.crs_log.specs.Reading.{Reader, Given, given, given_lines, whole_lines}
 use Rattle.crs_log.specs.Run.{at_start}
 use Rattle.crs_log.proofs.Prompt.{told_whole}
 use Rattle.crs_top.specs.declared.status.Status.TheVariants as stops
 use Rattle.crs_top.specs.declared.status.Status.{Status}
 use Rattle.crs_top.specs.declared.session.Session.{Session}
-use Rattle.crs_log.specs.Recognitions.{view_of}
 use Rattle.crs_top.specs.declared.session.Counts.{Counts}
 use Rattle.crs_top.specs.Session.{Represents, IsUncounted, IsUnfocused}
-use Rattle.crs_top.specs.Tallies.{AllLive, AreCounts, IsSummary, IsTallyFrom, capped, last_of, started, together}
-use Rattle.crs_top.specs.Taking.{after_all, Takes, IsGivenText, IsGivenTally}
+use Rattle.crs_top.specs.Tallies.{IsSummary}
+use Rattle.crs_top.specs.Taking.{after_all, Takes, IsGivenText}
 use Rattle.crs_top.specs.Texts.{Frame, setting_of, IsWholeText, IsLogText, some_refused}
 use Rattle.crs_top.specs.Logs.{tail_of, summary_of, IsTailOf, has_refused, IsEndedText, Appends, IsPrompt, IsPromptAt, IsCutShort}
 use Rattle.crs_top.specs.Logs.{LogOutcome, HasReadLog, TakesPiece, TakesEnd, ended_as, Finishes}
-use Rattle.crs_top.proofs.Counting.{positive, some_counted}
-use Rattle.crs_top.proofs.Living.{held_by, held_live}
-use Rattle.crs_top.proofs.Taken.{takes_none, takes_append, given_text, given_tally, given_state}
-
--- the lines of the first t bytes were given, and the reader stands behind them
-pub record IsAt (t : ℕ) (bytes : List ℕ) (lines : Reader) (told : List Given) : Type 0 where
-  pub limit : lines.limit ≡ 4096
-  pub open_still : lines.finished ≡ false
-  pub fed : lines.fed ≡ t
-  pub none : HasNoLine lines
-  pub given : HasGiven 4096 bytes told lines
+use Rattle.crs_top.proofs.Summing.{IsAt, at_none, at_more, HasBegun, begun_by, text_of, summary_is, refused_is}
+use Rattle.crs_top.proofs.Taken.{takes_none, takes_append, given_text}
 
 -- t bytes of the log were read, in these turns
 pub record Base (f : Frame) (old : Told) (i t : ℕ) (more : List Turn) (now : Told) : Type 0 where
@@ -46,13 +36,7 @@ pub record Base (f : Frame) (old : Told) (i t : ℕ) (more : List Turn) (now : T
   pub turns : now.turns ≡ old.turns ++ more
   pub prompt : IsPrompt f old.written (stream_at old.left i).rest now.written more
 
--- what was counted before the first line
-pub record HasBegun (f : Frame) (start : Counts) : Type 0 where
-  pub first : ℕ
-  pub at_first : AllLive f.models.chronicles (view_of (at_start f.texts)) first
-  pub counts : AreCounts start (started first)
-
--- and the text of the whole lines among them is written
+-- t bytes of the log were read, and the text of the whole lines among them is written
 pub record Reading (f : Frame) (old : Told) (i limit t : ℕ) (x : Session) (lines : Reader) (now : Told) : Type 0 where
   pub more : List Turn
   pub base : Base f old i t more now
@@ -88,14 +72,10 @@ reading_none f t i limit x lines r u new = record {
   rooms = tt;
   most = omega arith;
   told = [];
-  at = subst (λ (l : Reader). IsAt 0 [] l []) (sym new) (record { limit = refl; open_still = refl; fed = refl; none = (refl, refl); given = λ m. refl });
+  at = at_none lines new;
   text = [];
   start = x.counts;
-  begun = record {
-    first = held_by x.engine;
-    at_first = held_live f x.engine x.symbols (at_start f.texts) r.models r.entries r.horizon u.unfocused;
-    counts = record { refused = u.refused; recognitions = u.recognitions; peak = u.peak };
-  };
+  begun = begun_by f x r u;
   takes = takes_none f x (at_start f.texts) [] r;
   written = sym (append-nil t.written);
 }
@@ -165,16 +145,6 @@ module _ (summary : Bool) (f : Frame) (old : Told) (i : ℕ) (lt : i < length ol
     within = b.within;
     turns = w.turns ∙ b.turns;
     prompt = rw (w.written) (prompt_on f _ _ _ _ more b.prompt);
-  }
-
-  -- the reader behind the next piece
-  at_more : (t n : ℕ) (lines now : Reader) (told : List Given) (bytes piece : List ℕ) (x y : Session) (text : List ℕ) → length piece ≡ n → IsAt t bytes lines told → (p : TakesPiece lines now x y piece text) → IsAt (t + n) (bytes ++ piece) now (told ++ p.told)
-  at_more t n lines now told bytes piece x y text len a p = record {
-    limit = p.limit ∙ a.limit;
-    open_still = p.finished ∙ a.open_still;
-    fed = p.fed ∙ (λ j. a.fed j + len j);
-    none = p.none;
-    given = λ m. ap (given 4096 0) (append_assoc bytes piece m) ∙ a.given (piece ++ m) ∙ ap (λ (gs : List Given). told ++ gs) (p.ahead_is m) ∙ sym (append_assoc told p.told (ahead now m));
   }
 
   pub reading_more : (mid new last : Told) (limit t n : ℕ) (x y : Session) (lines now : Reader) (buf text : List ℕ)
@@ -337,36 +307,10 @@ module _ (summary : Bool) (f : Frame) (old : Told) (i : ℕ) (lt : i < length ol
           (p.2.takes f (after_all (setting_of f) (at_start f.texts) h.told) h.takes.state)
 
       log_text : IsLogText f log (h.text ++ p.0)
-      log_text = given_text f 0 (at_start f.texts) (lines_of log) (h.text ++ p.0)
-          (subst (λ (z : List ℕ). IsGivenText f (at_start f.texts) (given_lines 4096 0 (lines_of log)) z) (sym all_takes.written)
-          (subst (λ (gs : List Given). IsGivenText f (at_start f.texts) gs all_takes.text) (sym all_told) all_takes.says))
-
-      log_tally : IsTallyFrom (setting_of f) f.models.chronicles (at_start f.texts) (lines_of log) all_takes.tally
-      log_tally = given_tally f 0 (at_start f.texts) (lines_of log) all_takes.tally
-          (subst (λ (gs : List Given). IsGivenTally f (at_start f.texts) gs all_takes.tally) (sym all_told) all_takes.tallied)
-
-      log_state : Represents f y (last_of f log)
-      log_state = subst (Represents f y)
-          (ap (after_all (setting_of f) (at_start f.texts)) (sym all_told)
-          ∙ given_state (setting_of f) 0 (at_start f.texts) (lines_of log)) all_takes.state
-
-      all_counts : AreCounts y.counts (together (started h.begun.first) all_takes.tally)
-      all_counts = all_takes.counted (started h.begun.first) h.begun.counts
+      log_text = text_of f log h.start h.begun y (h.told ++ p.2.told) (h.text ++ p.0) all_told all_takes
 
       log_summary : IsUnfocused y.engine → IsSummary f log (summary_of y)
-      log_summary unfocused = record {
-        lines = all_takes.tally;
-        tallied = log_tally;
-        first = h.begun.first;
-        at_first = h.begun.at_first;
-        last = held_by y.engine;
-        at_last = held_live f y.engine y.symbols (last_of f log) log_state.models log_state.entries log_state.horizon unfocused;
-        entries = ap capped (sym log_state.count);
-        refused = all_counts.refused ∙ ap capped (zero-add all_takes.tally.refused);
-        recognitions = all_counts.recognitions ∙ ap capped (zero-add all_takes.tally.recognitions);
-        kept = refl;
-        peak = all_counts.peak;
-      }
+      log_summary = summary_is f log h.start h.begun y (h.told ++ p.2.told) (h.text ++ p.0) all_told all_takes
 
       tail_is : (b : Bool) → IsTailOf b y p.1 → tail_of b f log p.1
       tail_is false e = e
@@ -377,9 +321,7 @@ module _ (summary : Bool) (f : Frame) (old : Told) (i : ℕ) (lt : i < length ol
           (h.text ++ p.0, p.1, log_text, tail_is summary p.3, ap (λ (z : List ℕ). h.text ++ z) p.4 ∙ sym (append_assoc h.text p.0 p.1))
 
       log_refused : has_refused y ≡ some_refused f log
-      log_refused =
-          ap (nat_lt 0) (all_counts.refused ∙ ap capped (zero-add all_takes.tally.refused)) ∙ positive all_takes.tally.refused
-          ∙ some_counted (setting_of f) f.models.chronicles (at_start f.texts) (lines_of log) all_takes.tally log_tally
+      log_refused = refused_is f log h.start h.begun y (h.told ++ p.2.told) (h.text ++ p.0) all_told all_takes
 
       written_front : (last : Told) (k : ℕ) → Wrote new text k last → last.written ≡ old.written ++ take (length h.text + k) (h.text ++ text)
       written_front last k w = w.written ∙ rw (r.written, h.written, append_assoc) (ap (λ (y : List ℕ). old.written ++ y) (sym (take-append-add h.text text k)))

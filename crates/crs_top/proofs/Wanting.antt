@@ -2,7 +2,7 @@
 use Rattle.std.proofs.Common.{refl, sym, inr, ℕ, ◌+◌, ◌<◌, ◌^◌, List, [], arith, append-nil}
 use Rattle.std.specs.Prelude.{Option, Some, None}
 use Rattle.crs_desk.specs.Desk.{Told}
-use Rattle.crs_words.specs.Commands.{Command, Run, Print, Import}
+use Rattle.crs_words.specs.Commands.{Command, Run, Print, Drill, Import}
 use Rattle.crs_top.specs.declared.status.Status.TheVariants.{Memory}
 use Rattle.crs_top.specs.Commands.{Does}
 use Rattle.crs_top.specs.Imports.{IsTableLog, IsTableLine}
@@ -38,6 +38,7 @@ wants base most old (Some (Run summary models log)) =
     run_ended base base (tail_of summary) most old old models log Memory
     (ends_wanting base base (2 ^ 20) (λ text. ⊥) (IsModelLine (IsFaulty most.symbols (bytes_of old models))) old models
     0 0 0 [] old (none_loaded base (2 ^ 20) old models) (omega arith))
+wants base most old (Some (Drill seed lines)) = (inr (inr (refl, refl)), refl)
 wants base most old (Some (Import table)) =
     ends_wanting base base (2 ^ 26) (IsTableLog (bytes_of old table)) (IsTableLine (bytes_of old table)) old table
     0 0 0 [] old (none_loaded base (2 ^ 26) old table) (omega arith)

@@ -11,5 +11,7 @@ pub mod Prepared
 pub mod Run
 pub mod Listings
 pub mod Imports
+pub mod Drills
+pub mod Summing
 pub mod Commands
 pub mod Rearranged

@@ -3,6 +3,7 @@
 
 #[cfg(test)]
 mod calm_tests;
+mod drilling;
 mod laws;
 mod limits;
 mod listing;

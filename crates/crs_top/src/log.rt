@@ -37,7 +37,7 @@ fn take_lines(
 }
 
 /// The text of the lines that a piece completes.
-fn take_piece(
+pub fn take_piece(
     alloc: Global,
     session: &mut Session,
     lines: &mut Lines,
@@ -56,7 +56,11 @@ fn take_piece(
 }
 
 /// The text of a last line that has no line feed.
-fn take_rest(alloc: Global, session: &mut Session, lines: &mut Lines) -> Result<Vec<u8>, AllocError>
+pub fn take_rest(
+    alloc: Global,
+    session: &mut Session,
+    lines: &mut Lines,
+) -> Result<Vec<u8>, AllocError>
     requires ready { IsReady session.old }
     requires limit { lines.old.limit ≡ 4096 }
     ensures { IfOk result (λ v. TakesRest lines.old session.old session.new v.items) }
@@ -68,7 +72,7 @@ fn take_rest(alloc: Global, session: &mut Session, lines: &mut Lines) -> Result<
 }
 
 /// The status of a log that was read to its end.
-fn end_status(refused: bool) -> Status
+pub fn end_status(refused: bool) -> Status
     ensures { result ≡ ended_as refused }
 {
     if refused {
@@ -79,7 +83,7 @@ fn end_status(refused: bool) -> Status
 }
 
 /// The numbers of a run whose log was read to its end.
-fn summary_of(session: &Session) -> Summary
+pub fn summary_of(session: &Session) -> Summary
     ensures numbers { result ≡ summary_of session.now }
     ensures unfocused { IsUnfocused session.now.engine }
 {

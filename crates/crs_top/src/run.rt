@@ -8,8 +8,9 @@ ghost use Rattle.crs_words.specs.Commands.{command_of};
 ghost use Rattle.crs_top.specs.Logs.{tail_of};
 ghost use Rattle.crs_top.specs.Run.{Runs, Follows, most_of, standard};
 ghost use Rattle.crs_top.specs.Status.{HasCauses};
-ghost use Rattle.crs_top.specs.Commands.{Does, CompletesCommand};
+ghost use Rattle.crs_top.specs.Commands.{Does, CompletesCommand, IsUnrefused};
 
+use crate::drilling::drill;
 use crate::limits::{Limits, STANDARD};
 use crate::loading::{MODELS_LIMIT, MODELS_TOO_LONG, load, refuse, write_text};
 use crate::log::read_log;
@@ -33,6 +34,7 @@ pub fn run_program<D: Desk>(alloc: Global, words: &[String], desk: &mut D) -> St
     ensures told { D.tells ≡ true → Does (D.inputs desk.old) (D.inputs desk.new) standard (D.told desk.old) (command_of (map string_bytes words.now)) result (D.told desk.new) }
     ensures complete { D.tells ≡ true → CompletesCommand standard (D.told desk.old) (command_of (map string_bytes words.now))
         (Rose (D.in_faults desk.old) (D.in_faults desk.new) ⊎ Rose (D.out_faults desk.old) (D.out_faults desk.new)) result }
+    ensures unrefused { D.tells ≡ true → IsUnrefused (D.told desk.old) (command_of (map string_bytes words.now)) result (D.told desk.new) }
 {
     run_with(alloc, words, STANDARD, desk)
 }
@@ -64,6 +66,7 @@ pub fn run_with<D: Desk>(alloc: Global, words: &[String], limits: Limits, desk: 
         Ok(Some(Command::Print { listing, models })) => {
             print(alloc, desk, models, listing, limits.symbols)
         }
+        Ok(Some(Command::Drill { seed, lines })) => drill(alloc, desk, seed, lines, limits),
         Ok(Some(Command::Import { table })) => import_table(alloc, desk, table),
     }
 }

@@ -10,7 +10,7 @@ const MODELS: &str =
     "message a 0\nmessage b 0\nchronicle c {\n  event(a, t1)\n  event(b, t2)\n  t2 - t1 in [1, 5]\n}\n";
 
 const USAGE: &str =
-    "usage: crs run [--summary] MODELS LOG\n       crs model [--minimal] MODELS\n       crs import CSV\n";
+    "usage: crs run [--summary] MODELS LOG\n       crs model [--minimal] MODELS\n       crs drill SEED N\n       crs import CSV\n";
 
 fn words_in(alloc: Global, line: &str) -> Result<Vec<String>, AllocError> {
     let mut words = Vec::new(alloc);
@@ -357,6 +357,67 @@ fn summaries(rt: HostRuntime) -> Result<(), Fail> {
         let mut desk = desk_of(alloc, MODELS, log)?;
         assert_eq!(rt;
             run_with(alloc, words.as_slice(), STANDARD, &mut desk),
+            status
+        );
+        assert!(rt; desk.written() == output.as_bytes());
+    }
+    Ok(())
+}
+
+#[test]
+fn drills(rt: HostRuntime) -> Result<(), Fail> {
+    let alloc = rt.alloc();
+    let small = Limits {
+        symbols: 99,
+        entries: 9,
+        bytes: 32,
+    };
+    for (words, limits, write, status, output) in [
+        (
+            "drill 7 2",
+            STANDARD,
+            99,
+            Status::Done,
+            "summary entries 2 refused 0 recognitions 0 kept 2 peak 2\n",
+        ),
+        (
+            "drill 7 0",
+            STANDARD,
+            99,
+            Status::Done,
+            "summary entries 0 refused 0 recognitions 0 kept 2 peak 2\n",
+        ),
+        ("drill 7 2", small, 99, Status::TooLong, ""),
+        (
+            "drill 7 2",
+            Limits {
+                bytes: 33,
+                entries: 1,
+                ..small
+            },
+            99,
+            Status::Refusals,
+            "summary entries 1 refused 1 recognitions 0 kept 2 peak 2\n",
+        ),
+        (
+            "drill 7 2",
+            Limits {
+                symbols: 9,
+                ..small
+            },
+            99,
+            Status::Rejected,
+            "model line 10 limit\n",
+        ),
+        ("drill 7 2", STANDARD, 2, Status::WriteFault, "summary en"),
+        ("drill 0 5", STANDARD, 99, Status::Words, USAGE),
+    ] {
+        let words = words_in(alloc, words)?;
+        let mut desk = MemoryDesk::new(alloc);
+        desk.set_piece(10);
+        desk.fail_write(write)?;
+        assert_eq!(rt;
+            run_with(alloc, words.as_slice(), limits, &mut desk),
             status
         );
         assert!(rt; desk.written() == output.as_bytes());

@@ -26,6 +26,10 @@ run_app =
 abbrev pub model_app : App
 model_app = with_rule (with_rule (plain_app (codes "model")) (flag (codes "minimal"))) (position (codes "models"))
 
+-- `drill SEED N`
+abbrev pub drill_app : App
+drill_app = with_rule (with_rule (plain_app (codes "drill")) (position (codes "seed"))) (position (codes "lines"))
+
 -- `import CSV`
 abbrev pub import_app : App
 import_app = with_rule (plain_app (codes "import")) (position (codes "table"))

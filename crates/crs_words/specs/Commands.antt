@@ -1,26 +1,29 @@
 -- What words ask for: the command by its first word, and the rest as clap defines it for that one command.
-use Rattle.std.specs.Prelude.{ℕ, Bool, false, List, [], ◌∷◌, Option, Some, None, codes, if◌then◌else◌, ◌++◌}
+use Rattle.std.specs.Prelude.{ℕ, nat_le, ◌&&◌, Bool, false, List, [], ◌∷◌, Option, Some, None, codes, if◌then◌else◌, ◌++◌}
 use Rattle.std.specs.Option.{option_and_then}
 use Rattle.std.specs.Str.{bytes_eq}
 use Rattle.clap.specs.Walk.{is_empty}
 use Rattle.clap.specs.Words.{App, Row, first_of, fault_of, matches_of}
-use Rattle.crs_words.specs.Apps.{run_app, model_app, import_app}
+use Rattle.crs_base.specs.Numbers.{number_of}
+use Rattle.crs_words.specs.Apps.{run_app, model_app, drill_app, import_app}
 use Rattle.crs_words.specs.declared.command.Listing.{Listing}
 use Rattle.crs_words.specs.declared.command.Listing.TheVariants.{Canonical, Minimal}
 use Rattle.crs_words.specs.declared.command.Command.{Command as CodeCommand}
 use Rattle.crs_words.specs.declared.command.Command.TheVariants as code
 
 -- to recognise the models of the first name in the log of the second, with the numbers of the run behind it or without; to print the models of a
--- name; to write the table of a name as a log
+-- name; to write the numbers of a run over the made log of so many lines that a seed gives; to write the table of a name as a log
 pub data Command : Type 0 where
   Run : (summary : Bool) → (models log : List ℕ) → Command
   Print : (listing : Listing) → (models : List ℕ) → Command
+  Drill : (seed lines : ℕ) → Command
   Import : (table : List ℕ) → Command
 
 -- a command of the program
 abbrev pub command_seen : CodeCommand → Command
 command_seen (code.Run summary models log) = Run summary models.now log.now
 command_seen (code.Print listing models) = Print listing models.now
+command_seen (code.Drill seed lines) = Drill seed lines
 command_seen (code.Import table) = Import table.now
 
 abbrev pub is_true : Option (List ℕ) → Bool
@@ -56,6 +59,24 @@ print_of listing None = None
 abbrev pub model_in : List Row → Option Command
 model_in rows = print_of (listing_of (is_given (codes "minimal") rows)) (first_of (codes "models") rows)
 
+abbrev pub in_bounds : ℕ → ℕ → ℕ → Option ℕ
+in_bounds low high n = if nat_le low n && nat_le n high then Some n else None
+
+-- the number of 1 to 19 digits, where it is between these, both included
+abbrev pub number_within : ℕ → ℕ → List ℕ → Option ℕ
+number_within low high word = option_and_then (in_bounds low high) (number_of word)
+
+abbrev pub drill_of : Option ℕ → Option ℕ → Option Command
+drill_of (Some seed) (Some lines) = Some (Drill seed lines)
+drill_of (Some seed) None = None
+drill_of None lines = None
+
+-- a seed is 1 to 2147483646, and there are at most 1000000 lines
+abbrev pub drill_in : List Row → Option Command
+drill_in rows =
+    drill_of (option_and_then (number_within 1 2147483646) (first_of (codes "seed") rows))
+    (option_and_then (number_within 0 1000000) (first_of (codes "lines") rows))
+
 abbrev pub import_of : Option (List ℕ) → Option Command
 import_of (Some table) = Some (Import table)
 import_of None = None
@@ -69,9 +90,12 @@ command_of [] = None
 command_of (name ∷ rest) =
     if bytes_eq name (codes "run") then read_by run_app run_in (name ∷ rest)
     else (if bytes_eq name (codes "model") then read_by model_app model_in (name ∷ rest)
+    else (if bytes_eq name (codes "drill") then read_by drill_app drill_in (name ∷ rest)
     else (if bytes_eq name (codes "import") then read_by import_app import_in (name ∷ rest)
-    else None))
+    else None)))
 
 -- what is written where the words are no command
 abbrev pub usage_text : List ℕ
-usage_text = codes "usage: crs run [--summary] MODELS LOG\n" ++ codes "       crs model [--minimal] MODELS\n" ++ codes "       crs import CSV\n"
+usage_text =
+    codes "usage: crs run [--summary] MODELS LOG\n" ++ codes "       crs model [--minimal] MODELS\n" ++ codes "       crs drill SEED N\n"
+    ++ codes "       crs import CSV\n"

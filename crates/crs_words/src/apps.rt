@@ -1,7 +1,7 @@
 // The commands as clap is told of them.
 ghost use Rattle.std.specs.Prelude.{◌≡◌, IfOk, false};
 ghost use Rattle.clap.specs.Words.{app_of, rule_of};
-ghost use Rattle.crs_words.specs.Apps.{plain_app, flag, position, run_app, model_app, import_app};
+ghost use Rattle.crs_words.specs.Apps.{plain_app, flag, position, run_app, model_app, drill_app, import_app};
 
 use clap::{Arg, ArgAction, Command};
 use std::alloc::{AllocError, Global};
@@ -49,6 +49,16 @@ pub(crate) fn model_command<'a>(alloc: Global) -> Result<Command<'a>, AllocError
     let command = plain_command(alloc, "model")
         .arg(flag_of(alloc, "minimal"))?
         .arg(position_of(alloc, "models"))?;
+    Ok(command)
+}
+
+/// `drill SEED N`
+pub(crate) fn drill_command<'a>(alloc: Global) -> Result<Command<'a>, AllocError>
+    ensures { IfOk result (λ c. app_of c ≡ drill_app) }
+{
+    let command = plain_command(alloc, "drill")
+        .arg(position_of(alloc, "seed"))?
+        .arg(position_of(alloc, "lines"))?;
     Ok(command)
 }
 

@@ -22,6 +22,12 @@ pub enum Command<'a> {
         listing: Listing,
         models: &'a str,
     },
+    /// To write the numbers of a run over the made log of so many lines that the seed gives. The
+    /// seed is 1 to 2147483646, and there are at most 1,000,000 lines.
+    Drill {
+        seed: u32,
+        lines: u32,
+    },
     /// To write the table as a log.
     Import {
         table: &'a str,

@@ -3,6 +3,7 @@
 
 mod apps;
 mod command;
+mod numbers;
 mod reading;
 #[cfg(test)]
 mod tests;

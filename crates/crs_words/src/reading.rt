@@ -1,11 +1,12 @@
 // What words ask for.
-ghost use Rattle.std.specs.Prelude.{◌≡◌, IfOk, true, map, option_map, string_bytes};
+ghost use Rattle.std.specs.Prelude.{◌≡◌, IfOk, true, map, option_map, option_and_then, string_bytes};
 ghost use Rattle.clap.specs.Words.{app_of, found_of, rows_of, first_of, is_simple_and_free};
-ghost use Rattle.crs_words.specs.Apps.{run_app, model_app, import_app};
-ghost use Rattle.crs_words.specs.Commands.{command_of, command_seen, rows_in, read_by, run_in, model_in, import_in, is_given};
+ghost use Rattle.crs_words.specs.Apps.{run_app, model_app, drill_app, import_app};
+ghost use Rattle.crs_words.specs.Commands.{command_of, command_seen, rows_in, read_by, run_in, model_in, drill_in, import_in, is_given, number_within};
 
-use crate::apps::{import_command, model_command, run_command};
+use crate::apps::{drill_command, import_command, model_command, run_command};
 use crate::command::{Command, Listing};
+use crate::numbers::number_within;
 use clap::ArgMatches;
 use clap::error::ErrorKind;
 use std::alloc::{AllocError, Global};
@@ -21,6 +22,8 @@ pub fn read_words<'a>(alloc: Global, words: &'a [String]) -> Result<Option<Comma
         read_run(alloc, words)
     } else if name.as_str() == "model" {
         read_model(alloc, words)
+    } else if name.as_str() == "drill" {
+        read_drill(alloc, words)
     } else if name.as_str() == "import" {
         read_import(alloc, words)
     } else {
@@ -107,6 +110,34 @@ fn model_of<'a>(matches: &ArgMatches<'a>) -> Option<Command<'a>>
     };
     let models = word_of(matches, "models")?;
     Some(Command::Print { listing, models })
+}
+
+/// Reads the words of `drill`, the first of which is its name.
+fn read_drill<'a>(alloc: Global, words: &'a [String]) -> Result<Option<Command<'a>>, AllocError>
+    ensures { IfOk result (λ r. option_map command_seen r ≡ read_by drill_app drill_in (map string_bytes words.entry.now)) }
+{
+    let command = drill_command(alloc)?;
+    let Some(matches) = matches_of(command, words)? else {
+        return Ok(None);
+    };
+    Ok(drill_of(&matches))
+}
+
+/// What is asked of `drill`.
+fn drill_of<'a>(matches: &ArgMatches<'_>) -> Option<Command<'a>>
+    ensures { option_map command_seen result ≡ drill_in (rows_of (found_of matches.now)) }
+{
+    let seed = number_of(matches, "seed", 1, 2147483646)?;
+    let lines = number_of(matches, "lines", 0, 1000000)?;
+    Some(Command::Drill { seed, lines })
+}
+
+/// The number of a position's word, where it is between these, both included.
+fn number_of(matches: &ArgMatches<'_>, id: &str, low: u32, high: u32) -> Option<u32>
+    ensures { result ≡ option_and_then (number_within low high) (first_of id.now (rows_of (found_of matches.now))) }
+{
+    let word = word_of(matches, id)?;
+    number_within(word, low, high)
 }
 
 /// Reads the words of `import`, the first of which is its name.

@@ -21,6 +21,7 @@ fn shown(alloc: Global, text: &str) -> Result<String, AllocError> {
             format!(in alloc; "{word} {models} {log}")
         }
         Some(Command::Print { listing, models }) => format!(in alloc; "{listing:?} {models}"),
+        Some(Command::Drill { seed, lines }) => format!(in alloc; "drill {seed} {lines}"),
         Some(Command::Import { table }) => format!(in alloc; "import {table}"),
     }
 }
@@ -62,7 +63,22 @@ fn words_are_commands(rt: HostRuntime) -> Result<(), Fail> {
         ("--minimal model m", "none"),
         ("model", "none"),
         ("model m l", "none"),
-        ("drill 7 2", "none"),
+        ("drill 7 2", "drill 7 2"),
+        ("drill 007 0", "drill 7 0"),
+        ("drill 2147483646 1000000", "drill 2147483646 1000000"),
+        ("drill 0000000000000000001 1", "drill 1 1"),
+        ("drill", "none"),
+        ("drill 7", "none"),
+        ("drill 7 2 3", "none"),
+        ("drill 0 5", "none"),
+        ("drill 2147483647 1", "none"),
+        ("drill 1 1000001", "none"),
+        ("drill +1 1", "none"),
+        ("drill 1 -1", "none"),
+        ("drill  1", "none"),
+        ("drill 00000000000000000001 1", "none"),
+        ("drill x 1", "none"),
+        ("drill --focus 1 1", "none"),
         ("import t", "import t"),
         ("import", "none"),
         ("import a b", "none"),
@@ -79,6 +95,7 @@ fn words_are_commands(rt: HostRuntime) -> Result<(), Fail> {
 fn the_usage_text_has_a_line_for_each_command(rt: HostRuntime) {
     let text = b"usage: crs run [--summary] MODELS LOG\n\
         \x20      crs model [--minimal] MODELS\n\
+        \x20      crs drill SEED N\n\
         \x20      crs import CSV\n\
         ";
     assert!(rt; usage_text() == text.as_slice());

@@ -1,9 +1,11 @@
 use Rattle.std.proofs.Common.{◌⊎◌, sym, inl, inr, map, string_bytes}
 use Rattle.crs_desk.specs.Desk.{Rose}
+use Rattle.crs_words.proofs.Bounds.{drill_bounds}
 use Rattle.crs_words.specs.Commands.{command_of}
 use Rattle.crs_top.specs.Logs.{tail_of}
 use Rattle.crs_top.specs.Run.{most_of}
 use Rattle.crs_top.proofs.Completes.{completes, completes_print, completes_import}
+use Rattle.crs_top.proofs.Drilled.{completes_drill}
 use Rattle.crs_top.proofs.Wanting.{wants}
 use Rattle.crs_top.proofs.run.run_with.Goals as goal
 
@@ -34,6 +36,26 @@ returns-in-Ok-Some-Print-clause-complete g c = λ t.
     (Rose (g.D.Desk.in_faults c.args.desk.now) (g.D.Desk.in_faults c.print.new.desk)
     ⊎ Rose (g.D.Desk.out_faults c.args.desk.now) (g.D.Desk.out_faults c.print.new.desk)) c.print.result
     (c.print.ensures.told t) (λ e. inl (c.print.ensures.causes.read_fault e)) (λ e. inr (c.print.ensures.causes.write_fault e)))
+
+pub drill-requires : goal.drill-requires
+drill-requires g c =
+    let asked = rw (c.in-Ok-Some-Drill.field-0-is, c.in-Ok-Some-Drill.field-0-0-is) at c.in-Ok-Some-Drill.ensures in
+    let b = drill_bounds (map string_bytes c.args.words.now) c.in-Ok-Some-Drill.seed c.in-Ok-Some-Drill.lines (sym asked) in
+    record { least = b.least; most = b.most; lines = b.few }
+
+pub returns-in-Ok-Some-Drill-clause-told : goal.returns-in-Ok-Some-Drill-clause-told
+returns-in-Ok-Some-Drill-clause-told g c = λ t.
+    let asked = rw (c.in-Ok-Some-Drill.field-0-is, c.in-Ok-Some-Drill.field-0-0-is) at c.in-Ok-Some-Drill.ensures in
+    rw (sym asked) (c.drill.ensures.told t, c.drill.ensures.inputs)
+
+pub returns-in-Ok-Some-Drill-clause-complete : goal.returns-in-Ok-Some-Drill-clause-complete
+returns-in-Ok-Some-Drill-clause-complete g c = λ t.
+    let asked = rw (c.in-Ok-Some-Drill.field-0-is, c.in-Ok-Some-Drill.field-0-0-is) at c.in-Ok-Some-Drill.ensures in
+    rw (sym asked) (completes_drill (most_of c.args.limits) c.in-Ok-Some-Drill.seed c.in-Ok-Some-Drill.lines (g.D.Desk.told c.args.desk.now)
+    (g.D.Desk.told c.drill.new.desk)
+    (Rose (g.D.Desk.in_faults c.args.desk.now) (g.D.Desk.in_faults c.drill.new.desk)
+    ⊎ Rose (g.D.Desk.out_faults c.args.desk.now) (g.D.Desk.out_faults c.drill.new.desk)) c.drill.result
+    (λ e. inr (c.drill.ensures.causes.write_fault e)) (c.drill.ensures.told t))
 
 pub returns-in-Ok-Some-Import-clause-complete : goal.returns-in-Ok-Some-Import-clause-complete
 returns-in-Ok-Some-Import-clause-complete g c = λ t.

@@ -1,0 +1,29 @@
+-- A log that is held whole, and its numbers.
+use Rattle.std.specs.Prelude.{◌⊎◌, ℕ, nat_lt, List, []}
+use Rattle.crs_base.specs.Lines.{lines_of, line_limit}
+use Rattle.crs_desk.specs.Desk.{Told}
+use Rattle.crs_log.specs.Reading.{given_lines}
+use Rattle.crs_log.specs.Run.{State, at_start}
+use Rattle.crs_report.specs.Summaries.{summary_line}
+use Rattle.crs_report.specs.declared.summary.Summary.{Summary}
+use Rattle.crs_top.specs.declared.session.Session.{Session}
+use Rattle.crs_top.specs.declared.status.Status.{Status}
+use Rattle.crs_top.specs.Drills.{IsWanting}
+use Rattle.crs_top.specs.Logs.{ended_as, Says}
+use Rattle.crs_top.specs.Session.{Represents}
+use Rattle.crs_top.specs.Taking.{Takes}
+use Rattle.crs_top.specs.Tallies.{IsSummary}
+use Rattle.crs_top.specs.Texts.{Frame}
+
+-- each line of the log is taken
+abbrev pub TakesLog : List ℕ → Session → Session → Type 0
+TakesLog log old new = (f : Frame) (s : State) → Represents f old s
+    → (text : List ℕ) × Takes f old.counts new s (given_lines line_limit 0 (lines_of log)) [] text
+
+-- these are the numbers of a run over the log, which starts from the session
+abbrev pub IsSummed : Session → List ℕ → Summary → Type 0
+IsSummed x log s = (f : Frame) → Represents f x (at_start f.texts) → IsSummary f log s
+
+-- the line of these numbers is written, and the status says whether a line was refused
+abbrev pub WritesSummary : Summary → Told → Status → Told → Type 0
+WritesSummary s old status new = Says (ended_as (nat_lt 0 s.refused)) old (summary_line s) status new ⊎ IsWanting old status new

@@ -1,0 +1,92 @@
+-- The numbers of a drill are within their bounds.
+use Rattle.std.proofs.Common.{◌≡◌, refl, subst, ℕ, ◌≤◌, Bool, true, false, List, [], ◌∷◌, Option, Some, None, leb-true, nat_le, cond}
+use Rattle.std.specs.Prelude.{codes, ◌&&◌}
+use Rattle.std.specs.Option.{option_and_then}
+use Rattle.std.specs.Str.{bytes_eq}
+use Rattle.clap.specs.Words.{Row, first_of}
+use Rattle.crs_base.specs.Numbers.{number_of}
+use Rattle.crs_words.specs.declared.command.Listing.{Listing}
+use Rattle.crs_words.specs.Apps.{run_app, model_app, drill_app, import_app}
+use Rattle.crs_words.specs.Commands.{Command, Run, Print, Drill, Import, in_bounds, number_within, rows_in, is_given, listing_of}
+use Rattle.crs_words.specs.Commands.{run_of, run_in, print_of, model_in, drill_of, drill_in, import_of, import_in, command_of}
+
+-- a seed and a number of lines with which a log is made
+pub record IsDrill (seed lines : ℕ) : Type 0 where
+  pub least : 1 ≤ seed
+  pub most : seed ≤ 2147483646
+  pub few : lines ≤ 1000000
+
+abbrev AreWithin : ℕ → ℕ → ℕ → Type 0
+AreWithin low high n = (low ≤ n) × (n ≤ high)
+
+bounded : (low high n k : ℕ) (a b : Bool) → nat_le low n ≡ a → nat_le n high ≡ b → cond (a && b) (Some n) None ≡ Some k → AreWithin low high k
+bounded low high n k true true p q e =
+    let same : n ≡ k = cc in
+    subst (AreWithin low high) same (leb-true low n p, leb-true n high q)
+bounded low high n k true false p q e = absurd (cc)
+bounded low high n k false b p q e = absurd (cc)
+
+number_bounded : (low high k : ℕ) (o : Option ℕ) → option_and_then (in_bounds low high) o ≡ Some k → AreWithin low high k
+number_bounded low high k None e = absurd (cc)
+number_bounded low high k (Some n) e = bounded low high n k (nat_le low n) (nat_le n high) refl refl e
+
+word_bounded : (low high k : ℕ) (o : Option (List ℕ)) → option_and_then (number_within low high) o ≡ Some k → AreWithin low high k
+word_bounded low high k None e = absurd (cc)
+word_bounded low high k (Some w) e = number_bounded low high k (number_of w) e
+
+-- a drill's numbers are within their bounds
+abbrev IsFine : Option Command → Type 0
+IsFine None = Unit {0}
+IsFine (Some (Run summary models log)) = Unit {0}
+IsFine (Some (Print listing models)) = Unit {0}
+IsFine (Some (Drill seed lines)) = IsDrill seed lines
+IsFine (Some (Import table)) = Unit {0}
+
+run_fine : (summary : Bool) (o p : Option (List ℕ)) → IsFine (run_of summary o p)
+run_fine summary (Some m) (Some l) = tt
+run_fine summary (Some m) None = tt
+run_fine summary None p = tt
+
+print_fine : (listing : Listing) (o : Option (List ℕ)) → IsFine (print_of listing o)
+print_fine listing (Some m) = tt
+print_fine listing None = tt
+
+drill_fine : (o p : Option ℕ) → ((k : ℕ) → o ≡ Some k → AreWithin 1 2147483646 k) → ((k : ℕ) → p ≡ Some k → AreWithin 0 1000000 k)
+    → IsFine (drill_of o p)
+drill_fine (Some seed) (Some lines) h k =
+    let a = h seed refl in
+    record { least = a.0; most = a.1; few = (k lines refl).1 }
+drill_fine (Some seed) None h k = tt
+drill_fine None p h k = tt
+
+import_fine : (o : Option (List ℕ)) → IsFine (import_of o)
+import_fine (Some t) = tt
+import_fine None = tt
+
+read_fine : (f : List Row → Option Command) (o : Option (List Row)) → ((rows : List Row) → IsFine (f rows)) → IsFine (option_and_then f o)
+read_fine f None h = tt
+read_fine f (Some rows) h = h rows
+
+either_fine : (b : Bool) (x y : Option Command) → IsFine x → IsFine y → IsFine (cond b x y)
+either_fine true x y h k = h
+either_fine false x y h k = k
+
+command_fine : (words : List (List ℕ)) → IsFine (command_of words)
+command_fine [] = tt
+command_fine (name ∷ rest) =
+    either_fine (bytes_eq name (codes "run")) _ _
+    (read_fine run_in (rows_in run_app (name ∷ rest))
+    (λ rows. run_fine (is_given (codes "summary") rows) (first_of (codes "models") rows) (first_of (codes "log") rows)))
+    (either_fine (bytes_eq name (codes "model")) _ _
+    (read_fine model_in (rows_in model_app (name ∷ rest))
+    (λ rows. print_fine (listing_of (is_given (codes "minimal") rows)) (first_of (codes "models") rows)))
+    (either_fine (bytes_eq name (codes "drill")) _ _
+    (read_fine drill_in (rows_in drill_app (name ∷ rest))
+    (λ rows. drill_fine _ _ (λ k e. word_bounded 1 2147483646 k (first_of (codes "seed") rows) e)
+    (λ k e. word_bounded 0 1000000 k (first_of (codes "lines") rows) e)))
+    (either_fine (bytes_eq name (codes "import")) _ _
+    (read_fine import_in (rows_in import_app (name ∷ rest)) (λ rows. import_fine (first_of (codes "table") rows)))
+    tt)))
+
+pub drill_bounds : (words : List (List ℕ)) (seed lines : ℕ) → command_of words ≡ Some (Drill seed lines) → IsDrill seed lines
+drill_bounds words seed lines e = subst IsFine e (command_fine words)
