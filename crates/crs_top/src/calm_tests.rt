@@ -40,14 +40,18 @@ fn run_calmly(alloc: Global, words: &[String], limits: Limits, desk: &mut CalmDe
 fn accepted_models(rt: HostRuntime) -> Result<(), Fail> {
     let alloc = rt.alloc();
     let words = words_of(alloc)?;
-    let mut desk = desk_of(alloc, MODELS)?;
-    desk.add_file("l", b"10 a\n12 b\nclock 13\n14 b\nclock 15")?;
-    desk.set_piece(3);
-    assert_eq!(rt;
-        run_calmly(alloc, words.as_slice(), STANDARD, &mut desk),
-        Status::Done
-    );
-    assert!(rt; desk.written() == "c at 13 t1=10 t2=12\nc at 15 t1=10 t2=14\n".as_bytes());
+    // the same bytes from each seed
+    for seed in [0, 1, u64::MAX] {
+        let mut desk = desk_of(alloc, MODELS)?;
+        desk.add_file("l", b"10 a\n12 b\nclock 13\n14 b\nclock 15")?;
+        desk.set_piece(3);
+        desk.set_seed(seed);
+        assert_eq!(rt;
+            run_calmly(alloc, words.as_slice(), STANDARD, &mut desk),
+            Status::Done
+        );
+        assert!(rt; desk.written() == "c at 13 t1=10 t2=12\nc at 15 t1=10 t2=14\n".as_bytes());
+    }
     let mut desk = desk_of(alloc, MODELS)?;
     assert_eq!(rt;
         run_calmly(alloc, words.as_slice(), STANDARD, &mut desk),
