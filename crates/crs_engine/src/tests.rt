@@ -198,22 +198,6 @@ fn recognises_in_order(rt: HostRuntime) -> Result<(), Fail> {
 }
 
 #[test]
-fn the_history_reaches_back_from_the_horizon(rt: HostRuntime) -> Result<(), Fail> {
-    let alloc = rt.alloc();
-    let mut engine = Engine::new(alloc, plans(alloc)?, false, 4)?;
-    for (date, name) in [(10, 0), (12, 1), (17, 0)] {
-        assert_eq!(rt; feed(&mut engine, alloc, date, name)?, Ok(()));
-    }
-    let _ = clock_apart::<Brand>(Blank::new(1), &mut engine, 17)?;
-    assert_eq!(rt; engine.history().len(), 1);
-    let _ = clock_apart::<Brand>(Blank::new(1), &mut engine, 22)?;
-    assert_eq!(rt; engine.history().len(), 1);
-    let _ = clock_apart::<Brand>(Blank::new(1), &mut engine, 23)?;
-    assert_eq!(rt; engine.history().len(), 0);
-    Ok(())
-}
-
-#[test]
 fn the_end_comes_once(rt: HostRuntime) -> Result<(), Fail> {
     let mut engine = fed(rt.alloc(), 9)?;
     assert_eq!(rt; finish_apart::<Brand>(Blank::new(1), &mut engine)?.len(), 4);
