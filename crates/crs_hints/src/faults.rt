@@ -1,0 +1,127 @@
+// What each word of refused models means, and the place of the line that it speaks of.
+use crate::pieces::{Kind, Piece};
+use crs_base::{integer, number};
+use crs_model::ModelWord;
+use crs_model::limits::{ARITY_LIMIT, TICK_LIMIT};
+
+/// The sentence of a word.
+pub fn sentence_of(word: ModelWord) -> &'static str {
+    match word {
+        ModelWord::Size => "a models text has at most 2^20 bytes",
+        ModelWord::Form => "this is no statement here",
+        ModelWord::Twice =>
+            "this is there already: a name, a point, or a variable's list of values",
+        ModelWord::Name => "no line above declares this name; a hold wants an attribute",
+        ModelWord::Arity => {
+            "the arguments aren't as many as declared, or a message has a change, or an attribute none"
+        }
+        ModelWord::Value => "the attribute's declared list doesn't have this value",
+        ModelWord::Variable => "no event above has this variable",
+        ModelWord::Point => {
+            "a point isn't declared above by an event or by 'point'; a window wants points of events"
+        }
+        ModelWord::Bound => {
+            "a number is above its limit (2^40, for occurs 2^32 - 1), or the low end is above the high one"
+        }
+        ModelWord::Window => "a hold has no '*': it is about one value of one attribute",
+        ModelWord::Limit => "this is longer or more than a models text may have",
+        ModelWord::Events => "a chronicle has at least one event, and this one has none",
+        ModelWord::Unbound => "a window of this chronicle has a variable that no event has",
+        ModelWord::Inconsistent => "no dates meet all bounds of this chronicle",
+    }
+}
+
+/// The first place of a mark.
+fn place_of(line: &[Piece<'_>], mark: u8) -> Option<usize> {
+    line.iter().position(|piece| piece.is_mark(mark))
+}
+
+/// The start of the piece at a place.
+fn start_at(line: &[Piece<'_>], place: usize) -> Option<usize> {
+    line.get(place).map(|piece| piece.start)
+}
+
+/// The first piece behind the last comma.
+fn behind_last_comma(line: &[Piece<'_>]) -> Option<usize> {
+    let mut is_behind = false;
+    let mut start = None;
+    for piece in line {
+        if is_behind {
+            start = Some(piece.start);
+        }
+        is_behind = piece.is_mark(b',');
+    }
+    start
+}
+
+/// What is declared: a name, a point, or a list of values.
+fn declared(line: &[Piece<'_>]) -> Option<usize> {
+    match line {
+        [piece, ..] if piece.is_mark(b'?') => Some(piece.start),
+        [piece, ..] if piece.is_word(b"event") => behind_last_comma(line),
+        _ => start_at(line, 1),
+    }
+}
+
+/// The name of the pattern.
+fn pattern_name(line: &[Piece<'_>]) -> Option<usize> {
+    match line {
+        [piece, ..] if piece.is_word(b"occurs") => start_at(line, 8),
+        _ => start_at(line, 2),
+    }
+}
+
+/// The new value of a change, or the value of a hold.
+fn new_value(line: &[Piece<'_>]) -> Option<usize> {
+    let (_, value) = line.split_at_checked(place_of(line, b':')?)?;
+    match value {
+        [_, piece, ..] if piece.is_mark(b'(') => behind_last_comma(up_to_bracket(value)),
+        _ => start_at(value, 1),
+    }
+}
+
+/// The pieces in front of the first `)`.
+fn up_to_bracket<'t, 'a>(line: &'t [Piece<'a>]) -> &'t [Piece<'a>] {
+    match place_of(line, b')') {
+        Some(place) => line.get(..place).unwrap_or(line),
+        None => line,
+    }
+}
+
+/// Whether it is a number whose size is above that of every bound.
+fn is_too_large(piece: &Piece<'_>) -> bool {
+    match piece.kind {
+        Kind::Word(word) => match integer(word) {
+            Some(n) => n.unsigned_abs() > TICK_LIMIT as u128,
+            None => false,
+        },
+        _ => false,
+    }
+}
+
+/// The number of arguments, where it is too large.
+fn large_arity(line: &[Piece<'_>]) -> Option<usize> {
+    let piece = line.get(2)?;
+    if number(piece.word()?)? > ARITY_LIMIT {
+        Some(piece.start)
+    } else {
+        None
+    }
+}
+
+/// How many bytes stand before what a word speaks of, where the line alone tells it.
+pub fn column_of(line: &[Piece<'_>], word: ModelWord) -> Option<usize> {
+    match word {
+        ModelWord::Twice => declared(line),
+        ModelWord::Name | ModelWord::Arity => pattern_name(line),
+        ModelWord::Value => new_value(line),
+        ModelWord::Variable if place_of(line, b'!').is_none() => start_at(line, 0),
+        ModelWord::Bound => {
+            let place = line.iter().position(is_too_large)?;
+            start_at(line, place)
+        }
+        ModelWord::Window => start_at(line, place_of(line, b'*')?),
+        ModelWord::Limit => large_arity(line),
+        _ => None,
+    }
+}

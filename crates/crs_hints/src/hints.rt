@@ -1,0 +1,130 @@
+use crate::faults::{column_of, sentence_of};
+use crate::pieces::{Piece, pieces};
+use crate::statements::{is_declared, statement};
+use crate::walking::Stop;
+use crs_base::{RawLine, first_line, is_long, line_bytes};
+use crs_model::ModelWord;
+use std::alloc::{AllocError, Global};
+
+/// What may be wrong in a refused line.
+#[derive(Clone, Copy, Debug)]
+pub struct Hint<'a> {
+    /// One plain sentence, without a full stop.
+    pub sentence: &'static str,
+    /// The byte that can't stand there, where the sentence speaks of bytes.
+    pub byte: Option<u8>,
+    /// How many bytes of the line stand before the first place that can't stand there, where that
+    /// can be told. It is the line's length where something is missing at its end.
+    pub column: Option<usize>,
+    /// The line's bytes, or none where the text has no such line.
+    pub line: &'a [u8],
+}
+
+/// The line with a number from 1 on.
+fn nth_line<'a>(text: &'a [u8], number: u32) -> Option<RawLine<'a>> {
+    let mut rest = text;
+    for _ in 1..number {
+        if rest.is_empty() {
+            return None;
+        }
+        let (_, more) = first_line(rest);
+        rest = more;
+    }
+    if number == 0 || rest.is_empty() {
+        return None;
+    }
+    let (line, _) = first_line(rest);
+    Some(line)
+}
+
+/// The hint of a line that is no statement.
+fn form_hint<'a>(line: &'a [u8], found: &[Piece<'a>]) -> Hint<'a> {
+    match statement(found) {
+        Err(
+            Stop {
+                column,
+                sentence,
+                byte,
+            },
+        ) => Hint {
+            sentence,
+            byte,
+            column: Some(column.unwrap_or(line.len())),
+            line,
+        },
+        Ok(()) => Hint {
+            sentence: misplaced(found),
+            byte: None,
+            column: found.first().map(|piece| piece.start),
+            line,
+        },
+    }
+}
+
+/// Why a statement can't stand where it does.
+fn misplaced(found: &[Piece<'_>]) -> &'static str {
+    match found {
+        [piece, ..] if piece.is_mark(b'}') => "a '}' ends a chronicle, and none is open here",
+        [piece, ..] if is_declaration(piece) => {
+            "this stands outside chronicles; the '}' of the one above is missing"
+        }
+        _ => "this stands inside a chronicle, between 'chronicle NAME {' and '}'",
+    }
+}
+
+/// Whether a statement outside chronicles begins with this.
+fn is_declaration(piece: &Piece<'_>) -> bool {
+    match piece.word() {
+        Some(word) => is_declared(word),
+        None => false,
+    }
+}
+
+/// The hint of a word alone.
+fn word_hint<'a>(line: &'a [u8], word: ModelWord, column: Option<usize>) -> Hint<'a> {
+    Hint {
+        sentence: sentence_of(word),
+        byte: None,
+        column,
+        line,
+    }
+}
+
+/// The hint where the text has no such line: it is too long, or ends inside a chronicle.
+fn endless_hint<'a>(word: ModelWord) -> Hint<'a> {
+    let hint = word_hint(b"", word, None);
+    match word {
+        ModelWord::Form => Hint {
+            sentence: "the text ends inside a chronicle: its '}' is missing",
+            ..hint
+        },
+        _ => hint,
+    }
+}
+
+/// What may be wrong in the line with this number, which was refused with this word. It looks at
+/// this line alone, and at nothing of it where it is longer than a line may be.
+pub fn hint_of<'a>(
+    alloc: Global,
+    text: &'a [u8],
+    number: u32,
+    word: ModelWord,
+) -> Result<Hint<'a>, AllocError> {
+    let Some(raw) = nth_line(text, number) else {
+        return Ok(endless_hint(word));
+    };
+    let line = line_bytes(raw);
+    if is_long(raw) {
+        return Ok(Hint {
+            sentence: "a line has at most 4096 bytes",
+            byte: None,
+            column: None,
+            line,
+        });
+    }
+    let found = pieces(alloc, line)?;
+    Ok(match word {
+        ModelWord::Form => form_hint(line, &found),
+        _ => word_hint(line, word, column_of(&found, word)),
+    })
+}
