@@ -1,0 +1,5 @@
+pub mod Pairs
+pub mod Places
+pub mod Schedule
+pub mod Calendars
+pub mod Freshness

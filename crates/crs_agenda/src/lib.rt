@@ -1,0 +1,14 @@
+//! What is due, by date.
+#![tactic(auto)]
+
+mod agenda;
+mod bucket;
+mod calendar;
+mod rows;
+#[cfg(test)]
+mod tests;
+mod timed;
+
+pub use agenda::Agenda;
+pub use calendar::Calendar;
+pub use timed::{Handle, Timed};

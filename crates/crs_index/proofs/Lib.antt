@@ -1,0 +1,5 @@
+pub mod Keys
+pub mod Tables
+pub mod BucketRows
+pub mod States
+pub mod Laws

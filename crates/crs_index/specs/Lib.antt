@@ -1,0 +1,4 @@
+pub mod Indexes
+pub mod Numbers
+pub mod Rows
+pub mod Waiting

@@ -1,0 +1,45 @@
+-- The numbers of keys, as contracts see them.
+use Rattle.std.specs.Prelude.{ℕ, zero, suc, ◌==◌, ◌&&◌, Bool, cond, List, [], map, get_or, nat_lt}
+use Rattle.std.specs.Ordering.{on, then_cmp, nat_cmp}
+use Rattle.std.specs.declared.cmp.Ordering.{Ordering}
+use Rattle.std.specs.declared.option.Option.{Option}
+use Rattle.std.specs.declared.option.Option.TheVariants.{None, Some}
+use Rattle.std.specs.BTreeMap.{is_at}
+use Rattle.std.specs.Map.{lookup}
+use Rattle.std.specs.declared.vec.Vec.{Vec}
+use Rattle.std.proofs.Common.{Global}
+use Rattle.crs_index.specs.declared.key.Key.{Key}
+
+-- the numbers that keys have: a table of slots for lone small symbols, and the list of the others
+pub record NumbersState : Type 0 where
+  pub direct : List (List ℕ)
+  pub tree : List (Key × ℕ)
+
+-- keys by their classes, and then symbol by symbol
+abbrev pub compare_keys : Key → Key → Ordering
+compare_keys = then_cmp (on (λ k. k.class) nat_cmp) (then_cmp (on (λ k. k.first) nat_cmp) (then_cmp (on (λ k. k.second) nat_cmp) (on (λ k. k.third) nat_cmp)))
+
+-- the two keys are one
+abbrev pub is_key : Key → Key → Bool
+is_key k q = is_at (compare_keys k) q
+
+-- the key has a slot of its own in the table
+abbrev pub is_direct : Key → Bool
+is_direct k = k.second == 0 && (k.third == 0 && nat_lt k.first 16384)
+
+-- what the slot of a class and a symbol holds
+abbrev pub slot : List (List ℕ) → ℕ → ℕ → ℕ
+slot rows class first = get_or (get_or rows class []) first 0
+
+-- the number that a slot's content stands for
+abbrev pub named : ℕ → Option ℕ
+named zero = None
+named (suc n) = Some n
+
+-- the number of the key, where it has one
+abbrev pub number_in : NumbersState → Key → Option ℕ
+number_in s k = cond (is_direct k) (named (slot s.direct k.class k.first)) (lookup (is_key k) s.tree)
+
+-- the table, as the code keeps it
+abbrev pub table : List (Vec ℕ Global) → List (List ℕ)
+table rows = map (λ v. v.items) rows

@@ -1,0 +1,12 @@
+//! Who waits for what: handles by key.
+#![tactic(auto)]
+
+mod buckets;
+mod index;
+mod key;
+mod numbers;
+#[cfg(test)]
+mod tests;
+
+pub use index::Index;
+pub use key::Key;
