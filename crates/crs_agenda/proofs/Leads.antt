@@ -38,9 +38,8 @@ row-later r x k j m n h e f = omega arith
 -- the dates of a later bucket are later
 later-same : (base a c d e : ℕ) → Stands base a d → Stands base c e → a < c → a / 32 ≡ c / 32 → lead (c / 32) d < lead (c / 32) e
 later-same base a c d e x y lt h =
-    let k : a % 32 < c % 32 = omega arith in
     let p : lead (c / 32) d ≡ lead (c / 32) base / 32 * 32 + a % 32 = subst (λ (n : ℕ). lead n d ≡ lead n base / 32 * 32 + a % 32) h x.digits in
-    row-later (c / 32) (lead (c / 32) base / 32) (a % 32) (c % 32) _ _ k p y.digits
+    let k : a % 32 < c % 32 = omega arith in row-later (c / 32) (lead (c / 32) base / 32) (a % 32) (c % 32) _ _ k p y.digits
 
 later-row : (base a c d e : ℕ) → Stands base a d → Stands base c e → a / 32 < c / 32 → lead (c / 32) d < lead (c / 32) e
 later-row base a c d e x y h =

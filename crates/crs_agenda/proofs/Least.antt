@@ -38,6 +38,28 @@ least_read base at pick bs read bucket t all same e h is first at_t =
     let there : bucket ≡ get_or bs at [] = is ∙ get_or_default bs at bucket [] h in
     least_of_all base at pick bs t all (subst (λ (xs : List (List Timed)). AreEmptyBefore at xs) same e) (subst (λ (ts : List Timed). IsEarliest pick ts) there first) (subst (λ (ts : List Timed). t ≡ get_or ts pick t) there at_t)
 
+-- no pair is earlier than a date before which the first bucket with any has none
+floor_at : (base at c f : ℕ) (bs : List (List Timed)) → InPlace base bs → AreEmptyBefore at bs → 0 < length (get_or bs at []) → All (λ t. f ≤ t.date) (get_or bs at []) → All (λ t. f ≤ t.date) (get_or bs c [])
+floor_at base at c f bs all e some low = elim (cases_lt c at) [
+  | inl h ↦ rw (e c h) (All-nil (λ t. f ≤ t.date))
+  | inr h ↦ elim (cases_eq c at) [
+    | inl g ↦ rw g low
+    | inr n ↦ (λ k d i.
+        let u = get_or (get_or bs at []) 0 d in
+        let l : f ≤ u.date = low 0 d some in
+        let later : u.date < (get_or (get_or bs c []) k d).date = bucket-later base at c u.date (get_or (get_or bs c []) k d).date (all at 0 d some) (all c k d i) (omega arith) in
+        omega arith)
+  ]
+]
+
+-- the same, where the bucket is read on its own
+pub floor_read : (base at f : ℕ) (bs read : List (List Timed)) (bucket : List Timed) → InPlace base bs → read ≡ bs → AreEmptyBefore at read → at < length bs → (at < length read → 0 < length (get_or read at [])) → bucket ≡ get_or bs at bucket → All (λ t. f ≤ t.date) bucket → All (λ t. f ≤ t.date) (pairs_of bs)
+floor_read base at f bs read bucket all same e h full is low =
+    let there : bucket ≡ get_or bs at [] = is ∙ get_or_default bs at bucket [] h in
+    let some : at < length bs → 0 < length (get_or bs at []) = subst (λ (xs : List (List Timed)). at < length xs → 0 < length (get_or xs at [])) same full in
+    let empty : AreEmptyBefore at bs = subst (λ (xs : List (List Timed)). AreEmptyBefore at xs) same e in
+    all-pairs (λ t. f ≤ t.date) bs (λ c. floor_at base at c f bs all empty (some h) (subst (λ (ts : List Timed). All (λ t. f ≤ t.date) ts) there low))
+
 -- the pairs of the bucket that is read on its own stand there
 pub in_place_read : (base at : ℕ) (bs : List (List Timed)) (bucket : List Timed) → InPlace base bs → at < length bs → bucket ≡ get_or bs at bucket → AreIn base at bucket
 in_place_read base at bs bucket all h is = subst (λ (ts : List Timed). AreIn base at ts) (sym (is ∙ get_or_default bs at bucket [] h)) (all at)

@@ -14,15 +14,19 @@ const LARGE: usize = 64;
 #[derive(Drop)]
 pub struct Bucket {
     items: Vec<Timed>,
+    /// No item has an earlier date.
+    floor: u64,
 }
 
 impl Model for Bucket {
-    ghost use Rattle.std.specs.Prelude.{List};
+    ghost use Rattle.std.specs.Prelude.{List, All, ◌≤◌};
     ghost use Rattle.crs_agenda.specs.declared.timed.Timed.{Timed};
 
     ghost Value = { List Timed };
 
     ghost view = { λ b. b.items.items };
+
+    ghost invariant = { λ b. All (λ t. b.floor ≤ t.date) b.items.items };
 }
 
 impl Bucket {
@@ -31,6 +35,7 @@ impl Bucket {
     {
         Bucket {
             items: Vec::new(alloc),
+            floor: u64::MAX,
         }
     }
 
@@ -45,9 +50,19 @@ impl Bucket {
         ensures err { OnErr result (self.new ≡ self.old) }
     {
         match self.items.push(timed) {
-            Ok(()) => Ok(()),
+            Ok(()) => {
+                self.floor = self.floor.min(timed.date);
+                Ok(())
+            }
             Err(_) => Err(AllocError),
         }
+    }
+
+    /// A date before which no pair is dated.
+    pub fn floor(&self) -> u64
+        ensures { All (λ t. result ≤ t.date) self.now }
+    {
+        self.floor
     }
 
     pub fn get(&self, at: usize) -> Timed
@@ -87,6 +102,7 @@ impl Bucket {
         ensures { self.new ≡ [] }
     {
         self.items.clear();
+        self.floor = u64::MAX;
     }
 
     /// Keeps those with a fresh handle, in their order.

@@ -110,6 +110,12 @@ impl Calendar {
             return None;
         }
         let bucket = &self.buckets[at];
+        let floor = bucket.floor();
+        if h <= floor {
+            self.stands = h;
+            self.wait = floor;
+            return None;
+        }
         let pick = earliest(bucket, at);
         let least = bucket.get(pick).date;
         if h <= least {

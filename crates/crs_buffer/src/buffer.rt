@@ -1,4 +1,4 @@
-ghost use Rattle.std.specs.Prelude.{◌≡◌, ◌≤◌, [], ◌↔◌, OnOk, OnErr, IsNone, option_map};
+ghost use Rattle.std.specs.Prelude.{◌≡◌, ◌≤◌, [], ◌↔◌, OnOk, OnErr, IfSome, IsNone, option_map, slice_get};
 ghost use Rattle.std.specs.List.{AllByRecursion};
 ghost use Rattle.crs_base.specs.Entry.{IsInKeyOrder};
 ghost use Rattle.crs_base.specs.Seen.{entry_of};
@@ -49,6 +49,19 @@ impl Buffer {
     {
         let _ = self.set.insert(Held { entry })?;
         Ok(())
+    }
+
+    /// The date of the entry of least key.
+    pub fn first_date(&self) -> Option<u64>
+        ensures first { result ≡ option_map (λ e. e.date) (slice_get self.now 0) }
+        ensures none { IsNone result ↔ (self.now ≡ []) }
+        ensures least { IfSome result (λ d. AllByRecursion (λ e. d ≤ e.date) self.now) }
+    {
+        if self.set.len() == 0 {
+            return None;
+        }
+        let first = self.set.first()?;
+        Some(first.entry.date)
     }
 
     /// Takes out the entry of least key, where it is dated before `h`.

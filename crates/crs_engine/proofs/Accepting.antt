@@ -71,7 +71,7 @@ in_order_more s w x h order before_h late up =
 
 pub accepted_from : (seen old : EngineState) (x : Entry Sym) (ws : List (Entry Sym)) → seen ≡ old → x.arrival ≡ seen.accepted → seen.horizon ≤ x.date → ws ≡ put_in_order x seen.waiting → IsInKeyOrder ws →
     (s w : List (Entry Sym)) → StandsFor old s w →
-    StandsFor (record { plans = seen.plans; stores = seen.stores; history = seen.history; waiting = ws; delay = seen.delay; last = seen.last; horizon = seen.horizon; accepted = seen.accepted + 1; limit = seen.limit; stopped = seen.stopped }) s (put_in_order x w)
+    StandsFor (record { plans = seen.plans; stores = seen.stores; history = seen.history; waiting = ws; delay = seen.delay; last = seen.last; horizon = seen.horizon; accepted = seen.accepted + 1; limit = seen.limit; focus = seen.focus; stopped = seen.stopped }) s (put_in_order x w)
 accepted_from seen old x ws view is late put sorted s w stands =
     let so : StandsFor seen s w = subst (λ (t : EngineState). StandsFor t s w) (sym view) stands in
     let held : ws ≡ put_in_order x w = put ∙ ap (put_in_order x) so.held in

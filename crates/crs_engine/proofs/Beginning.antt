@@ -6,7 +6,7 @@ use Rattle.std.proofs.lemmas.List.{map-append, take_more}
 use Rattle.crs_model.specs.declared.plan.Plan.{Plan}
 use Rattle.crs_history.specs.Histories.{HistoryState, lowest, IsFarBack}
 use Rattle.crs_store.specs.Stores.{StoreState, Stands}
-use Rattle.std.specs.Prelude.{◌^◌, false, ℤ, ◌≤ℤ◌, Option, Some, None}
+use Rattle.std.specs.Prelude.{◌^◌, Bool, false, ℤ, ◌≤ℤ◌, Option, Some, None}
 use Rattle.std.proofs.lemmas.Int.{ints}
 use Rattle.crs_base.specs.Entry.{IsInKeyOrder}
 use Rattle.crs_base.proofs.Alls.{all_each}
@@ -24,28 +24,31 @@ abbrev pub planned : List (Rc Plan Global) → List Plan
 planned rs = map (λ r. r.value) rs
 
 -- the stores of the first k plans
-pub record AreStartedBelow (k : ℕ) (plans : List (Rc Plan Global)) (stores : List StoreState) : Type 0 where
-  pub of : AreStoresOf (planned (take k plans)) 0 stores
+pub record AreStartedBelow (focus : Bool) (k : ℕ) (plans : List (Rc Plan Global)) (stores : List StoreState) : Type 0 where
+  pub of : AreStoresOf focus (planned (take k plans)) 0 stores
   pub stand : AllByRecursion (λ s. Stands s [] [] [] 0 0) stores
 
-stores_more : (ps : List Plan) (n : ℕ) (ss : List StoreState) (p : Plan) (s : StoreState) → AreStoresOf ps n ss → s.plan ≡ p → s.number ≡ n + length ps → AreStoresOf (ps ++ p ∷ []) n (ss ++ s ∷ [])
-stores_more [] n [] p s h a b = (a, omega (arith, b), tt)
-stores_more [] n (t ∷ ss) p s h a b = absurd h
-stores_more (q ∷ ps) n [] p s h a b = absurd h
-stores_more (q ∷ ps) n (t ∷ ss) p s h a b = (h.0, h.1, stores_more ps (suc n) ss p s h.2 a (omega (arith, b)))
+stores_more : (focus : Bool) (ps : List Plan) (n : ℕ) (ss : List StoreState) (p : Plan) (s : StoreState) → AreStoresOf focus ps n ss
+    → s.plan ≡ p → s.number ≡ n + length ps → s.focus ≡ focus → AreStoresOf focus (ps ++ p ∷ []) n (ss ++ s ∷ [])
+stores_more focus [] n [] p s h a b f = (record { plan = a; number = omega (arith, b); focus_is = f }, tt)
+stores_more focus [] n (t ∷ ss) p s h a b f = absurd h
+stores_more focus (q ∷ ps) n [] p s h a b f = absurd h
+stores_more focus (q ∷ ps) n (t ∷ ss) p s h a b f = (h.0, stores_more focus ps (suc n) ss p s h.1 a (omega (arith, b)) f)
 
 length_take : (k : ℕ) (plans : List (Rc Plan Global)) → k ≤ length plans → length (planned (take k plans)) ≡ k
 length_take zero plans l = refl
 length_take (suc k) [] l = absurd (omega arith)
 length_take (suc k) (r ∷ plans) l = ap suc (length_take k plans (omega arith))
 
-pub started_more : (k : ℕ) (plans : List (Rc Plan Global)) (out new : List StoreState) (r : Rc Plan Global) (s : StoreState) → k < length plans → r ≡ get_or plans k r → new ≡ out ++ s ∷ [] → AreStartedBelow k plans out → s.plan ≡ r.value → s.number ≡ k → Stands s [] [] [] 0 0 → AreStartedBelow (k + 1) plans new
-started_more k plans out new r s l at_k q h a b stands =
+pub started_more : (focus : Bool) (k : ℕ) (plans : List (Rc Plan Global)) (out new : List StoreState) (r : Rc Plan Global) (s : StoreState)
+    → k < length plans → r ≡ get_or plans k r → new ≡ out ++ s ∷ [] → AreStartedBelow focus k plans out → s.plan ≡ r.value → s.number ≡ k
+    → s.focus ≡ focus → Stands s [] [] [] 0 0 → AreStartedBelow focus (k + 1) plans new
+started_more focus k plans out new r s l at_k q h a b f stands =
     let cut : planned (take (k + 1) plans) ≡ planned (take k plans) ++ r.value ∷ [] =
     ap planned (take_more plans k r l ∙ ap (λ (t : Rc Plan Global). take k plans ++ t ∷ []) (sym at_k)) ∙ map-append (λ (t : Rc Plan Global). t.value) (take k plans) (r ∷ []) in
     let long = length_take k plans (omega arith) in
     rw q (record {
-      of = subst (λ (t : List Plan). AreStoresOf t 0 (out ++ s ∷ [])) (sym cut) (stores_more (planned (take k plans)) 0 out r.value s h.of a (omega (arith, b)));
+      of = subst (λ (t : List Plan). AreStoresOf focus t 0 (out ++ s ∷ [])) (sym cut) (stores_more focus (planned (take k plans)) 0 out r.value s h.of a (omega (arith, b)) f);
       stand = all_put (λ t. Stands t [] [] [] 0 0) out s h.stand stands;
     })
 
@@ -53,9 +56,11 @@ all_far : {floor : ℤ} → floor ≡ lowest → (ps : List Plan) → AllByRecur
 all_far e [] = tt
 all_far e (p ∷ ps) = (inl e, all_far e ps)
 
-pub new_stands : (plans : Plans) (stores : List StoreState) (limit : ℕ) → AreStoresOf (plans_of plans) 0 stores → AllByRecursion (λ s. Stands s [] [] [] 0 0) stores → (past : HistoryState) → past ≡ record { entries = []; floor = lowest } → (ws : List (Entry Sym)) → ws ≡ [] →
-    StandsFor (record { plans = plans; stores = stores; history = past; waiting = ws; delay = 0; last = 0; horizon = 0; accepted = 0; limit = limit; stopped = false }) [] []
-new_stands plans stores limit of stand past none ws e = record {
+pub new_stands : (plans : Plans) (stores : List StoreState) (focus : Bool) (limit : ℕ) → AreStoresOf focus (plans_of plans) 0 stores
+    → AllByRecursion (λ s. Stands s [] [] [] 0 0) stores → (past : HistoryState) → past ≡ record { entries = []; floor = lowest }
+    → (ws : List (Entry Sym)) → ws ≡ [] →
+    StandsFor (record { plans = plans; stores = stores; history = past; waiting = ws; delay = 0; last = 0; horizon = 0; accepted = 0; limit = limit; focus = focus; stopped = false }) [] []
+new_stands plans stores focus limit of stand past none ws e = record {
   settled_before = tt;
   waiting_after = tt;
   in_order = tt;
@@ -63,7 +68,7 @@ new_stands plans stores limit of stand past none ws e = record {
   held = e;
   history = ap (λ (h : HistoryState). h.entries) none;
   far_back = all_far (ap (λ (h : HistoryState). h.floor) none) (plans_of plans);
-  stores = stores_at [] 0 (plans_of plans) 0 stores of stand;
+  stores = stores_at focus [] 0 (plans_of plans) 0 stores of stand;
 }
 
 pub plans_proper : (rs : List (Rc Plan Global)) → AllByRecursion (λ r. IsProper r.value) rs → AllByRecursion (λ p. IsProper p) (planned rs)
@@ -74,10 +79,11 @@ from_lowest : (all : Option ℤ) → IsSmallSpan all → lowest ≤ℤ floor_at 
 from_lowest None k = omega (arith, ints)
 from_lowest (Some d) k = omega (arith, ints)
 
-pub new_engine : (plans : Plans) (stores : List StoreState) (limit : ℕ) → AreStoresOf (plans_of plans) 0 stores → AllByRecursion (λ p. IsProper p) (plans_of plans) → IsReachOfAll (reaches_of plans) plans.reach → limit < 2 ^ 32 →
+pub new_engine : (plans : Plans) (stores : List StoreState) (focus : Bool) (limit : ℕ) → AreStoresOf focus (plans_of plans) 0 stores
+    → AllByRecursion (λ p. IsProper p) (plans_of plans) → IsReachOfAll (reaches_of plans) plans.reach → limit < 2 ^ 32 →
     (past : HistoryState) → past ≡ record { entries = []; floor = lowest } → (ws : List (Entry Sym)) → ws ≡ [] →
-    IsEngine (record { plans = plans; stores = stores; history = past; waiting = ws; delay = 0; last = 0; horizon = 0; accepted = 0; limit = limit; stopped = false })
-new_engine plans stores limit of proper reach limited past none ws e =
+    IsEngine (record { plans = plans; stores = stores; history = past; waiting = ws; delay = 0; last = 0; horizon = 0; accepted = 0; limit = limit; focus = focus; stopped = false })
+new_engine plans stores focus limit of proper reach limited past none ws e =
     let small = small_span plans.reach (plans_of plans) reach (all_each {P = IsProper} (plans_of plans) (λ p k. k.small) proper) in
     let floor : past.floor ≡ lowest = ap (λ (h : HistoryState). h.floor) none in
     record {

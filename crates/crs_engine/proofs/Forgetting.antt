@@ -11,11 +11,7 @@ use Rattle.crs_base.specs.Sifted.{Sifts}
 use Rattle.crs_base.proofs.Words.{ordered_append, in_from_each, each_from_in}
 use Rattle.crs_base.proofs.Sifted.{sifts_ordered, sifted_in}
 use Rattle.crs_history.specs.Histories.{HistoryState, lowest, IsFarBack, IsKept, StandsFor as HistoryStandsFor}
-use Rattle.crs_model.specs.declared.recognition.Mark.{Mark}
-use Rattle.crs_model.specs.declared.recognition.Recognition.{Recognition}
-use Rattle.crs_model.specs.Open.{before}
-use Rattle.crs_engine.specs.Engines.{EngineState, StandsFor, IsEngine, plans_of, reaches_of, floor_at, since}
-use Rattle.crs_engine.specs.Marks.{AfterMark, ListsAllNew}
+use Rattle.crs_engine.specs.Engines.{EngineState, StandsFor, IsEngine, plans_of, reaches_of, floor_at}
 use Rattle.crs_engine.proofs.Floors.{all_far_at, floor_within, from_zero, from_floor}
 use Rattle.crs_engine.proofs.Order.{ordered_left, ordered_right, ordered_cross}
 
@@ -83,13 +79,3 @@ waits_from_floor seen is =
     let within = floor_within seen.plans.reach seen.horizon (from_zero seen.plans.reach (reaches_of seen.plans) is.reach) in
     let needed = is.needed in
     from_floor seen.history.floor seen.horizon seen.waiting (omega (arith, ints)) is.due
-
--- a mark, and then a history from which something was forgotten
-pub mark_forgot : (old mid new : EngineState) (mark : Mark) → new ≡ record mid { history = new.history } → ((s w : List (Entry Sym)) → StandsFor mid s w → StandsFor new s w) →
-    (s w : List (Entry Sym)) (answer : List Recognition) → AfterMark old mid mark s w answer → AfterMark old new mark s w answer
-mark_forgot old mid new mark same stands s w answer after =
-    let h : mid.horizon ≡ new.horizon = sym (ap (λ (e : EngineState). e.horizon) same) in
-    record {
-      stands = subst (λ (g : ℕ). StandsFor new (s ++ before g w) (since g w)) h (stands (s ++ before mid.horizon w) (since mid.horizon w) after.stands);
-      answers = subst (λ (g : ℕ). ListsAllNew (plans_of old.plans) 0 mark s old.horizon (s ++ before g w) g answer) h after.answers;
-    }

@@ -20,16 +20,17 @@ use Rattle.crs_model.specs.Open.{IsNew, before}
 use Rattle.crs_model.specs.Order.{Lists, assignment_cmp}
 use Rattle.crs_model.specs.Plans.{chronicle}
 use Rattle.crs_model.specs.Seen.{assignment_of}
-use Rattle.crs_store.specs.Stores.{StoreState, Stands}
+use Rattle.crs_store.specs.Stores.{StoreState, Stands, IsSameStore}
 use Rattle.crs_store.specs.Answers.{IsAnswer, IsMarked}
 use Rattle.std.specs.Prelude.{ℤ, ◌≤ℤ◌, false, Result, Ok, Err, IfOk, OnOk}
 use Rattle.crs_history.specs.Histories.{HistoryState, lowest, IsFarBack, StandsFor as HistoryStandsFor}
 use Rattle.crs_model.specs.Models.{Chronicle}
 use Rattle.crs_engine.specs.declared.refused.Refused.{Refused}
-use Rattle.crs_engine.specs.Engines.{HasMoved, EngineState, StandsFor, HaveNumbersBelow, IsStoreAt, AreStoresOf, IsWaiting, IsEngine, plans_of, floor_at, since}
+use Rattle.crs_engine.specs.Engines.{HasMoved, EngineState, StandsFor, HaveNumbersBelow, IsStoreAt, IsStoreOf, AreStoresOf, IsWaiting, IsEngine, plans_of, floor_at, since}
 use Rattle.crs_engine.proofs.Floors.{floor_later}
 use Rattle.crs_engine.specs.Marks.{ListsNew, ListsAllNew, AfterMark}
-use Rattle.crs_engine.specs.Moves.{AreSameStores, AreOffered, HasPut, AreOfferedAll, AreAdvanced, AreMarked, IsRestOf}
+use Rattle.crs_engine.specs.Moves.{AreSameStores, AreOffered, HasPut, AreOfferedAll, AreAdvanced, AreMarked, IsRestOf, date_after}
+use Rattle.crs_engine.proofs.Settling.{date_within}
 use Rattle.crs_engine.proofs.Order.{numbers_few, ordered_left, ordered_right, ordered_cross, before_parts, since_parts}
 
 abbrev pub AllStand : List StoreState → List (Entry Sym) → List (Entry Sym) → ℕ → ℕ → Type 0
@@ -44,11 +45,12 @@ plans_later : (g h : ℕ) (floor : ℤ) → g ≤ h → (ps : List Plan) → All
 plans_later g h floor l [] k = tt
 plans_later g h floor l (p ∷ ps) k = (far_later p.reach g h floor l k.0, plans_later g h floor l ps k.1)
 
-stores_far : (g : ℕ) (floor : ℤ) (ps : List Plan) (n : ℕ) (ss : List StoreState) → AreStoresOf ps n ss → AllByRecursion (λ p. IsFarBack p.reach g floor) ps → AllFar ss g floor
-stores_far g floor [] n [] of k = tt
-stores_far g floor [] n (s ∷ ss) of k = absurd of
-stores_far g floor (p ∷ ps) n [] of k = absurd of
-stores_far g floor (p ∷ ps) n (s ∷ ss) of k = (subst (λ (q : Plan). IsFarBack q.reach g floor) (sym of.0) k.0, stores_far g floor ps (suc n) ss of.2 k.1)
+stores_far : (g : ℕ) (floor : ℤ) (focus : Bool) (ps : List Plan) (n : ℕ) (ss : List StoreState) → AreStoresOf focus ps n ss
+    → AllByRecursion (λ p. IsFarBack p.reach g floor) ps → AllFar ss g floor
+stores_far g floor focus [] n [] of k = tt
+stores_far g floor focus [] n (s ∷ ss) of k = absurd of
+stores_far g floor focus (p ∷ ps) n [] of k = absurd of
+stores_far g floor focus (p ∷ ps) n (s ∷ ss) of k = (subst (λ (q : Plan). IsFarBack q.reach g floor) (sym (of.0).plan) k.0, stores_far g floor focus ps (suc n) ss of.1 k.1)
 
 same_far : (g : ℕ) (floor : ℤ) (olds news : List StoreState) → AreSameStores olds news → AllFar olds g floor → AllFar news g floor
 same_far g floor [] [] s k = tt
@@ -58,12 +60,14 @@ same_far g floor (o ∷ olds) (n ∷ news) s k = (subst (λ (q : Plan). IsFarBac
 
 -- ---- offered
 
-offered_one : (olds news : List StoreState) (put : HistoryState) (x : Entry Sym) (was pool : List (Entry Sym)) (d g : ℕ) → AllStand olds was pool d g → AreOffered olds put x news → HistoryStandsFor (pool ++ x ∷ []) put → AllFar olds g put.floor → length (pool ++ x ∷ []) < 2 ^ 32 → IsFresh pool x → d ≤ x.date →
-    AllStand news was (pool ++ x ∷ []) x.date g
-offered_one [] [] put x was pool d g h k kept far few fresh later = tt
-offered_one [] (n ∷ news) put x was pool d g h k kept far few fresh later = absurd k
-offered_one (o ∷ olds) [] put x was pool d g h k kept far few fresh later = absurd k
-offered_one (o ∷ olds) (n ∷ news) put x was pool d g h k kept far few fresh later = (k.0 was pool d g h.0 kept far.0 few fresh later, offered_one olds news put x was pool d g h.1 k.1 kept far.1 few fresh later)
+offered_one : (olds news : List StoreState) (put : HistoryState) (x : Entry Sym) (until : ℕ) (was pool : List (Entry Sym)) (d g : ℕ)
+    → AllStand olds was pool d g → AreOffered olds put x until news → HistoryStandsFor (pool ++ x ∷ []) put → AllFar olds g put.floor
+    → length (pool ++ x ∷ []) < 2 ^ 32 → IsFresh pool x → d ≤ x.date →
+    AllStand news was (pool ++ x ∷ []) until g
+offered_one [] [] put x until was pool d g h k kept far few fresh later = tt
+offered_one [] (n ∷ news) put x until was pool d g h k kept far few fresh later = absurd k
+offered_one (o ∷ olds) [] put x until was pool d g h k kept far few fresh later = absurd k
+offered_one (o ∷ olds) (n ∷ news) put x until was pool d g h k kept far few fresh later = (k.0 was pool d g h.0 kept far.0 few fresh later, offered_one olds news put x until was pool d g h.1 k.1 kept far.1 few fresh later)
 
 -- the stores and the history stand for what is settled, and the history goes far enough back
 pub record StandTogether (ss : List StoreState) (past : HistoryState) (was pool : List (Entry Sym)) (d g : ℕ) : Type 0 where
@@ -71,31 +75,43 @@ pub record StandTogether (ss : List StoreState) (past : HistoryState) (was pool 
   pub history : HistoryStandsFor pool past
   pub far : AllFar ss g past.floor
 
-stand_offered : (olds next : List StoreState) (past put : HistoryState) (x : Entry Sym) (was pool : List (Entry Sym)) (d g : ℕ) → StandTogether olds past was pool d g → HasPut past x put → AreSameStores olds next → AreOffered olds put x next → length (pool ++ x ∷ []) < 2 ^ 32 → IsFresh pool x → d ≤ x.date →
-    StandTogether next put was (pool ++ x ∷ []) x.date g
-stand_offered olds next past put x was pool d g stand has same k few fresh later =
+stand_offered : (olds next : List StoreState) (past put : HistoryState) (x : Entry Sym) (until : ℕ) (was pool : List (Entry Sym)) (d g : ℕ)
+    → StandTogether olds past was pool d g → HasPut past x put → AreSameStores olds next → AreOffered olds put x until next
+    → length (pool ++ x ∷ []) < 2 ^ 32 → IsFresh pool x → d ≤ x.date → StandTogether next put was (pool ++ x ∷ []) until g
+stand_offered olds next past put x until was pool d g stand has same k few fresh later =
     let far : AllFar olds g put.floor = subst (AllFar olds g) (sym has.floor) stand.far in
     record {
-      stores = offered_one olds next put x was pool d g stand.stores k (has.stands pool stand.history) far few fresh later;
+      stores = offered_one olds next put x until was pool d g stand.stores k (has.stands pool stand.history) far few fresh later;
       history = has.stands pool stand.history;
       far = same_far g put.floor olds next same far;
     }
 
-offered_all : (xs : List (Entry Sym)) (olds news : List StoreState) (past now : HistoryState) (was pool : List (Entry Sym)) (d g h : ℕ) → StandTogether olds past was pool d g → AreOfferedAll olds past xs news now → AreDistinct (pool ++ xs) → AllByRecursion (λ x. d ≤ x.date) xs → Ordered (λ x y. x.date ≤ y.date) xs → d ≤ h → AllByRecursion (λ x. x.date < h) xs → length (pool ++ xs) < 2 ^ 32 →
+-- no entry that is still to come is before the date of the next one
+none_before : (h : ℕ) (xs rest : List (Entry Sym)) → Ordered (λ x y. x.date ≤ y.date) xs
+    → AllByRecursion (λ x. date_after h (xs ++ rest) ≤ x.date) xs
+none_before h [] rest dates = tt
+none_before h (x ∷ xs) rest dates = (omega arith, all_each {P = λ y. x.date ≤ y.date} xs (λ y l. omega arith) dates.0)
+
+offered_all : (h : ℕ) (rest xs : List (Entry Sym)) (olds news : List StoreState) (past now : HistoryState) (was pool : List (Entry Sym))
+    (d g : ℕ)
+    → StandTogether olds past was pool d g → AreOfferedAll h rest olds past xs news now → AreDistinct (pool ++ xs)
+    → AllByRecursion (λ x. d ≤ x.date) xs
+    → Ordered (λ x y. x.date ≤ y.date) xs → d ≤ h → length (pool ++ xs) < 2 ^ 32 →
     (e : ℕ) × StandTogether news now was (pool ++ xs) e g × (e ≤ h)
-offered_all [] olds news past now was pool d g h stand k apart later dates low before_h few = (
+offered_all h rest [] olds news past now was pool d g stand k apart later dates low few = (
   d,
   subst (λ (t : List (Entry Sym)). StandTogether news now was t d g) (sym (append-nil pool))
       (subst (λ (t : List StoreState). StandTogether t now was pool d g) (sym k.0) (subst (λ (t : HistoryState). StandTogether olds t was pool d g) (sym k.1) stand)),
   low,
 )
-offered_all (x ∷ xs) olds news past now was pool d g h stand k apart later dates low before_h few =
+offered_all h rest (x ∷ xs) olds news past now was pool d g stand k apart later dates low few =
     let next = k.0 in
     let put = k.1 in
     let joined : (pool ++ x ∷ []) ++ xs ≡ pool ++ x ∷ xs = append_assoc pool (x ∷ []) xs in
     let few_one : length (pool ++ x ∷ []) < 2 ^ 32 = let a = length-append pool (x ∷ []) in let b = length-append pool (x ∷ xs) in omega arith in
-    let one = stand_offered olds next past put x was pool d g stand k.2 k.3 k.4 few_one (λ e i. ordered_cross (λ a b. a.arrival ≢ b.arrival) pool (x ∷ xs) apart e x i (inl refl)) later.0 in
-    let r = offered_all xs next news put now was (pool ++ x ∷ []) x.date g h one k.5 (subst AreDistinct (sym joined) apart) dates.0 dates.1 (let b = before_h.0 in omega arith) before_h.1 (subst (λ (t : List (Entry Sym)). length t < 2 ^ 32) (sym joined) few) in
+    let one = stand_offered olds next past put x (date_after h (xs ++ rest)) was pool d g stand k.2 k.3 k.4 few_one (λ e i. ordered_cross (λ a b. a.arrival ≢ b.arrival) pool (x ∷ xs) apart e x i (inl refl)) later.0 in
+    let r = offered_all h rest xs next news put now was (pool ++ x ∷ []) (date_after h (xs ++ rest)) g one k.5 (subst AreDistinct (sym joined) apart) (none_before h xs rest dates.1) dates.1 (date_within h (xs ++ rest))
+    (subst (λ (t : List (Entry Sym)). length t < 2 ^ 32) (sym joined) few) in
     (r.0, subst (λ (t : List (Entry Sym)). StandTogether news now was t r.0 g) joined r.1, r.2)
 
 -- ---- advanced
@@ -109,46 +125,57 @@ answer_as p n o mark was pool g h first sp sn sw a =
     }
 
 module _ (history : HistoryState) (mark : Mark) (was pool : List (Entry Sym)) (d g h : ℕ) (sw : before g pool ≡ was) (kept : HistoryStandsFor pool history) (few : length pool < 2 ^ 32) (apart : AreDistinct pool) (later : d ≤ h) (dated : (e : Entry Sym) → IsIn e pool → e.date < h) (dates : Ordered (λ x y. x.date ≤ y.date) pool) where
-  advanced_all : (ps : List Plan) (n : ℕ) (olds news : List StoreState) (answer : List Recognition) → AreStoresOf ps n olds → AllStand olds was pool d g → AllFar olds g history.floor → AreAdvanced history h mark olds news answer → AllStand news pool pool h h × ListsAllNew ps n mark was g pool h answer
-  advanced_all [] n [] news answer of stand far k = (subst (λ (t : List StoreState). AllStand t pool pool h h) (sym k.0) tt, k.1)
-  advanced_all [] n (o ∷ olds) news answer of stand far k = absurd of
-  advanced_all (p ∷ ps) n [] news answer of stand far k = absurd of
-  advanced_all (p ∷ ps) n (o ∷ olds) news answer of stand far k =
+  advanced_all : (focus : Bool) (ps : List Plan) (n : ℕ) (olds news : List StoreState) (answer : List Recognition)
+      → AreStoresOf focus ps n olds → AllStand olds was pool d g → AllFar olds g history.floor → AreAdvanced history h mark olds news answer
+      → AllStand news pool pool h h × ListsAllNew ps n mark was g pool h answer
+  advanced_all focus [] n [] news answer of stand far k = (subst (λ (t : List StoreState). AllStand t pool pool h h) (sym k.0) tt, k.1)
+  advanced_all focus [] n (o ∷ olds) news answer of stand far k = absurd of
+  advanced_all focus (p ∷ ps) n [] news answer of stand far k = absurd of
+  advanced_all focus (p ∷ ps) n (o ∷ olds) news answer of stand far k =
       let new_one = k.0 in
       let rest = k.1 in
       let first = k.2 in
       let more = k.3 in
       let marked : IsMarked o new_one mark was pool pool g h first = k.6 was pool pool d g stand.0 kept far.0 few apart later dated dates in
-      let r = advanced_all ps (suc n) olds rest more of.2 stand.1 far.1 k.7 in (
+      let r = advanced_all focus ps (suc n) olds rest more of.1 stand.1 far.1 k.7 in (
         subst (λ (t : List StoreState). AllStand t pool pool h h) (sym k.4) (marked.stands, r.0),
-        (first, more, k.5, answer_as p n o mark was pool g h first of.0 of.1 sw marked.answers, r.1),
+        (first, more, k.5, answer_as p n o mark was pool g h first (of.0).plan (of.0).number sw marked.answers, r.1),
       )
 
 -- ---- the stores of the plans
 
-pub stores_same : (ps : List Plan) (n : ℕ) (olds news : List StoreState) → AreStoresOf ps n olds → AreSameStores olds news → AreStoresOf ps n news
-stores_same [] n [] [] h k = tt
-stores_same [] n [] (x ∷ news) h k = absurd k
-stores_same [] n (o ∷ olds) news h k = absurd h
-stores_same (p ∷ ps) n [] news h k = absurd h
-stores_same (p ∷ ps) n (o ∷ olds) [] h k = absurd k
-stores_same (p ∷ ps) n (o ∷ olds) (x ∷ news) h k = ((k.0).plan ∙ h.0, (k.0).number ∙ h.1, stores_same ps (suc n) olds news h.2 k.1)
+same_store_of : (focus : Bool) (p : Plan) (n : ℕ) (o x : StoreState) → IsStoreOf focus p n o → IsSameStore o x → IsStoreOf focus p n x
+same_store_of focus p n o x h k = record { plan = k.plan ∙ h.plan; number = k.number ∙ h.number; focus_is = k.focus ∙ h.focus_is }
 
-pub all_stand : (settled : List (Entry Sym)) (h : ℕ) (ps : List Plan) (ss : List StoreState) → AllZip (IsStoreAt settled h) ps ss → AllStand ss settled settled h h
-all_stand settled h [] [] z = tt
-all_stand settled h [] (s ∷ ss) z = absurd z
-all_stand settled h (p ∷ ps) [] z = absurd z
-all_stand settled h (p ∷ ps) (s ∷ ss) z = ((z.0).1, all_stand settled h ps ss z.1)
+pub stores_same : (focus : Bool) (ps : List Plan) (n : ℕ) (olds news : List StoreState) → AreStoresOf focus ps n olds
+    → AreSameStores olds news → AreStoresOf focus ps n news
+stores_same focus [] n [] [] h k = tt
+stores_same focus [] n [] (x ∷ news) h k = absurd k
+stores_same focus [] n (o ∷ olds) news h k = absurd h
+stores_same focus (p ∷ ps) n [] news h k = absurd h
+stores_same focus (p ∷ ps) n (o ∷ olds) [] h k = absurd k
+stores_same focus (p ∷ ps) n (o ∷ olds) (x ∷ news) h k = (same_store_of focus p n o x h.0 k.0, stores_same focus ps (suc n) olds news h.1 k.1)
 
-pub stores_at : (settled : List (Entry Sym)) (h : ℕ) (ps : List Plan) (n : ℕ) (ss : List StoreState) → AreStoresOf ps n ss → AllStand ss settled settled h h → AllZip (IsStoreAt settled h) ps ss
-stores_at settled h [] n [] of stand = tt
-stores_at settled h [] n (s ∷ ss) of stand = absurd of
-stores_at settled h (p ∷ ps) n [] of stand = absurd of
-stores_at settled h (p ∷ ps) n (s ∷ ss) of stand = ((of.0, stand.0), stores_at settled h ps (suc n) ss of.2 stand.1)
+pub all_stand : (focus : Bool) (settled : List (Entry Sym)) (h : ℕ) (ps : List Plan) (ss : List StoreState)
+    → AllZip (IsStoreAt focus settled h) ps ss → AllStand ss settled settled h h
+all_stand focus settled h [] [] z = tt
+all_stand focus settled h [] (s ∷ ss) z = absurd z
+all_stand focus settled h (p ∷ ps) [] z = absurd z
+all_stand focus settled h (p ∷ ps) (s ∷ ss) z = ((z.0).stands, all_stand focus settled h ps ss z.1)
+
+pub stores_at : (focus : Bool) (settled : List (Entry Sym)) (h : ℕ) (ps : List Plan) (n : ℕ) (ss : List StoreState)
+    → AreStoresOf focus ps n ss → AllStand ss settled settled h h → AllZip (IsStoreAt focus settled h) ps ss
+stores_at focus settled h [] n [] of stand = tt
+stores_at focus settled h [] n (s ∷ ss) of stand = absurd of
+stores_at focus settled h (p ∷ ps) n [] of stand = absurd of
+stores_at focus settled h (p ∷ ps) n (s ∷ ss) of stand =
+    (record { plan = (of.0).plan; focus_is = (of.0).focus_is; stands = stand.0 }, stores_at focus settled h ps (suc n) ss of.1 stand.1)
 
 -- ---- a mark
 
-module _ (seen new : EngineState) (mark : Mark) (answer : List Recognition) (same_plans : new.plans ≡ seen.plans) (same_count : new.accepted ≡ seen.accepted) (floor : new.history.floor ≡ seen.history.floor) (few : seen.accepted < 2 ^ 32) (of : AreStoresOf (plans_of seen.plans) 0 seen.stores) (later : seen.horizon ≤ new.horizon)
+module _ (seen new : EngineState) (mark : Mark) (answer : List Recognition) (same_plans : new.plans ≡ seen.plans)
+    (same_focus : new.focus ≡ seen.focus) (same_count : new.accepted ≡ seen.accepted) (floor : new.history.floor ≡ seen.history.floor)
+    (few : seen.accepted < 2 ^ 32) (of : AreStoresOf seen.focus (plans_of seen.plans) 0 seen.stores) (later : seen.horizon ≤ new.horizon)
     (marked : AreMarked new.horizon mark seen.stores seen.history seen.waiting new.stores new.history new.waiting answer) (same : AreSameStores seen.stores new.stores) (s w : List (Entry Sym)) (stands : StandsFor seen s w) where
   parted : w ≡ (marked.settled).done ++ new.waiting
   parted = sym stands.held ∙ (marked.settled).parted
@@ -185,19 +212,19 @@ module _ (seen new : EngineState) (mark : Mark) (answer : List Recognition) (sam
 
   together : StandTogether seen.stores seen.history s s seen.horizon seen.horizon
   together = record {
-    stores = all_stand s seen.horizon (plans_of seen.plans) seen.stores stands.stores;
+    stores = all_stand seen.focus s seen.horizon (plans_of seen.plans) seen.stores stands.stores;
     history = stands.history;
-    far = stores_far seen.horizon seen.history.floor (plans_of seen.plans) 0 seen.stores of stands.far_back;
+    far = stores_far seen.horizon seen.history.floor seen.focus (plans_of seen.plans) 0 seen.stores of stands.far_back;
   }
 
   offers : (e : ℕ) × StandTogether marked.between new.history s (s ++ (marked.settled).done) e seen.horizon × (e ≤ new.horizon)
-  offers = offered_all (marked.settled).done seen.stores marked.between seen.history new.history s s seen.horizon seen.horizon new.horizon together (marked.settled).offered apart done_after
-      (ordered_right (λ x y. x.date ≤ y.date) s (marked.settled).done (in_dates (s ++ (marked.settled).done) up_now)) later (marked.settled).done_before few_settled
+  offers = offered_all new.horizon new.waiting (marked.settled).done seen.stores marked.between seen.history new.history s s seen.horizon seen.horizon together (marked.settled).offered apart done_after
+      (ordered_right (λ x y. x.date ≤ y.date) s (marked.settled).done (in_dates (s ++ (marked.settled).done) up_now)) later few_settled
 
   after : AllStand new.stores (s ++ (marked.settled).done) (s ++ (marked.settled).done) new.horizon new.horizon × ListsAllNew (plans_of seen.plans) 0 mark s seen.horizon (s ++ (marked.settled).done) new.horizon answer
   after = advanced_all new.history mark s (s ++ (marked.settled).done) offers.0 seen.horizon new.horizon (before_parts seen.horizon s (marked.settled).done stands.settled_before done_after) (offers.1).history few_settled apart offers.2
       (λ e i. in_from_each (λ x. x.date < new.horizon) (s ++ (marked.settled).done) all_before e i) (in_dates (s ++ (marked.settled).done) up_now)
-      (plans_of seen.plans) 0 marked.between new.stores answer (stores_same (plans_of seen.plans) 0 seen.stores marked.between of (marked.settled).same) (offers.1).stores (offers.1).far marked.advanced
+      seen.focus (plans_of seen.plans) 0 marked.between new.stores answer (stores_same seen.focus (plans_of seen.plans) 0 seen.stores marked.between of (marked.settled).same) (offers.1).stores (offers.1).far marked.advanced
 
   far_back : AllByRecursion (λ p. IsFarBack p.reach new.horizon new.history.floor) (plans_of seen.plans)
   far_back = subst (λ (z : ℤ). AllByRecursion (λ p. IsFarBack p.reach new.horizon z) (plans_of seen.plans)) (sym floor) (plans_later seen.horizon new.horizon seen.history.floor later (plans_of seen.plans) stands.far_back)
@@ -211,8 +238,9 @@ module _ (seen new : EngineState) (mark : Mark) (answer : List Recognition) (sam
     held = refl;
     history = (offers.1).history;
     far_back = subst (λ (ps : List Plan). AllByRecursion (λ p. IsFarBack p.reach new.horizon new.history.floor) ps) (sym (ap plans_of same_plans)) far_back;
-    stores = subst (λ (ps : List Plan). AllZip (IsStoreAt (s ++ (marked.settled).done) new.horizon) ps new.stores) (sym (ap plans_of same_plans))
-        (stores_at (s ++ (marked.settled).done) new.horizon (plans_of seen.plans) 0 new.stores (stores_same (plans_of seen.plans) 0 seen.stores new.stores of same) after.0);
+    stores = subst (λ (b : Bool). AllZip (IsStoreAt b (s ++ (marked.settled).done) new.horizon) (plans_of new.plans) new.stores) (sym same_focus)
+        (subst (λ (ps : List Plan). AllZip (IsStoreAt seen.focus (s ++ (marked.settled).done) new.horizon) ps new.stores) (sym (ap plans_of same_plans))
+        (stores_at seen.focus (s ++ (marked.settled).done) new.horizon (plans_of seen.plans) 0 new.stores (stores_same seen.focus (plans_of seen.plans) 0 seen.stores new.stores of same) after.0));
   }
 
   pub after_mark : AfterMark seen new mark s w answer
@@ -253,9 +281,9 @@ rest_waiting n held rest h r = all_right (IsWaiting n) r.0 rest (subst (AllByRec
 pub engine_on : (seen : EngineState) (news : List StoreState) (now : HistoryState) (rest : List (Entry Sym)) (t h : ℕ) (stopped : Bool) → IsEngine seen → AreSameStores seen.stores news → IsRestOf seen.waiting rest → h ≤ 2 ^ 42 → (t < 2 ^ 40 → h ≤ t - seen.delay) →
     IsInKeyOrder (now.entries ++ rest) → now.floor ≡ seen.history.floor → (stopped ≡ false → AllByRecursion (λ x. x.date < h) now.entries) →
     seen.horizon ≤ h → AllByRecursion (λ x. h ≤ x.date) rest →
-    IsEngine (record { plans = seen.plans; stores = news; history = now; waiting = rest; delay = seen.delay; last = t; horizon = h; accepted = seen.accepted; limit = seen.limit; stopped = stopped })
+    IsEngine (record { plans = seen.plans; stores = news; history = now; waiting = rest; delay = seen.delay; last = t; horizon = h; accepted = seen.accepted; limit = seen.limit; focus = seen.focus; stopped = stopped })
 engine_on seen news now rest t h stopped is same r low behind order floor settled later due = record {
-  stores = stores_same (plans_of seen.plans) 0 seen.stores news is.stores same;
+  stores = stores_same seen.focus (plans_of seen.plans) 0 seen.stores news is.stores same;
   waiting = rest_waiting seen.accepted seen.waiting rest is.waiting r;
   few = is.few;
   limited = is.limited;
@@ -274,11 +302,11 @@ pub rest_due : (h : ℕ) (held rest : List (Entry Sym)) → AllByRecursion (λ x
 rest_due h held rest all r = all_right (λ x. h ≤ x.date) r.0 rest (subst (AllByRecursion (λ x. h ≤ x.date)) r.1 all)
 
 pub marked_from : (seen old : EngineState) (news : List StoreState) (now : HistoryState) (rest : List (Entry Sym)) (t h : ℕ) (stopped : Bool) (mark : Mark) (answer : List Recognition) → seen ≡ old → IsEngine seen → seen.horizon ≤ h → AreMarked h mark seen.stores seen.history seen.waiting news now rest answer → AreSameStores seen.stores news → now.floor ≡ seen.history.floor →
-    (s w : List (Entry Sym)) → StandsFor old s w → AfterMark old (record { plans = seen.plans; stores = news; history = now; waiting = rest; delay = seen.delay; last = t; horizon = h; accepted = seen.accepted; limit = seen.limit; stopped = stopped }) mark s w answer
+    (s w : List (Entry Sym)) → StandsFor old s w → AfterMark old (record { plans = seen.plans; stores = news; history = now; waiting = rest; delay = seen.delay; last = t; horizon = h; accepted = seen.accepted; limit = seen.limit; focus = seen.focus; stopped = stopped }) mark s w answer
 marked_from seen old news now rest t h stopped mark answer view is later marked same floor s w stands =
-    let new : EngineState = record { plans = seen.plans; stores = news; history = now; waiting = rest; delay = seen.delay; last = t; horizon = h; accepted = seen.accepted; limit = seen.limit; stopped = stopped } in
+    let new : EngineState = record { plans = seen.plans; stores = news; history = now; waiting = rest; delay = seen.delay; last = t; horizon = h; accepted = seen.accepted; limit = seen.limit; focus = seen.focus; stopped = stopped } in
     subst (λ (o : EngineState). AfterMark o new mark s w answer) view
-    (after_mark seen new mark answer refl refl floor (let a = is.few in let b = is.limited in omega arith) is.stores later marked same s w (subst (λ (o : EngineState). StandsFor o s w) (sym view) stands))
+    (after_mark seen new mark answer refl refl refl floor (let a = is.few in let b = is.limited in omega arith) is.stores later marked same s w (subst (λ (o : EngineState). StandsFor o s w) (sym view) stands))
 
 -- ---- the end again
 
@@ -310,7 +338,7 @@ again_by (Err e) seen old new mark view is moved marked at = tt
 
 -- a delay changes nothing of what an engine stands for
 pub delayed : (seen old : EngineState) (d : ℕ) → seen ≡ old → (s w : List (Entry Sym)) → StandsFor old s w →
-    StandsFor (record { plans = seen.plans; stores = seen.stores; history = seen.history; waiting = seen.waiting; delay = d; last = seen.last; horizon = seen.horizon; accepted = seen.accepted; limit = seen.limit; stopped = seen.stopped }) s w
+    StandsFor (record { plans = seen.plans; stores = seen.stores; history = seen.history; waiting = seen.waiting; delay = d; last = seen.last; horizon = seen.horizon; accepted = seen.accepted; limit = seen.limit; focus = seen.focus; stopped = seen.stopped }) s w
 delayed seen old d view s w stands =
     let so : StandsFor seen s w = subst (λ (o : EngineState). StandsFor o s w) (sym view) stands in
     record { settled_before = so.settled_before; waiting_after = so.waiting_after; in_order = so.in_order; numbered = so.numbered; held = so.held; history = so.history; far_back = so.far_back; stores = so.stores }

@@ -1,5 +1,5 @@
 -- The entries that are settled one after another, and all stores' part in it.
-use Rattle.std.proofs.Common.{◌≡◌, ℕ, ◌<◌, ◌^◌, List, [], ◌∷◌, ◌++◌, refl, sym, ap, subst, ◌∙◌, inl, arith, append_assoc, append-nil, cond, nat_lt, Bool, true, false}
+use Rattle.std.proofs.Common.{◌≡◌, ℕ, ◌<◌, ◌≤◌, ◌^◌, List, [], ◌∷◌, ◌++◌, refl, sym, ap, subst, ◌∙◌, inl, arith, append_assoc, append-nil, cond, nat_lt, Bool, true, false}
 use Rattle.std.specs.Prelude.{Some, None, pos, ◌≤ℤ◌}
 use Rattle.std.proofs.lemmas.Int.{ints}
 use Rattle.std.specs.List.{AllByRecursion}
@@ -8,6 +8,7 @@ use Rattle.crs_base.specs.declared.symbols.Sym.{Sym}
 use Rattle.crs_base.specs.Entry.{Entry, entry_cmp, IsInKeyOrder}
 use Rattle.crs_base.proofs.Words.{each_from_in}
 use Rattle.crs_base.proofs.Alls.{all_put}
+use Rattle.crs_base.proofs.KeyOrder.{date_of_less}
 use Rattle.std.specs.declared.cmp.Ordering.TheVariants.{Less}
 use Rattle.crs_model.specs.declared.recognition.Mark.{Mark}
 use Rattle.crs_model.specs.declared.recognition.Recognition.{Recognition}
@@ -15,8 +16,8 @@ use Rattle.crs_buffer.specs.Entries.{released, left}
 use Rattle.crs_history.specs.Histories.{HistoryState, EndsWith, IsAfterAll, StandsFor}
 use Rattle.crs_store.specs.Stores.{StoreState, IsSameStore}
 use Rattle.crs_store.specs.Answers.{IsAdvanced}
-use Rattle.crs_engine.specs.Moves.{AreSameStores, AreOffered, HasPut, AreOfferedAll, IsRestOf, AreAdvanced}
-use Rattle.crs_engine.proofs.Order.{ordered_cross, ordered_without}
+use Rattle.crs_engine.specs.Moves.{AreSameStores, AreOffered, HasPut, AreOfferedAll, IsRestOf, AreAdvanced, date_after}
+use Rattle.crs_engine.proofs.Order.{ordered_cross, ordered_right, ordered_without}
 
 pub same_all : (ss : List StoreState) → AreSameStores ss ss
 same_all [] = tt
@@ -30,16 +31,26 @@ same_on (x ∷ xs) (y ∷ ys) [] h k = absurd k
 same_on (x ∷ xs) (y ∷ ys) (z ∷ zs) h k = (record { plan = (k.0).plan ∙ (h.0).plan; number = (k.0).number ∙ (h.0).number; focus = (k.0).focus ∙ (h.0).focus }, same_on xs ys zs h.1 k.1)
 
 -- one more entry
-offered_more : (olds : List StoreState) (past : HistoryState) (xs : List (Entry Sym)) (x : Entry Sym) (news : List StoreState) (now : HistoryState) (next : List StoreState) (put : HistoryState) → AreOfferedAll olds past xs news now → HasPut now x put → AreSameStores news next → AreOffered news put x next → AreOfferedAll olds past (xs ++ x ∷ []) next put
-offered_more olds past [] x news now next put h p s k = (
+offered_more : (h : ℕ) (olds : List StoreState) (past : HistoryState) (xs : List (Entry Sym)) (x : Entry Sym) (after : List (Entry Sym))
+    (news : List StoreState) (now : HistoryState)
+    (next : List StoreState) (put : HistoryState) → AreOfferedAll h (x ∷ after) olds past xs news now → HasPut now x put → AreSameStores news next
+    → AreOffered news put x (date_after h after) next → AreOfferedAll h after olds past (xs ++ x ∷ []) next put
+offered_more h olds past [] x after news now next put o p s k = (
   next,
   put,
-  subst (λ (t : HistoryState). HasPut t x put) h.1 p,
-  subst (λ (t : List StoreState). AreSameStores t next) h.0 s,
-  subst (λ (t : List StoreState). AreOffered t put x next) h.0 k,
+  subst (λ (t : HistoryState). HasPut t x put) o.1 p,
+  subst (λ (t : List StoreState). AreSameStores t next) o.0 s,
+  subst (λ (t : List StoreState). AreOffered t put x (date_after h after) next) o.0 k,
   (refl, refl),
 )
-offered_more olds past (y ∷ xs) x news now next put h p s k = (h.0, h.1, h.2, h.3, h.4, offered_more h.0 h.1 xs x news now next put h.5 p s k)
+offered_more h olds past (y ∷ xs) x after news now next put o p s k = (
+  o.0,
+  o.1,
+  o.2,
+  o.3,
+  subst (λ (t : List (Entry Sym)). AreOffered olds o.1 y (date_after h t) o.0) (sym (append_assoc xs (x ∷ []) after)) o.4,
+  offered_more h o.0 o.1 xs x after news now next put o.5 p s k,
+)
 
 abbrev pub IsSmall : Entry Sym → Type 0
 IsSmall x = x.date < 2 ^ 40
@@ -55,7 +66,7 @@ pub record AreSettledSoFar (olds : List StoreState) (past : HistoryState) (held 
   pub order : IsInKeyOrder (now.entries ++ rest)
   pub floor : now.floor ≡ past.floor
   pub due : AllByRecursion (λ x. past.floor ≤ℤ pos x.date) rest
-  pub offered : AreOfferedAll olds past done news now
+  pub offered : AreOfferedAll h rest olds past done news now
 
 pub settled_none : (olds : List StoreState) (past : HistoryState) (held : List (Entry Sym)) (h : ℕ) → AllByRecursion IsSmall held → IsInKeyOrder (past.entries ++ held) → AllByRecursion (λ x. past.floor ≤ℤ pos x.date) held → AreSettledSoFar olds past held h olds past held
 settled_none olds past held h small order due = record {
@@ -70,6 +81,19 @@ settled_none olds past held h small order due = record {
   due = due;
   offered = (refl, refl);
 }
+
+-- ---- the date up to which all is judged
+
+first_later : (h : ℕ) (x : Entry Sym) (es : List (Entry Sym)) → x.date < h → AllByRecursion (λ y. entry_cmp x y ≡ Less) es
+    → x.date ≤ date_after h es
+first_later h x [] l all = omega arith
+first_later h x (y ∷ es) l all = let d : x.date ≤ y.date = date_of_less x y all.0 in omega arith
+
+pub date_within : (h : ℕ) (es : List (Entry Sym)) → date_after h es ≤ h
+date_within h [] = omega arith
+date_within h (y ∷ es) = omega arith
+
+-- ---- one entry more
 
 -- an entry comes out where it is the first, and dated before h
 came_out : (es : List (Entry Sym)) (h : ℕ) (x : Entry Sym) → released es h ≡ Some x → (es ≡ x ∷ left es h) × (x.date < h)
@@ -106,6 +130,13 @@ module _ (olds : List StoreState) (past : HistoryState) (held : List (Entry Sym)
   pub not_early : (y : Entry Sym) → y ≡ x → now.floor ≤ℤ pos y.date
   not_early y s = let l = (subst (AllByRecursion (λ y. past.floor ≤ℤ pos y.date)) cut so.due).0 in let f = so.floor in let d = ap (λ (e : Entry Sym). e.date) s in omega (arith, ints, f, d)
 
+  -- what is judged once the entry is offered is judged at no date before it
+  pub judged_later : (y : Entry Sym) → y ≡ x → (until : ℕ) → until ≡ date_after h after → y.date ≤ until
+  judged_later y s until u =
+      let d = ap (λ (e : Entry Sym). e.date) s in
+      let l = first_later h x after (came_out rest h x e).1 (ordered_right (λ a b. entry_cmp a b ≡ Less) now.entries (x ∷ after) order_cut).0 in
+      omega (arith, d, u, l)
+
   -- without the entry
   pub order_without : IsInKeyOrder (now.entries ++ after)
   order_without = ordered_without (λ a b. entry_cmp a b ≡ Less) now.entries x after order_cut
@@ -130,8 +161,15 @@ module _ (olds : List StoreState) (past : HistoryState) (held : List (Entry Sym)
         stands = λ es k. subst (λ (t : Entry Sym). StandsFor (es ++ t ∷ []) pushed) same_entry (stands_on es k);
       }
 
-      pub settled_on : (next : List StoreState) → AreSameStores news next → AreOffered news pushed x next → AreSettledSoFar olds past held h next pushed after
-      settled_on next same offered = record {
+      offered_on : (next : List StoreState) → AreSameStores news next → AreOffered news pushed x (date_after h after) next
+          → AreOfferedAll h after olds past (so.done ++ x ∷ []) next pushed
+      offered_on next same offered =
+          offered_more h olds past so.done x after news now next pushed (subst (λ (t : List (Entry Sym)). AreOfferedAll h t olds past so.done news now) cut so.offered) put_last same offered
+
+      pub settled_on : (next : List StoreState) → AreSameStores news next → (until : ℕ) → until ≡ date_after h after
+          → AreOffered news pushed x until next
+          → AreSettledSoFar olds past held h next pushed after
+      settled_on next same until u offered = record {
         same = same_on olds news next so.same same;
         small = (subst (AllByRecursion IsSmall) cut so.small).1;
         done = so.done ++ x ∷ [];
@@ -141,7 +179,7 @@ module _ (olds : List StoreState) (past : HistoryState) (held : List (Entry Sym)
         order = order_with;
         floor = floor_with;
         due = (subst (AllByRecursion (λ y. past.floor ≤ℤ pos y.date)) cut so.due).1;
-        offered = offered_more olds past so.done x news now next pushed so.offered put_last same offered;
+        offered = offered_on next same (subst (λ (n : ℕ). AreOffered news pushed x n next) u offered);
       }
 
   pub rest_of : IsRestOf held after

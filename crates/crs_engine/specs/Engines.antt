@@ -23,6 +23,7 @@ pub record EngineState : Type 0 where
   pub horizon : ℕ
   pub accepted : ℕ
   pub limit : ℕ
+  pub focus : Bool
   pub stopped : Bool
 
 abbrev pub plans_of : Plans → List Plan
@@ -51,9 +52,11 @@ module _ {S : Type 0} where
 abbrev pub pool_of : Plan → List (Entry Sym) → List (Entry Sym)
 pool_of p settled = settled
 
--- a store of the plan that stands for its pool and for the entries settled at h
-abbrev pub IsStoreAt : List (Entry Sym) → ℕ → Plan → StoreState → Type 0
-IsStoreAt settled h p s = (s.plan ≡ p) × Stands s (pool_of p settled) (pool_of p settled) settled h h
+-- a store of the plan that reads levels or not as given, and stands for its pool and for the entries settled at h
+pub record IsStoreAt (focus : Bool) (settled : List (Entry Sym)) (h : ℕ) (p : Plan) (s : StoreState) : Type 0 where
+  pub plan : s.plan ≡ p
+  pub focus_is : s.focus ≡ focus
+  pub stands : Stands s (pool_of p settled) (pool_of p settled) settled h h
 
 -- The settled entries are dated before the horizon and the waiting ones at or after it. All are in key order, and have the arrival numbers below the count of accepted ones. The buffer holds the waiting ones, the history and each plan's store stand for the settled ones, and the history goes far enough back for each plan.
 pub record StandsFor (e : EngineState) (settled waiting : List (Entry Sym)) : Type 0 where
@@ -64,15 +67,16 @@ pub record StandsFor (e : EngineState) (settled waiting : List (Entry Sym)) : Ty
   pub held : e.waiting ≡ waiting
   pub history : HistoryStandsFor settled e.history
   pub far_back : AllByRecursion (λ p. IsFarBack p.reach e.horizon e.history.floor) (plans_of e.plans)
-  pub stores : AllZip (IsStoreAt settled e.horizon) (plans_of e.plans) e.stores
+  pub stores : AllZip (IsStoreAt e.focus settled e.horizon) (plans_of e.plans) e.stores
 
 -- how many partial assignments are held, or 2^64 - 1 where there are more
 abbrev pub kept_of : EngineState → ℕ
 kept_of e = min (sum (map (λ s. length s.held) e.stores)) (2 ^ 64 - 1)
 
 -- an engine of the plans at the start
-pub record IsNewEngine (plans : Plans) (limit : ℕ) (e : EngineState) : Type 0 where
+pub record IsNewEngine (plans : Plans) (focus : Bool) (limit : ℕ) (e : EngineState) : Type 0 where
   pub same_plans : e.plans ≡ plans
+  pub same_focus : e.focus ≡ focus
   pub same_limit : e.limit ≡ limit
   pub no_delay : e.delay ≡ 0
   pub no_clock : e.last ≡ 0
@@ -80,12 +84,18 @@ pub record IsNewEngine (plans : Plans) (limit : ℕ) (e : EngineState) : Type 0 
   pub none_accepted : e.accepted ≡ 0
   pub running : e.stopped ≡ false
 
+-- a store of the plan, with this number, that reads levels or not as given
+pub record IsStoreOf (focus : Bool) (p : Plan) (n : ℕ) (s : StoreState) : Type 0 where
+  pub plan : s.plan ≡ p
+  pub number : s.number ≡ n
+  pub focus_is : s.focus ≡ focus
+
 -- the stores are those of the plans, numbered from n
-abbrev pub AreStoresOf : List Plan → ℕ → List StoreState → Type 0
-AreStoresOf [] n [] = Unit {0}
-AreStoresOf [] n (s ∷ ss) = ⊥
-AreStoresOf (p ∷ ps) n [] = ⊥
-AreStoresOf (p ∷ ps) n (s ∷ ss) = (s.plan ≡ p) × (s.number ≡ n) × AreStoresOf ps (suc n) ss
+abbrev pub AreStoresOf : Bool → List Plan → ℕ → List StoreState → Type 0
+AreStoresOf focus [] n [] = Unit {0}
+AreStoresOf focus [] n (s ∷ ss) = ⊥
+AreStoresOf focus (p ∷ ps) n [] = ⊥
+AreStoresOf focus (p ∷ ps) n (s ∷ ss) = IsStoreOf focus p n s × AreStoresOf focus ps (suc n) ss
 
 -- it is dated below 2^40, and arrived before the n-th
 pub record IsWaiting (n : ℕ) (x : Entry Sym) : Type 0 where
@@ -94,7 +104,7 @@ pub record IsWaiting (n : ℕ) (x : Entry Sym) : Type 0 where
 
 -- what holds of each engine
 pub record IsEngine (e : EngineState) : Type 0 where
-  pub stores : AreStoresOf (plans_of e.plans) 0 e.stores
+  pub stores : AreStoresOf e.focus (plans_of e.plans) 0 e.stores
   pub waiting : AllByRecursion (IsWaiting e.accepted) e.waiting
   pub few : e.accepted ≤ e.limit
   pub limited : e.limit < 2 ^ 32
@@ -111,6 +121,7 @@ pub record IsEngine (e : EngineState) : Type 0 where
 -- an entry was accepted
 pub record HasAccepted (old new : EngineState) : Type 0 where
   pub same_plans : new.plans ≡ old.plans
+  pub same_focus : new.focus ≡ old.focus
   pub same_limit : new.limit ≡ old.limit
   pub same_delay : new.delay ≡ old.delay
   pub same_clock : new.last ≡ old.last
@@ -120,6 +131,7 @@ pub record HasAccepted (old new : EngineState) : Type 0 where
 -- the clock moved on to t, and the horizon to h where that is the greater
 pub record HasMoved (old new : EngineState) (t h : ℕ) : Type 0 where
   pub same_plans : new.plans ≡ old.plans
+  pub same_focus : new.focus ≡ old.focus
   pub same_limit : new.limit ≡ old.limit
   pub same_delay : new.delay ≡ old.delay
   pub same_count : new.accepted ≡ old.accepted

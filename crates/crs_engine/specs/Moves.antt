@@ -1,31 +1,39 @@
 -- What becomes of all stores.
-use Rattle.std.specs.Prelude.{◌≡◌, ◌<◌, ◌≤◌, ℕ, List, [], ◌∷◌, ◌++◌}
+use Rattle.std.specs.Prelude.{◌≡◌, ◌<◌, ◌≤◌, ℕ, min, List, [], ◌∷◌, ◌++◌}
 use Rattle.std.specs.List.{AllByRecursion, AllZip}
 use Rattle.crs_base.specs.declared.symbols.Sym.{Sym}
 use Rattle.crs_base.specs.Entry.{Entry}
 use Rattle.crs_model.specs.declared.recognition.Mark.{Mark}
 use Rattle.crs_model.specs.declared.recognition.Recognition.{Recognition}
 use Rattle.crs_history.specs.Histories.{HistoryState, StandsFor}
-use Rattle.crs_store.specs.Stores.{StoreState, IsSameStore, IsOffered}
+use Rattle.crs_store.specs.Stores.{StoreState, IsSameStore, IsOfferedUntil}
 use Rattle.crs_store.specs.Answers.{IsAdvanced}
 
 abbrev pub AreSameStores : List StoreState → List StoreState → Type 0
 AreSameStores olds news = AllZip IsSameStore olds news
 
--- each was offered x, which the history has as its last
-abbrev pub AreOffered : List StoreState → HistoryState → Entry Sym → List StoreState → Type 0
-AreOffered olds history x news = AllZip (λ o n. IsOffered o history x n) olds news
+-- each was offered x, which the history has as its last, and all that it holds was judged at a date
+abbrev pub AreOffered : List StoreState → HistoryState → Entry Sym → ℕ → List StoreState → Type 0
+AreOffered olds history x until news = AllZip (λ o n. IsOfferedUntil o history x until n) olds news
+
+-- the date of the first entry, or h where that is the lesser or there is none
+abbrev pub date_after : ℕ → List (Entry Sym) → ℕ
+date_after h [] = h
+date_after h (x ∷ xs) = min x.date h
 
 -- x was put last in the history
 pub record HasPut (past : HistoryState) (x : Entry Sym) (now : HistoryState) : Type 0 where
   pub floor : now.floor ≡ past.floor
   pub stands : (es : List (Entry Sym)) → StandsFor es past → StandsFor (es ++ x ∷ []) now
 
--- each entry in turn was put last in the history, and each store was offered it
-abbrev pub AreOfferedAll : List StoreState → HistoryState → List (Entry Sym) → List StoreState → HistoryState → Type 0
-AreOfferedAll olds past [] news now = (news ≡ olds) × (now ≡ past)
-AreOfferedAll olds past (x ∷ xs) news now =
-    (next : List StoreState) × (put : HistoryState) × HasPut past x put × AreSameStores olds next × AreOffered olds put x next × AreOfferedAll next put xs news now
+-- Each entry in turn was put last in the history, and each store was offered it and judged all at the date of the entry after it, or at h
+-- where that is the lesser or there is none. The rest comes after these entries.
+abbrev pub AreOfferedAll : ℕ → List (Entry Sym) → List StoreState → HistoryState → List (Entry Sym) → List StoreState → HistoryState
+    → Type 0
+AreOfferedAll h rest olds past [] news now = (news ≡ olds) × (now ≡ past)
+AreOfferedAll h rest olds past (x ∷ xs) news now =
+    (next : List StoreState) × (put : HistoryState) × HasPut past x put × AreSameStores olds next
+    × AreOffered olds put x (date_after h (xs ++ rest)) next × AreOfferedAll h rest next put xs news now
 
 -- the entries dated before h were taken out in turn, put last in the history, and offered; the rest is dated at or after h
 pub record AreSettled (olds : List StoreState) (past : HistoryState) (held : List (Entry Sym)) (h : ℕ) (news : List StoreState) (now : HistoryState) (rest : List (Entry Sym)) : Type 0 where
@@ -35,7 +43,7 @@ pub record AreSettled (olds : List StoreState) (past : HistoryState) (held : Lis
   pub done_before : AllByRecursion (λ x. x.date < h) done
   pub rest_after : AllByRecursion (λ x. h ≤ x.date) rest
   pub kept : now.entries ≡ past.entries ++ done
-  pub offered : AreOfferedAll olds past done news now
+  pub offered : AreOfferedAll h rest olds past done news now
 
 -- the rest of the entries
 abbrev pub IsRestOf : List (Entry Sym) → List (Entry Sym) → Type 0

@@ -42,6 +42,7 @@ pub struct Engine {
     horizon: u64,
     accepted: u32,
     limit: u32,
+    focus: bool,
     stopped: bool,
     alloc: Global,
 }
@@ -51,20 +52,19 @@ impl Model for Engine {
 
     ghost Value = { EngineState };
 
-    ghost view = { λ e. record { plans = e.plans; stores = e.stores.items; history = e.history; waiting = e.buffer; delay = e.delay; last = e.last; horizon = e.horizon; accepted = e.accepted; limit = e.limit; stopped = e.stopped } };
+    ghost view = { λ e. record { plans = e.plans; stores = e.stores.items; history = e.history; waiting = e.buffer; delay = e.delay; last = e.last; horizon = e.horizon; accepted = e.accepted; limit = e.limit; focus = e.focus; stopped = e.stopped } };
 
-    ghost invariant = { λ e. IsEngine (record { plans = e.plans; stores = e.stores.items; history = e.history; waiting = e.buffer; delay = e.delay; last = e.last; horizon = e.horizon; accepted = e.accepted; limit = e.limit; stopped = e.stopped }) };
+    ghost invariant = { λ e. IsEngine (record { plans = e.plans; stores = e.stores.items; history = e.history; waiting = e.buffer; delay = e.delay; last = e.last; horizon = e.horizon; accepted = e.accepted; limit = e.limit; focus = e.focus; stopped = e.stopped }) };
 }
 
 impl Engine {
     /// An engine that accepted nothing, and will accept at most `limit` entries. Without focus every
     /// event counts as of level 0.
     pub fn new(alloc: Global, plans: Plans, focus: bool, limit: u32) -> Result<Engine, AllocError>
-        requires unfocused { focus ≡ false }
         requires proper { AllByRecursion (λ r. IsProper r.value) plans.plans }
         requires few { length plans.plans ≤ 64 }
         requires reach { IsReachOfAll (reaches_of plans) plans.reach }
-        ensures new { IfOk result (IsNewEngine plans limit) }
+        ensures new { IfOk result (IsNewEngine plans focus limit) }
         ensures stands { IfOk result (λ e. StandsFor e [] []) }
     {
         let stores = stores_of(alloc, plans.plans.as_slice(), focus)?;
@@ -78,6 +78,7 @@ impl Engine {
             horizon: 0,
             accepted: 0,
             limit,
+            focus,
             stopped: false,
             alloc,
         })
@@ -112,8 +113,7 @@ impl Engine {
 
     /// How many partial instances are held, or 2^64 - 1 where there are more.
     pub fn kept(&self) -> u64
-        ensures count { result ≡ kept_of self.now }
-        ensures unfocused { AllByRecursion (λ s. s.focus ≡ false) self.now.stores }
+        ensures { result ≡ kept_of self.now }
     {
         kept_by(self.stores.as_slice())
     }

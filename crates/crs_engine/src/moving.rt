@@ -6,7 +6,7 @@ ghost use Rattle.crs_base.specs.Entry.{Entry as LogEntry, IsInKeyOrder};
 ghost use Rattle.crs_base.specs.Seen.{entry_of};
 ghost use Rattle.crs_history.specs.Histories.{EndsWith, StandsFor};
 ghost use Rattle.crs_model.specs.declared.recognition.Recognition.{Recognition};
-ghost use Rattle.crs_engine.specs.Moves.{AreSameStores, AreOffered, AreSettled, IsRestOf, AreAdvanced, AreMarked};
+ghost use Rattle.crs_engine.specs.Moves.{AreSameStores, AreOffered, AreSettled, IsRestOf, AreAdvanced, AreMarked, date_after};
 ghost use Rattle.crs_buffer.specs.Entries.{IsNewKey};
 ghost use Rattle.crs_model.specs.Order.{put_in_order};
 
@@ -20,29 +20,44 @@ use std::alloc::{AllocError, Global};
 use std::rc::Rc;
 use std::sync::ledger::Ledger;
 
-/// Offers the entry, which is the last of the history, to each store.
+/// Offers the entry, which is the last of the history, to each store, and has it judge what it holds
+/// at `until`, which no later entry is before.
 fn offer_all<L: Ledger>(
     stores: &mut [Store],
     history: &History,
     entry: &Rc<Entry>,
+    until: u64,
     steps: &mut Steps<L>,
 ) -> Result<(), NoMemory>
     requires last { EndsWith (entry_of entry.now.value) history.now.entries }
     requires date { entry.now.value.date < 2 ^ 40 }
+    requires later { entry.now.value.date ≤ until }
+    requires small { until ≤ 2 ^ 42 }
     ensures same { AreSameStores stores.old stores.new }
-    ensures offered { OnOk result (AreOffered stores.old history.now (entry_of entry.now.value) stores.new) }
+    ensures offered { OnOk result (AreOffered stores.old history.now (entry_of entry.now.value) until stores.new) }
 {
     match stores.split_first_mut() {
         None => Ok(()),
         Some((first, rest)) => {
-            first.offer(history, entry, steps)?;
-            offer_all(rest, history, entry, steps)
+            first.offer_until(history, entry, until, steps)?;
+            offer_all(rest, history, entry, until, steps)
         }
     }
 }
 
+/// The date of the first entry in the buffer, or `h` where that is the lesser or there is none.
+fn date_after(buffer: &Buffer, h: u64) -> u64
+    ensures { result ≡ date_after h buffer.now }
+{
+    match buffer.first_date() {
+        Some(date) => date.min(h),
+        None => h,
+    }
+}
+
 /// Takes the entries dated before `h` out of the buffer in key order, adds each to the history, and
-/// offers it to all stores.
+/// offers it to all stores, which judge what they hold at the date of the next of these entries, and
+/// at `h` after the last.
 pub(crate) fn settle<L: Ledger>(
     stores: &mut [Store],
     history: &mut History,
@@ -53,6 +68,7 @@ pub(crate) fn settle<L: Ledger>(
     requires small { AllByRecursion (λ x. x.date < 2 ^ 40) buffer.old }
     requires order { IsInKeyOrder (history.old.entries ++ buffer.old) }
     requires due { AllByRecursion (λ x. history.old.floor ≤ℤ pos x.date) buffer.old }
+    requires horizon { h ≤ 2 ^ 42 }
     ensures same { AreSameStores stores.old stores.new }
     ensures rest { IsRestOf buffer.old buffer.new }
     ensures order { IsInKeyOrder (history.new.entries ++ buffer.new) }
@@ -62,7 +78,8 @@ pub(crate) fn settle<L: Ledger>(
     while let Some(entry) = buffer.release_before(h) {
         let shared = entry.clone()?;
         history.push(shared)?;
-        offer_all(stores, history, &entry, steps)?;
+        let until = date_after(buffer, h);
+        offer_all(stores, history, &entry, until, steps)?;
     }
     Ok(())
 }

@@ -1,4 +1,4 @@
-ghost use Rattle.std.specs.Prelude.{◌≡◌, ◌≤◌, [], map, length, IfOk, false};
+ghost use Rattle.std.specs.Prelude.{◌≤◌, [], map, length, IfOk};
 ghost use Rattle.std.specs.List.{AllByRecursion};
 ghost use Rattle.crs_model.specs.Plans.{IsProper};
 ghost use Rattle.crs_store.specs.Stores.{Stands};
@@ -15,10 +15,9 @@ pub(crate) fn stores_of(
     plans: &[Rc<Plan>],
     focus: bool,
 ) -> Result<Vec<Store>, AllocError>
-    requires unfocused { focus ≡ false }
     requires proper { AllByRecursion (λ r. IsProper r.value) plans.now }
     requires few { length plans.now ≤ 64 }
-    ensures of { IfOk result (λ v. AreStoresOf (map (λ r. r.value) plans.now) 0 v.items) }
+    ensures of { IfOk result (λ v. AreStoresOf focus (map (λ r. r.value) plans.now) 0 v.items) }
     ensures stand { IfOk result (λ v. AllByRecursion (λ s. Stands s [] [] [] 0 0) v.items) }
 {
     let mut stores = Vec::new(alloc);

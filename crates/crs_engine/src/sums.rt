@@ -1,12 +1,10 @@
-ghost use Rattle.std.specs.Prelude.{◌≡◌, ◌-◌, ◌^◌, map, min, sum, length, false};
-ghost use Rattle.std.specs.List.{AllByRecursion};
+ghost use Rattle.std.specs.Prelude.{◌≡◌, ◌-◌, ◌^◌, map, min, sum, length};
 
 use crs_store::Store;
 
 /// How many instances the stores hold, or 2^64 - 1 where there are more.
 pub(crate) fn kept_by(stores: &[Store]) -> u64
-    ensures count { result ≡ min (sum (map (λ s. length s.held) stores.now)) (2 ^ 64 - 1) }
-    ensures unfocused { AllByRecursion (λ s. s.focus ≡ false) stores.now }
+    ensures { result ≡ min (sum (map (λ s. length s.held) stores.now)) (2 ^ 64 - 1) }
 {
     match stores.split_first() {
         None => 0,

@@ -49,7 +49,7 @@ fn all_are_told(rt: &impl Abort, alloc: Global, rows: &[Mistake]) -> Result<(), 
 
 #[test]
 fn natural_mistakes_are_told(rt: HostRuntime) -> Result<(), Fail> {
-    let rows: [Mistake; 48] = [
+    let rows: [Mistake; 49] = [
         row(
             b"t2 - t1 <= 5",
             ModelWord::Form,
@@ -170,6 +170,12 @@ fn natural_mistakes_are_told(rt: HostRuntime) -> Result<(), Fail> {
             ModelWord::Form,
             Some(17),
             "a ':' is missing before the change",
+        ),
+        row(
+            b"event(low_volt(?u), t3)",
+            ModelWord::Form,
+            Some(14),
+            "or arguments want '['",
         ),
         row(
             b"event(charge[?u]: part, t3)",

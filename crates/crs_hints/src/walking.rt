@@ -34,7 +34,7 @@ fn stop_at_byte(column: usize, byte: u8, sentence: &'static str) -> Stop {
             "a comment begins with '#', and stands on a line of its own",
             None,
         ),
-        b';' => ("a statement ends with its line, without a ';'", None),
+        b';' => ("a statement is written on one line, without a ';'", None),
         b'"' | b'\'' => ("names and values stand without quotes", None),
         b'<' | b'=' | b'>' | b'!' => (sentence, None),
         _ => (STRANGE_BYTE, Some(byte)),
@@ -229,7 +229,7 @@ pub fn pattern<'t, 'a>(rest: &'t [Piece<'a>]) -> Rest<'t, 'a> {
         [piece, more @ ..] if piece.is_mark(b':') => change(more),
         [piece, ..] if piece.is_mark(b'(') => Err(stop_before(
             rest,
-            "a ':' is missing before the change: NAME: (OLD, NEW)",
+            "a ':' is missing before the change, or arguments want '[': NAME[TERM]: (OLD, NEW)",
         )),
         _ => Ok(rest),
     }

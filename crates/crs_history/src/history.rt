@@ -74,6 +74,8 @@ impl History {
     /// Where the first is before the floor, they begin at the floor.
     pub fn range(&self, name: Sym, from: i64, to: i64) -> Range<'_>
         ensures held { Sifts (IsNamedIn name (int_max self.now.floor from) to) self.now.entries result }
+        ensures in_order { IsInKeyOrder result }
+        ensures all_in_order { IsInKeyOrder self.now.entries }
         ensures stands { self.now.floor ≤ℤ from → (settled : Items (LogEntry Sym)) → StandsFor settled self.now → Sifts (IsNamedIn name from to) settled result }
     {
         let lane = self.held.lane(name);

@@ -119,6 +119,8 @@ impl Holdings {
     /// The ring's entries of the name.
     pub fn lane(&self, name: Sym) -> Range<'_>
         ensures named { Sifts (IsNamed name) self.now.ring result }
+        ensures in_order { IsInKeyOrder result }
+        ensures all_in_order { IsInKeyOrder (held_of self.now) }
         ensures by_date { IsByDate result }
     {
         self.lanes.lane(name.0 as usize)

@@ -32,8 +32,8 @@ is_key-true k q e =
     let second = ordering_then (nat_cmp k.second q.second) third in
     let a = both_equal (nat_cmp k.class q.class) (ordering_then (nat_cmp k.first q.first) second) (equal_of (compare_keys k q) e) in
     let b = both_equal (nat_cmp k.first q.first) second a.1 in
-    let d = both_equal (nat_cmp k.second q.second) third b.1 in
-    key_from k q (exact_unsigned k.class q.class a.0) (exact_unsigned k.first q.first b.0) (exact_unsigned k.second q.second d.0) (exact_unsigned k.third q.third d.1)
+    let d = both_equal (nat_cmp k.second q.second) third b.1 in key_from k q (exact_unsigned k.class q.class a.0)
+    (exact_unsigned k.first q.first b.0) (exact_unsigned k.second q.second d.0) (exact_unsigned k.third q.third d.1)
 
 is_key-from : (k q : Key) → k ≡ q → is_key k q ≡ true
 is_key-from k q e = subst (λ (x : Key). is_key k x ≡ true) e (ap is_eq (tied_itself keys_total k))

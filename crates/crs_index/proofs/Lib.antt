@@ -2,4 +2,3 @@ pub mod Keys
 pub mod Tables
 pub mod BucketRows
 pub mod States
-pub mod Laws

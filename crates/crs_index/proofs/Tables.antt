@@ -43,8 +43,8 @@ slot_opened rows c f v lc lf =
     (omega arith, omega (arith, ap length b))
 
 pub row_grown : (rows : List Row) (c : ℕ) (v w : Row) (d f : ℕ) → c < length (table rows) → w ≡ get_or rows c w → get_or v.items f 0 ≡ get_or w.items f 0 → slot (table (set rows c v)) d f ≡ slot (table rows) d f
-row_grown rows c v w d f lc is same =
-    row_written rows c v lc d f (cases_eq d c) (λ e. same ∙ ap (λ (r : List ℕ). get_or r f 0) (sym (row_at rows c w lc is)))
+row_grown rows c v w d f lc is same = row_written rows c v lc d f (cases_eq d c)
+    (λ e. same ∙ ap (λ (r : List ℕ). get_or r f 0) (sym (row_at rows c w lc is)))
 
 pub slot_set : (rows : List Row) (c f : ℕ) (v w : Row) (x : ℕ) → c < length (table rows) → w ≡ get_or rows c w → v.items ≡ set w.items f x → (d e : ℕ) → ((d ≡ c) × (e ≡ f) → ⊥) → slot (table (set rows c v)) d e ≡ slot (table rows) d e
 slot_set rows c f v w x lc is written d e apart =

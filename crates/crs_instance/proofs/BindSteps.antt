@@ -50,10 +50,10 @@ module _ (plan : Plan) (proper : IsProper plan) (i : InstanceState) (of : IsOf p
   pub pairwise : IsPairwiseWithin most given
   pairwise = pairwise_from_met plan.chronicle.bounds points most given proper.within proper.consistent proper.minimal below of.dates
 
-  most_is : (r : ℕ) → r < points → (window_at i.windows r).most ≡ latest points most given r
+  pub most_is : (r : ℕ) → r < points → (window_at i.windows r).most ≡ latest points most given r
   most_is r l = latest_is_one plan.chronicle.bounds given r (window_at i.windows r).most (latest points most given r) (of.most r l) (IsLatest-latest plan.chronicle.bounds points most given proper.within proper.consistent proper.minimal below pairwise r l)
 
-  least_is : (r : ℕ) → r < points → (window_at i.windows r).least ≡ soonest points most given r
+  pub least_is : (r : ℕ) → r < points → (window_at i.windows r).least ≡ soonest points most given r
   least_is r l = soonest_is_one plan.chronicle.bounds given r (window_at i.windows r).least (soonest points most given r) (of.least r l) (IsSoonest-soonest plan.chronicle.bounds points most given proper.within proper.consistent proper.minimal below pairwise r l)
 
   module _ (e : ℕ) (x : Entry Sym) (inside : e < length plan.chronicle.events) (free : at i.partial e ≡ None) where

@@ -9,8 +9,8 @@ use Rattle.crs_base.specs.declared.symbols.Sym.{Sym}
 use Rattle.crs_base.specs.declared.entry.Entry.{Entry as CodeEntry}
 use Rattle.crs_base.specs.Entry.{Entry}
 use Rattle.crs_model.specs.Partial.{Partial}
+use Rattle.crs_model.specs.Bits.{bit_of, HasBits}
 use Rattle.crs_instance.specs.Instances.{partial_of, seen_entry}
-use Rattle.crs_instance.specs.Deadlines.{bit_of, HasBits}
 
 small : (o : Option (Entry Sym)) → bit_of o < 2
 small None = omega arith

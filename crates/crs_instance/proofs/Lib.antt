@@ -5,7 +5,9 @@ pub mod BindSteps
 pub mod BindAnswers
 pub mod Deadline
 pub mod GoesOn
+pub mod Openings
 pub mod Pushes
 pub mod Fixture
 pub mod Stretches
 pub mod Early
+pub mod Waits

@@ -16,7 +16,7 @@ use Rattle.crs_base.specs.Entry.{Entry}
 use Rattle.crs_model.specs.Models.{Chronicle, Pattern}
 use Rattle.crs_model.specs.Partial.{at}
 use Rattle.crs_model.specs.Matching.{PatternIs, IsAllowed}
-use Rattle.crs_model.specs.Bindings.{look_of, IsLeastWith, IsFit}
+use Rattle.crs_model.specs.Bindings.{look_of, IsLeastWith}
 use Rattle.crs_model.proofs.Least.{allowed_looser}
 use Rattle.crs_instance.specs.Instances.{window_at, no_window, partial_of, IsBoundBy}
 use Rattle.crs_instance.specs.Narrowed.{IsNarrowed}
@@ -55,9 +55,6 @@ gives_more es rest o Q e h = rw e (suc h.0, h.1)
 
 pub bound_not : (c : Chronicle Sym) (p : Pattern Sym) (old new : List (Option Sym)) (x : Entry Sym) → IsLeastWith (λ look. PatternIs look p x) (look_of old) (look_of new) → (IsAllowed c (look_of new) → ⊥) → IsBoundBy c p old x None
 bound_not c p old new x h never = λ other l k a. never (allowed_looser c (look_of new) other (h.least other l k) a)
-
-pub not_fitting : (c : Chronicle Sym) (p : Pattern Sym) (old : List (Option Sym)) (x : Entry Sym) → (IsFit p old x → ⊥) → IsBoundBy c p old x None
-not_fitting c p old x never = λ other l k a. never (other, l, k)
 
 pub bound_not_at : (c : Chronicle Sym) (p : Pattern Sym) (old mid new : List (Option Sym)) (x : Entry Sym) (b : Bool) → mid ≡ old → IsLeastWith (λ look. PatternIs look p x) (look_of mid) (look_of new) → (IsTrue b ↔ IsAllowed c (look_of new)) → b ≡ false → IsBoundBy c p old x None
 bound_not_at c p old mid new x b s h says e = bound_not c p old new x (subst (λ (t : List (Option Sym)). IsLeastWith (λ look. PatternIs look p x) (look_of t) (look_of new)) s h) (λ a. let t = says.1 a in absurd cc)

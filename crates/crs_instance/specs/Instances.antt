@@ -94,6 +94,11 @@ abbrev pub IsAnswered : Plan → InstanceState → ℕ → Entry Sym → Instanc
 IsAnswered plan old e x new Yes = IsOf plan new × (new.partial ≡ put old.partial e x) × (new.progress ≡ old.progress)
 IsAnswered plan old e x new No = (CanBe plan (put old.partial e x) → ⊥) × (new ≡ old)
 
+-- the instance with x bound to e too, whose windows have the progress that they had; None where there is none
+abbrev pub IsForked : Plan → InstanceState → ℕ → Entry Sym → Option InstanceState → Type 0
+IsForked plan old e x (Some new) = IsOf plan new × (new.partial ≡ put old.partial e x) × (new.progress ≡ old.progress)
+IsForked plan old e x None = CanBe plan (put old.partial e x) → ⊥
+
 -- the entries of all events; none where some event is unbound
 abbrev pub AreAllEntries : Partial Sym → Option (List (Rc CodeEntry Global)) → Type 0
 AreAllEntries a None = list_all (λ o. is_some o) a ≡ false

@@ -4,3 +4,5 @@ pub mod Narrowed
 pub mod Extended
 pub mod Fixtures
 pub mod Followed
+pub mod CurrentLevel
+pub mod Waits

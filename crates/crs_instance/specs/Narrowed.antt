@@ -1,5 +1,5 @@
 -- Date windows when one more date is given.
-use Rattle.std.specs.Prelude.{◌≡◌, ◌<◌, ℕ, ℤ, List, length, Option, Some}
+use Rattle.std.specs.Prelude.{◌≡◌, ◌<◌, ℕ, ℤ, pos, ◌≤ℤ◌, List, length, Option, Some, IfSome}
 use Rattle.crs_model.specs.declared.date_window.DateWindow.{DateWindow}
 use Rattle.crs_stn.specs.Cycle.{lesser}
 use Rattle.crs_stn.specs.DateWindow.{after, greater_of, before}
@@ -10,3 +10,11 @@ pub record IsNarrowed (n : ℕ) (most : ℕ → ℕ → Option ℤ) (e : ℕ) (d
   pub len : length new ≡ n
   pub most_at : (r : ℕ) → r < n → (window_at new r).most ≡ lesser (window_at old r).most (after (Some d) (most e r))
   pub least_at : (r : ℕ) → r < n → (window_at new r).least ≡ greater_of (window_at old r).least (before (Some d) (most r e))
+
+-- the greatest date that a window and a bound from the date d leave
+abbrev pub most_with : DateWindow → Option ℤ → ℕ → Option ℤ
+most_with w bound d = lesser w.most (after (Some (pos d)) bound)
+
+-- the date, if there is one, is h or after
+abbrev pub IsFrom : Option ℤ → ℕ → Type 0
+IsFrom o h = IfSome o (λ v. pos h ≤ℤ v)

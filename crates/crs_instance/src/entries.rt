@@ -1,16 +1,21 @@
-ghost use Rattle.std.specs.Prelude.{◌≡◌, ◌≢◌, ◌<◌, ◌≤◌, ◌^◌, ◌==◌, ℕ, length, map, replicate, IfOk, OnOk, IfSome, ◌++◌, IsTrue, IsSomeAnd, None, false, is_some, pos, ◌≤ℤ◌, ◌+ℤ◌, option_map};
+ghost use Rattle.std.specs.Prelude.{◌≡◌, ◌≢◌, ◌<◌, ◌≤◌, ◌^◌, ◌==◌, ℕ, length, map, replicate, IfOk, OnOk, IfSome, ◌++◌, IsTrue, IsSomeAnd, None, ◌↔◌, true, false, is_some, pos, ◌≤ℤ◌, ◌+ℤ◌, option_map};
 ghost use Rattle.std.specs.List.{list_all};
 ghost use Rattle.std.specs.Option.{option_to_list};
 ghost use Rattle.crs_stn.specs.DateWindow.{least_of};
 ghost use Rattle.crs_model.specs.Partial.{at};
+ghost use Rattle.crs_model.specs.Bits.{HasBits};
 ghost use Rattle.crs_model.specs.Levels.{level_in};
 ghost use Rattle.crs_model.specs.Seen.{event_of};
 ghost use Rattle.crs_instance.specs.Instances.{AreEarly, partial_of, seen_entry, window_at, AreAllEntries};
-ghost use Rattle.crs_instance.specs.Deadlines.{end_of, end_if, HasBits};
+ghost use Rattle.crs_instance.specs.Deadlines.{end_of, end_if};
+ghost use Rattle.crs_instance.specs.Narrowed.{most_with, IsFrom};
+ghost use Rattle.crs_instance.specs.Waits.{IsOther};
+ghost use Rattle.crs_stn.specs.Table.{most_of};
+ghost use Rattle.crs_model.specs.Plans.{chronicle};
 
-use crate::narrowing::earlier;
+use crate::narrowing::{can_be_from, earlier};
 use crs_base::{Entry, List};
-use crs_model::{Anchor, DateWindow, EventDef};
+use crs_model::{Anchor, DateWindow, EventDef, Plan};
 use std::alloc::{AllocError, Global};
 use std::rc::Rc;
 
@@ -55,7 +60,7 @@ pub(crate) fn copies(
     ensures same { IfOk result (λ v. partial_of v.items ≡ partial_of entries.now) }
     ensures early { AreEarly entries.now → IfOk result (λ v. AreEarly v.items) }
 {
-    let mut out = Vec::new(alloc);
+    let mut out = Vec::with_capacity(alloc, entries.len())?;
     for entry in entries {
         out.push(copy_of(entry)?)?;
     }
@@ -124,6 +129,60 @@ fn latest_date_if(counts: bool, entry: &Option<Rc<Entry>>, window: DateWindow) -
     } else {
         None
     }
+}
+
+/// Whether the event at a place is another one of the event's level, and unbound.
+fn is_other(
+    entry: &Option<Rc<Entry>>,
+    events: &[EventDef],
+    place: usize,
+    event: u8,
+    focus: bool,
+) -> bool
+    requires place { place < length events.now }
+    requires event { event < length events.now }
+    ensures { IsTrue result ↔ ((place ≢ event) × (seen_entry entry.now ≡ None) × (level_in (map event_of events.now) focus place ≡ level_in (map event_of events.now) focus event)) }
+{
+    if place == event as usize {
+        return false;
+    }
+    if entry.is_some() {
+        return false;
+    }
+    level_at(events, place, focus) == level_at(events, event as usize, focus)
+}
+
+/// Whether each other unbound event of the event's level can be at `h` or after, where the event has
+/// this date.
+pub(crate) fn others_can_be_from(
+    entries: &[Option<Rc<Entry>>],
+    windows: &[DateWindow],
+    plan: &Plan,
+    event: u8,
+    date: u64,
+    focus: bool,
+    h: u64,
+) -> bool
+    requires entries { length entries.now ≡ length plan.now.chronicle.events }
+    requires windows { length windows.now ≡ plan.now.network.points }
+    requires points { length plan.now.chronicle.events ≤ plan.now.network.points }
+    requires few { plan.now.network.points ≤ 24 }
+    requires event { event < length plan.now.chronicle.events }
+    requires date { date < 2 ^ 40 }
+    requires horizon { h ≤ 2 ^ 42 }
+    ensures yes { result ≡ true → (g : ℕ) → IsOther (level_in (chronicle plan.now).events focus) (partial_of entries.now) event g → IsFrom (most_with (window_at windows.now g) (most_of plan.now.network event g) date) h }
+    ensures no { result ≡ false → (g : ℕ) × IsOther (level_in (chronicle plan.now).events focus) (partial_of entries.now) event g × (IsFrom (most_with (window_at windows.now g) (most_of plan.now.network event g) date) h → ⊥) }
+{
+    let events = plan.chronicle.events.as_slice();
+    for g in 0..entries.len() {
+        if !is_other(&entries[g], events, g, event, focus) {
+            continue;
+        }
+        if !can_be_from(windows[g], &plan.network, event, g as u8, date, h) {
+            return false;
+        }
+    }
+    true
 }
 
 /// The least of the greatest dates of the unbound events of the level.

@@ -1,7 +1,8 @@
-ghost use Rattle.std.specs.Prelude.{◌≡◌, ◌+◌, ◌<◌, ◌≤◌, ◌^◌, ◌↔◌, length, replicate, IfOk, OnErr, IsTrue, None, Some, is_some, pos, ◌+ℤ◌, ◌≤ℤ◌, option_map, slice_set};
+ghost use Rattle.std.specs.Prelude.{◌≡◌, ◌+◌, ◌<◌, ◌≤◌, ◌^◌, ◌↔◌, length, replicate, IfOk, OnErr, IsTrue, None, Some, is_some, pos, ◌+ℤ◌, ◌≤ℤ◌, option_map, slice_set, true, false};
 ghost use Rattle.std.specs.List.{list_all};
 ghost use Rattle.std.specs.Option.{option_copied};
 ghost use Rattle.crs_model.specs.Partial.{at, CanGoOn};
+ghost use Rattle.crs_model.specs.Bits.{HasBits};
 ghost use Rattle.crs_model.specs.Plans.{chronicle, IsProper};
 ghost use Rattle.crs_base.specs.Seen.{entry_of};
 ghost use Rattle.crs_model.specs.Seen.{pattern_of, chronicle_of};
@@ -10,20 +11,19 @@ ghost use Rattle.crs_model.specs.Steps.{flat};
 ghost use Rattle.crs_model.specs.Levels.{level_in};
 ghost use Rattle.crs_model.specs.declared.plan.Plan.{Plan};
 ghost use Rattle.crs_instance.specs.Followed.{IsStretchAt};
-ghost use Rattle.crs_instance.specs.Instances.{no_window, no_progress as none_yet, progress_at, seen_entry, IsBoundBy, IsOf, IsAnswered, IsDeadline, AreAllEntries, window_at};
-ghost use Rattle.crs_instance.specs.Deadlines.{HasBits};
+ghost use Rattle.crs_instance.specs.Instances.{no_window, no_progress as none_yet, progress_at, seen_entry, IsBoundBy, IsOf, IsInside, IsAnswered, IsForked, IsDeadline, AreAllEntries, window_at};
+ghost use Rattle.crs_instance.specs.Waits.{OthersCanCome, AnotherIsLate};
 
 use crate::bound::body_is_bound;
 use crate::entries::{
     all_entries, are_all_bound, bits, copies, date_of, deadline_of_level, earliest_deadline, gives,
-    no_entries,
+    no_entries, others_can_be_from,
 };
 use crate::fit::Fit;
 use crate::narrowing::{is_inside, is_not_before, narrowed};
 use crs_base::{Entry, List, Steps};
 use crs_model::{
-    Anchor, Binding, Chronicle, DateWindow, Pattern, Plan, Progress, Stretch, allowed, bind_vars,
-    fits,
+    Anchor, Binding, Chronicle, DateWindow, Pattern, Plan, Progress, Stretch, allowed, bind_if_fits,
 };
 use std::alloc::{AllocError, Global};
 use std::marker::Model;
@@ -93,11 +93,10 @@ fn matched<L: Ledger>(
     ensures bound { IsBoundBy (chronicle_of chronicle.now) (pattern_of pattern.now) binding.now (entry_of entry.now) result }
     ensures step { steps.new ≡ steps.old + 1 }
 {
-    if !fits(pattern, binding, entry, steps) {
+    let mut next = binding.copy();
+    if !bind_if_fits(&mut next, pattern, entry, steps) {
         return None;
     }
-    let mut next = binding.copy();
-    bind_vars(&mut next, pattern, entry);
     if allowed(chronicle, &next) {
         Some(next)
     } else {
@@ -150,16 +149,18 @@ impl Instance {
         ensures extended { IfOk result (IsExtended plan.now self.now event (entry_of entry.now)) }
         ensures step { steps.new ≡ steps.old + 1 }
     {
+        if !is_inside(self.windows[event as usize], entry.date) {
+            steps.tick();
+            return Ok(None);
+        }
+        if gives(self.entries.as_slice(), entry.arrival) {
+            steps.tick();
+            return Ok(None);
+        }
         let pattern = &plan.chronicle.events.as_slice()[event as usize].pattern;
         let Some(binding) = matched(&plan.chronicle, pattern, &self.binding, entry, steps) else {
             return Ok(None);
         };
-        if gives(self.entries.as_slice(), entry.arrival) {
-            return Ok(None);
-        }
-        if !is_inside(self.windows[event as usize], entry.date) {
-            return Ok(None);
-        }
         let windows = narrowed(
             self.alloc,
             self.windows.as_slice(),
@@ -197,6 +198,71 @@ impl Instance {
                 Ok(Fit::Yes)
             }
         }
+    }
+
+    /// The instance with the event bound to the entry too. None exactly where the bound events could
+    /// then be part of no assignment that meets the bounds. It takes one step, and no memory before
+    /// it is known that there is such an instance.
+    pub fn fork<L: Ledger>(
+        &self,
+        plan: &Plan,
+        event: u8,
+        entry: &Rc<Entry>,
+        steps: &mut Steps<L>,
+    ) -> Result<Option<Instance>, AllocError>
+        requires proper { IsProper plan.now }
+        requires of { IsOf plan.now self.now }
+        requires event { event < length plan.now.chronicle.events }
+        requires unbound { at self.now.partial event ≡ None }
+        requires date { entry.now.value.date < 2 ^ 40 }
+        ensures fork { IfOk result (IsForked plan.now self.now event (entry_of entry.now.value)) }
+        ensures step { steps.new ≡ steps.old + 1 }
+    {
+        let Some(more) = self.extended(plan, event, entry, steps)? else {
+            return Ok(None);
+        };
+        let mut entries = copies(self.alloc, self.entries.as_slice())?;
+        entries[event as usize] = Some(entry.clone()?);
+        let progress = Vec::from_slice(self.alloc, self.progress.as_slice())?;
+        Ok(Some(Instance {
+            entries,
+            binding: more.binding,
+            windows: more.windows,
+            progress,
+            alloc: self.alloc,
+        }))
+    }
+
+    /// Whether the bounds and the bound events' dates leave this date to the event.
+    pub fn can_come(&self, event: u8, date: u64) -> bool
+        requires event { event < length self.now.windows }
+        requires date { date < 2 ^ 40 }
+        ensures { IsTrue result ↔ IsInside (window_at self.now.windows event) (pos date) }
+    {
+        is_inside(self.windows[event as usize], date)
+    }
+
+    /// Whether the other unbound events of the event's level can still come at `h` or after, where
+    /// the event comes at this date.
+    pub fn can_wait_with(&self, plan: &Plan, event: u8, date: u64, focus: bool, h: u64) -> bool
+        requires proper { IsProper plan.now }
+        requires of { IsOf plan.now self.now }
+        requires event { event < length plan.now.chronicle.events }
+        requires unbound { at self.now.partial event ≡ None }
+        requires date { date < 2 ^ 40 }
+        requires horizon { h ≤ 2 ^ 42 }
+        ensures yes { result ≡ true → IsInside (window_at self.now.windows event) (pos date) → OthersCanCome plan.now (level_in (chronicle plan.now).events focus) self.now.partial event date h }
+        ensures no { result ≡ false → AnotherIsLate plan.now (level_in (chronicle plan.now).events focus) self.now.partial event date h }
+    {
+        others_can_be_from(
+            self.entries.as_slice(),
+            self.windows.as_slice(),
+            plan,
+            event,
+            date,
+            focus,
+            h,
+        )
     }
 
     /// The least and the greatest date that the bounds and the bound events' dates leave to the

@@ -3,7 +3,7 @@ ghost use Rattle.crs_stn.specs.Table.{most_of};
 ghost use Rattle.crs_stn.specs.Cycle.{lesser};
 ghost use Rattle.crs_stn.specs.DateWindow.{after, greater_of, before};
 ghost use Rattle.crs_instance.specs.Instances.{IsInside};
-ghost use Rattle.crs_instance.specs.Narrowed.{IsNarrowed};
+ghost use Rattle.crs_instance.specs.Narrowed.{IsNarrowed, most_with, IsFrom};
 
 use crs_model::DateWindow;
 use crs_stn::Network;
@@ -86,6 +86,27 @@ pub(crate) fn is_not_before(deadline: Option<i64>, date: u64) -> bool
     }
 }
 
+/// Whether the point can be at `h` or after, where an event has this date.
+pub(crate) fn can_be_from(
+    window: DateWindow,
+    network: &Network,
+    event: u8,
+    point: u8,
+    date: u64,
+    h: u64,
+) -> bool
+    requires event { event < network.now.points }
+    requires point { point < network.now.points }
+    requires date { date < 2 ^ 40 }
+    requires horizon { h ≤ 2 ^ 42 }
+    ensures { IsTrue result ↔ IsFrom (most_with window (most_of network.now event point) date) h }
+{
+    if !is_not_before(window.most, h) {
+        return false;
+    }
+    is_not_before(date_after(date, network.most(event, point)), h)
+}
+
 /// The window of a point, where an event has this date.
 fn narrowed_at(window: DateWindow, network: &Network, event: u8, point: u8, date: u64) -> DateWindow
     requires event { event < network.now.points }
@@ -116,7 +137,7 @@ pub(crate) fn narrowed(
     requires date { date < 2 ^ 40 }
     ensures { IfOk result (λ v. IsNarrowed network.now.points (most_of network.now) event (pos date) windows.now v.items) }
 {
-    let mut out = Vec::new(alloc);
+    let mut out = Vec::with_capacity(alloc, windows.len())?;
     for (point, window) in windows.iter().enumerate() {
         out.push(narrowed_at(*window, network, event, point as u8, date))?;
     }

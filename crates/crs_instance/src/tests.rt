@@ -130,6 +130,9 @@ fn binds_what_can_still_be_recognised(rt: HostRuntime) -> Result<(), Fail> {
     let plan = plan(alloc)?;
     let root = Instance::root(alloc, &plan)?;
     assert_eq!(rt; root.deadline(&plan, 0, false), None);
+    assert!(rt; root.can_wait_with(&plan, 0, 10, false, 15));
+    assert!(rt; !root.can_wait_with(&plan, 0, 10, false, 16));
+    assert!(rt; root.can_wait_with(&plan, 0, 10, true, 16));
     let mut next = root.copy()?;
     assert_eq!(rt;
         bind_apart::<Brand>(Blank::new(1), &mut next, &plan, 0, entry(alloc, 0, 10, 0)?)?,

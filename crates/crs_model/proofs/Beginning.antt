@@ -1,6 +1,6 @@
 -- The progress of a window at its first date: over what a history keeps, and of a `hold` whose attribute is known.
 use Rattle.std.proofs.Common.{◌≡◌, ℕ, List, [], ◌∷◌, refl, sym, subst, ◌∙◌, inl, inr, arith}
-use Rattle.std.specs.Prelude.{ℤ, pos, ◌≤ℤ◌, ◌<ℤ◌}
+use Rattle.std.specs.Prelude.{ℤ, ◌≤ℤ◌, ◌<ℤ◌}
 use Rattle.std.specs.List.{AllZip, AllByRecursion}
 use Rattle.std.proofs.lemmas.Int.{ints, by_lt_z}
 use Rattle.crs_base.specs.Words.{IsIn}
@@ -8,10 +8,10 @@ use Rattle.crs_base.specs.Sifted.{Sifts}
 use Rattle.crs_base.specs.Entry.{Entry}
 use Rattle.crs_base.specs.Values.{Attribute, IsChange, NewIs, HasValue}
 use Rattle.crs_base.proofs.Deciding.{Tells, holds_or_not}
-use Rattle.crs_model.specs.Models.{Term, Value, Var, Any, Body, NoEvent, Occurs, Hold}
+use Rattle.crs_model.specs.Models.{Term, Value, Var, Any, Hold}
 use Rattle.crs_model.specs.Matching.{Binding, TermIs}
 use Rattle.crs_model.specs.Verdicts.{Count, IsDatedIn, IsHeld}
-use Rattle.crs_model.specs.HasProgress.{IsCounted, IsBroken, IsWholeFor, IsUnbroken}
+use Rattle.crs_model.specs.HasProgress.{IsBroken, IsWholeFor, IsUnbroken}
 
 -- what counts is among those that are kept: the counts are the same
 pub count_sifted : {A : Type 0} (P Q : A → Type 0) → ((x : A) → P x → Q x) → (xs ys : List A) (n : ℕ) → Sifts Q xs ys → Count P ys n → Count P xs n

@@ -1,19 +1,19 @@
 -- Whether some binding fits, and which is the least.
 use Rattle.std.proofs.Common.{◌≡◌, ℕ, ◌<◌, List, [], ◌∷◌, length, refl, sym, subst, zero, suc, arith}
-use Rattle.std.specs.Prelude.{Option, Some, None, is_some, IsTrue, IfSome, IsSomeAnd, ◌↔◌}
+use Rattle.std.specs.Prelude.{Option, Some, None, Bool, true, false, IsTrue, IfSome, IsSomeAnd, ◌↔◌}
 use Rattle.std.specs.List.{AllZip, AllByRecursion}
 use Rattle.crs_base.specs.declared.symbols.Sym.{Sym}
 use Rattle.crs_model.specs.Matching.{TermIs, ChangeIs, PatternIs}
 use Rattle.crs_base.specs.Entry.{Entry}
 use Rattle.crs_model.specs.Models.{Term, Value, Var, Any, Pattern}
-use Rattle.crs_model.specs.Bindings.{look_of, IsMatch, IsFit, TermIsBelow, PatternIsBelow}
+use Rattle.crs_model.specs.Bindings.{look_of, IsMatch, IsMet, IsFit, TermIsBelow, PatternIsBelow}
 use Rattle.crs_model.specs.Verdicts.{TermIsBound, PatternIsBound}
 use Rattle.crs_model.proofs.Matches.{match_then}
 use Rattle.crs_model.proofs.Lost.{terms_up, pattern_down}
 
-pub fits_says : (p : Pattern Sym) (old : List (Option Sym)) (e : Entry Sym) (new : Option (List (Option Sym))) → IsMatch (λ look. PatternIs look p e) old new → IsTrue (is_some new) ↔ IsFit p old e
-fits_says p old e None h = (λ t. absurd cc, λ f. absurd (h f.0 f.1 f.2))
-fits_says p old e (Some new) h = (λ t. (look_of new, (h.0).more, (h.0).holds), λ f. refl)
+pub fits_says : (p : Pattern Sym) (old : List (Option Sym)) (e : Entry Sym) (new : List (Option Sym)) (b : Bool) → IsMet (λ look. PatternIs look p e) old new b → IsTrue b ↔ IsFit p old e
+fits_says p old e new false h = (λ t. absurd cc, λ f. absurd (h f.0 f.1 f.2))
+fits_says p old e new true h = (λ t. (look_of new, (h.0).more, (h.0).holds), λ f. refl)
 
 pub pattern_then : (p : Pattern Sym) (old mid : List (Option Sym)) (e : Entry Sym) (new : Option (List (Option Sym))) (ts : List (Term Sym)) (xs : List Sym) → ts ≡ p.terms → xs ≡ e.args → p.name ≡ e.name → IsMatch (λ look. AllZip (TermIs look) ts xs) old (Some mid) → IsMatch (λ look. ChangeIs look p.change e.change) mid new → IsMatch (λ look. PatternIs look p e) old new
 pattern_then p old mid e new ts xs a b s h k =
@@ -44,7 +44,7 @@ pub pattern_below : (old : List (Option Sym)) (p : Pattern Sym) → PatternIsBou
 pattern_below old p b = (terms_below old p.terms b.0, change_below old p.change b.1)
 
 -- where the variables are bound, what some binding beyond makes equal is equal
-pub accepts_says : (p : Pattern Sym) (old : List (Option Sym)) (e : Entry Sym) (new : Option (List (Option Sym))) → PatternIsBound (look_of old) p → IsMatch (λ look. PatternIs look p e) old new → IsTrue (is_some new) ↔ PatternIs (look_of old) p e
-accepts_says p old e new b h =
-    let says = fits_says p old e new h in
-    (λ t. let f = says.0 t in pattern_down (look_of old) f.0 f.1 p e b f.2, λ r. says.1 (look_of old, (λ v x q. q), r))
+pub accepts_says : (p : Pattern Sym) (old : List (Option Sym)) (e : Entry Sym) (new : List (Option Sym)) (b : Bool) → PatternIsBound (look_of old) p → IsMet (λ look. PatternIs look p e) old new b → IsTrue b ↔ PatternIs (look_of old) p e
+accepts_says p old e new b bound h =
+    let says = fits_says p old e new b h in
+    (λ t. let f = says.0 t in pattern_down (look_of old) f.0 f.1 p e bound f.2, λ r. says.1 (look_of old, (λ v x q. q), r))

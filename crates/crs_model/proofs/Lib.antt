@@ -4,6 +4,12 @@ pub mod Lost
 pub mod Parts
 pub mod Images
 pub mod Offers
+pub mod Scanning
+pub mod Rests
+pub mod ByLevel
+pub mod ScanImages
+pub mod Decided
+pub mod Beginnings
 pub mod StaysMet
 pub mod Marks
 pub mod Matches

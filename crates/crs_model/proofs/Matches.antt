@@ -1,10 +1,10 @@
 -- The least binding by which terms equal symbols, term by term.
 use Rattle.std.proofs.Common.{◌≡◌, ◌≢◌, ℕ, ◌<◌, List, length, refl, sym, ap, subst, ◌∙◌, inl, inr, length-set, get_or-set_same, get_or-set_other}
-use Rattle.std.specs.Prelude.{Option, Some, None, slice_set}
+use Rattle.std.specs.Prelude.{Option, Some, None, slice_set, Bool, true, false}
 use Rattle.std.proofs.lemmas.Bool.Decides.{eqb_tells}
 use Rattle.crs_base.specs.declared.symbols.Sym.{Sym}
 use Rattle.crs_model.specs.Matching.{Binding}
-use Rattle.crs_model.specs.Bindings.{look_of, Looser, IsMatch}
+use Rattle.crs_model.specs.Bindings.{look_of, Looser, IsMatch, IsMet}
 
 -- nothing more is asked
 pub match_same : (P : Binding Sym → Type 0) (old : List (Option Sym)) → P (look_of old) → IsMatch P old (Some old)
@@ -48,3 +48,8 @@ match_then P Q R old mid (Some new) up both one two h k = (
   },
   k.1 ∙ h.1,
 )
+
+-- what is written where the answer is true
+pub met_yes : (P : Binding Sym → Type 0) (old new : List (Option Sym)) (b : Bool) → b ≡ true → IsMet P old new b → IsMatch P old (Some new)
+met_yes P old new true e h = h
+met_yes P old new false e h = absurd cc

@@ -1,6 +1,6 @@
 -- When a partial assignment with its least binding is open, told by its parts.
-use Rattle.std.proofs.Common.{◌≡◌, ◌⊎◌, ℕ, zero, suc, List, [], ◌∷◌, Bool, refl, sym, ap, subst, ◌∙◌, inl, inr}
-use Rattle.std.specs.Prelude.{◌↔◌, ℤ, pos, ◌+ℤ◌, Option, Some, None, IfSome, IsSomeAnd, slice_get}
+use Rattle.std.proofs.Common.{◌≡◌, ℕ, zero, suc, List, [], ◌∷◌, Bool, refl, sym, ap, subst, ◌∙◌, inl, inr}
+use Rattle.std.specs.Prelude.{◌↔◌, ℤ, pos, ◌+ℤ◌, Option, Some, None, IsSomeAnd, slice_get}
 use Rattle.crs_base.specs.Words.{IsIn}
 use Rattle.crs_base.specs.Entry.{Entry}
 use Rattle.crs_model.specs.Models.{Chronicle, Window}
@@ -10,9 +10,9 @@ use Rattle.crs_model.specs.Verdicts.{IsLost, IsMet, IsStretch, BodyIsBound}
 use Rattle.crs_model.specs.HasProgress.{IsProgress, IsMetBy, HasProgress, NoneLostBy}
 use Rattle.crs_model.specs.Open.{IsOpen}
 use Rattle.crs_model.proofs.Options.{of_some, some_if}
-use Rattle.crs_model.proofs.Least.{Extends, Looser}
+use Rattle.crs_model.proofs.Least.{Extends}
 use Rattle.crs_model.proofs.Lost.{lost_up}
-use Rattle.crs_model.proofs.Progressing.{lost_by, lost_back, progress_up, so_by}
+use Rattle.crs_model.proofs.Progressing.{lost_by, lost_back, so_by}
 
 pub in_place : {A : Type 0} (xs : List A) (k : ℕ) (x : A) → slice_get xs k ≡ Some x → IsIn x xs
 in_place [] k x h = absurd cc
@@ -58,7 +58,7 @@ module _ {S : Type 0} (c : Chronicle S) (a : Partial S) (look : Binding S) where
       let w = none_lost entries n count broken has in
       (λ k. let r = o.0 k in (r.0, w.0 r.1), λ k. o.1 (k.0, w.1 k.1))
 
--- ---- a fork keeps the progress of the windows that were begun
+-- ---- a fork keeps the stretches of the windows that were begun
 
 module _ {S : Type 0} where
   same_end : (o p : Option (Entry S)) (x y k : ℤ) → ((e : Entry S) → o ≡ Some e → p ≡ Some e) → IsSomeAnd o (λ e. x ≡ pos e.date +ℤ k) → IsSomeAnd p (λ e. y ≡ pos e.date +ℤ k) → x ≡ y
@@ -75,20 +75,6 @@ module _ {S : Type 0} where
     same_end (at a w.from.event) (at b w.from.event) from start w.from.offset (λ e i. part w.from.event e i) s.starts t.starts,
     same_end (at a w.to.event) (at b w.to.event) to end w.to.offset (λ e i. part w.to.event e i) s.ends t.ends,
   )
-
-  -- With more bound, each window has its progress where each begun one keeps its own and each newly begun one has its own.
-  pub fork_progress : (c : Chronicle S) (small look : Binding S) (a b : Partial S) (entries : List (Entry S)) (h : ℕ) (count new_count : ℕ → ℕ) (broken new_broken : ℕ → Bool) → Looser small look → Extends a b
-      → HasProgress c small a entries h count broken
-      → ((k : ℕ) → IfSome (slice_get c.windows k) (λ w. (from to : ℤ) → IsStretch b w from to → BodyIsBound look w.body
-      → (IsStretch a w from to × BodyIsBound small w.body × (new_count k ≡ count k) × (new_broken k ≡ broken k)) ⊎ IsProgress entries look w.body from to (pos h) (new_count k) (new_broken k)))
-      → HasProgress c look b entries h new_count new_broken
-  fork_progress c small look a b entries h count new_count broken new_broken looser part has each k = some_if (slice_get c.windows k) _ (λ w i from to stretch bound. elim (of_some (slice_get c.windows k) w _ i (each k) from to stretch bound) [
-    | inr p ↦ p
-    | inl s ↦
-        subst (λ (n : ℕ). IsProgress entries look w.body from to (pos h) n (new_broken k)) (sym s.2)
-        (subst (λ (t : Bool). IsProgress entries look w.body from to (pos h) (count k) t) (sym s.3)
-        (progress_up small look looser entries from to w.body (pos h) (count k) (broken k) s.1 (of_some (slice_get c.windows k) w _ i (has k) from to s.0 s.1)))
-  ])
 
 -- ---- a mark
 

@@ -34,16 +34,6 @@ module _ {S : Type 0} where
     | inr o ↦ put_other a e f x o.1 ∙ h
   ]
 
-  pub extends_cleared : (a : Partial S) (e : ℕ) → e < length a → Extends (clear a e) a
-  extends_cleared a e l f y h = elim (eqb_tells f e) [
-    | inl s ↦
-        let t = s.1 in
-        let i : at (clear a e) e ≡ Some y = subst (λ (n : ℕ). at (clear a e) n ≡ Some y) t h in
-        let j : at (clear a e) e ≡ None = get_or-set_same a e None None l in
-        absurd (cc)
-    | inr o ↦ sym (get_or-set_other a e f None None o.1) ∙ h
-  ]
-
   pub put_cleared : (a : Partial S) (e : ℕ) (x : Entry S) → at a e ≡ Some x → put (clear a e) e x ≡ a
   put_cleared [] e x h = absurd cc
   put_cleared (o ∷ a) zero x h = ap (λ (t : Option (Entry S)). t ∷ a) (sym h)

@@ -1,5 +1,5 @@
 -- Bindings of the program, and the least one that makes a pattern equal an entry.
-use Rattle.std.specs.Prelude.{◌≡◌, ℕ, ◌<◌, List, length, Option, Some, None, IfSome, slice_index_or}
+use Rattle.std.specs.Prelude.{◌≡◌, ℕ, ◌<◌, List, length, Option, Some, None, IfSome, slice_index_or, Bool, cond}
 use Rattle.std.specs.List.{AllByRecursion}
 use Rattle.crs_base.specs.declared.symbols.Sym.{Sym}
 use Rattle.crs_base.specs.Entry.{Entry}
@@ -34,6 +34,10 @@ module _ {S : Type 0} where
 abbrev pub IsMatch : (Binding Sym → Type 0) → List (Option Sym) → Option (List (Option Sym)) → Type 0
 IsMatch P old None = (other : Binding Sym) → Looser (look_of old) other → P other → ⊥
 IsMatch P old (Some new) = IsLeastWith P (look_of old) (look_of new) × (length new ≡ length old)
+
+-- where the answer is true, `new` is the least binding beyond `old` of which P holds; where it is false, P holds of none
+abbrev pub IsMet : (Binding Sym → Type 0) → List (Option Sym) → List (Option Sym) → Bool → Type 0
+IsMet P old new answer = IsMatch P old (cond answer (Some new) None)
 
 -- some binding beyond this one makes the pattern equal the entry
 abbrev pub IsFit : Pattern Sym → List (Option Sym) → Entry Sym → Type 0

@@ -2,10 +2,12 @@ pub mod Models
 pub mod Matching
 pub mod Order
 pub mod Partial
+pub mod Bits
 pub mod Verdicts
 pub mod Open
 pub mod Images
 pub mod Steps
+pub mod Scans
 pub mod Levels
 pub mod Proper
 pub mod ProperModels

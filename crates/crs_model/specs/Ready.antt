@@ -1,5 +1,5 @@
 -- Windows that can be followed: a `hold` names one attribute and one value.
-use Rattle.std.specs.Prelude.{◌≤◌, ◌∷◌, length}
+use Rattle.std.specs.Prelude.{◌≤◌, length}
 use Rattle.std.specs.List.{AllByRecursion}
 use Rattle.crs_model.specs.declared.limits.TheConstants.{ARITY_LIMIT}
 use Rattle.crs_model.specs.Models.{Body, NoEvent, Occurs, Hold}

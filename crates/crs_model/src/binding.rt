@@ -55,16 +55,11 @@ impl Binding {
         }
     }
 
-    /// The binding with one more variable bound.
-    pub(crate) fn with(self, i: u8, symbol: Sym) -> Binding
-        requires { i < length self }
-        ensures { result ≡ slice_set self i (Some symbol) }
+    /// Binds one more variable.
+    pub(crate) fn set(&mut self, i: u8, symbol: Sym)
+        requires { i < length self.old }
+        ensures { self.new ≡ slice_set self.old i (Some symbol) }
     {
-        let mut values = self.values;
-        values[i as usize] = Some(symbol);
-        Binding {
-            values,
-            count: self.count,
-        }
+        self.values[i as usize] = Some(symbol);
     }
 }

@@ -16,9 +16,8 @@ kept_or_gone f g p false d m n xs ys e t h = h
 pub after_first : (r : Notice) (rs : List Notice) (ms : List Member)
     → members_after (r ∷ rs) ms ≡ members_after rs (tell_members r ms)
 after_first r rs [] = refl
-after_first r rs (m ∷ ms) =
-    kept_or_gone (told_all (r ∷ rs)) (told_all rs) (stays_through rs) (stays (told r m)) (stays_through rs (told r m)) m (told r m)
-    (filter (stays_through (r ∷ rs)) ms) (tell_members r ms) refl refl (after_first r rs ms)
+after_first r rs (m ∷ ms) = kept_or_gone (told_all (r ∷ rs)) (told_all rs) (stays_through rs) (stays (told r m))
+    (stays_through rs (told r m)) m (told r m) (filter (stays_through (r ∷ rs)) ms) (tell_members r ms) refl refl (after_first r rs ms)
 
 -- no recognitions
 pub after_none : (ms : List Member) → members_after [] ms ≡ ms

@@ -120,18 +120,18 @@ module _ {B : Type 0} (kind : B → ℕ) (figures : B → List ℕ) where
       → ToldTo k i r (map seen olds) (map seen items) → i < length items → b ≡ get_or items i b
       → kind c ≡ kind b → figures c ≡ figures_after (kind b) (figures b) r → n ≡ next_of (kind c) (figures c) → n ≡ Stay
       → ToldTo (k + 1) (i + 1) r (map seen olds) (map seen (set items i c))
-  staying olds items k i r b c n t lt e ke fe ne s =
-      member_stays seen olds items k i r b c t lt e (pair_is _ _ _ _ ke fe) (stays_if _ (sym ne ∙ s))
+  staying olds items k i r b c n t lt e ke fe ne s = member_stays seen olds items k i r b c t lt e
+      (pair_is _ _ _ _ ke fe) (stays_if _ (sym ne ∙ s))
 
   pub leaving : (olds items : List B) (k i : ℕ) (r : Notice) (b c : B) (n : Next)
       → ToldTo k i r (map seen olds) (map seen items) → i < length items → b ≡ get_or items i b
       → kind c ≡ kind b → figures c ≡ figures_after (kind b) (figures b) r → n ≡ next_of (kind c) (figures c) → n ≡ Leave
       → ToldTo (k + 1) i r (map seen olds) (map seen (remove (set items i c) i))
-  leaving olds items k i r b c n t lt e ke fe ne s =
-      member_leaves seen olds items k i r b c t lt e (pair_is _ _ _ _ ke fe) (leaves_if _ (sym ne ∙ s))
+  leaving olds items k i r b c n t lt e ke fe ne s = member_leaves seen olds items k i r b c t lt e
+      (pair_is _ _ _ _ ke fe) (leaves_if _ (sym ne ∙ s))
 
   pub stopping : (olds items : List B) (k i : ℕ) (r : Notice) (b c : B)
       → ToldTo k i r (map seen olds) (map seen items) → i < length items → b ≡ get_or items i b
       → kind c ≡ kind b → figures c ≡ figures b → StoppedAt k r (map seen olds) (map seen (set items i c))
-  stopping olds items k i r b c t lt e ke fe =
-      member_stops seen olds items k i r b c t lt e (pair_is _ _ _ _ ke fe)
+  stopping olds items k i r b c t lt e ke fe = member_stops seen olds items k i r b c t lt e
+      (pair_is _ _ _ _ ke fe)

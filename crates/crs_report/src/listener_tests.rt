@@ -142,6 +142,40 @@ impl Listener for Wanting {
     }
 }
 
+/// A listener of kind 3 with more figures than that kind has.
+#[derive(Drop)]
+struct Odd {
+    alloc: Global,
+    figures: List<u64>,
+}
+
+impl Listener for Odd {
+    ghost kind = { λ _. 3 };
+
+    ghost figures = { λ l. l.figures };
+
+    fn kind(&self) -> u32 {
+        3
+    }
+
+    fn figures(&self) -> &List<u64> {
+        &self.figures
+    }
+
+    fn tell(&mut self, _r: &Recognition) -> Result<Next, AllocError> {
+        lessen(&mut self.figures);
+        Ok(if is_zero(self.figures.as_slice()) {
+            Next::Leave
+        } else {
+            Next::Stay
+        })
+    }
+
+    fn page(&self) -> Result<Text, AllocError> {
+        page_line(self.alloc, 3, self.figures.as_slice())
+    }
+}
+
 /// A listener in a box.
 fn boxed<L: Listener>(
     alloc: Global,
@@ -190,6 +224,18 @@ fn leavers_are_dropped_and_the_others_keep_their_order(rt: HostRuntime) -> Resul
     );
     tell(alloc, &mut listeners, 0)?;
     assert!(rt; have_pages(alloc, listeners.as_slice(), b"tally count 1 1\n")?);
+    Ok(())
+}
+
+#[test]
+fn a_listener_with_odd_figures_stays_as_it_is(rt: HostRuntime) -> Result<(), Fail> {
+    let alloc = rt.alloc();
+    let figures = figures_of(alloc, &[0, 0])?;
+    let mut listeners: Vec<Box<dyn Listener>> = Vec::new(alloc);
+    listeners.push(boxed(alloc, Ok(Odd { alloc, figures }))?)?;
+    tell(alloc, &mut listeners, 1)?;
+    tell(alloc, &mut listeners, 0)?;
+    assert!(rt; have_pages(alloc, listeners.as_slice(), b"tally fewer 0 0\n")?);
     Ok(())
 }
 

@@ -1,5 +1,5 @@
 -- A whole instance is recognised exactly where its windows are met as its progress tells.
-use Rattle.std.proofs.Common.{◌≡◌, ℕ, zero, suc, ◌<◌, List, [], ◌∷◌, length, map, refl, sym, ap, subst, ◌∙◌, inl, inr, arith, get_or, true≢false}
+use Rattle.std.proofs.Common.{Bool, ◌≡◌, ℕ, zero, suc, ◌<◌, List, [], ◌∷◌, length, map, refl, sym, ap, subst, ◌∙◌, inl, inr, arith, get_or, true≢false}
 use Rattle.std.specs.Prelude.{ℤ, pos, Option, Some, None, slice_get, true}
 use Rattle.std.specs.List.{AllZip}
 use Rattle.std.proofs.lemmas.List.{length-map}
@@ -77,7 +77,7 @@ given_all : {A : Type 0} (xs : List A) → given (map Some xs) ≡ xs
 given_all [] = refl
 given_all {A} (x ∷ xs) = ap (λ (t : List A). x ∷ t) (given_all xs)
 
-module _ (plan : Plan) (proper : IsProper plan) (i : InstanceState) (of : IsOf plan i) (full : IsWhole i.partial) where
+module _ (plan : Plan) (focus : Bool) (proper : IsProper plan) (i : InstanceState) (of : IsOf plan i) (full : IsWhole i.partial) where
   not_both : (o : Option Sym) (y : Sym) → o ≡ Some y → o ≡ None → ⊥
   not_both o y j f = absurd cc
 
@@ -97,7 +97,7 @@ module _ (plan : Plan) (proper : IsProper plan) (i : InstanceState) (of : IsOf p
   values_given : i.binding ≡ map Some (given i.binding)
   values_given = values.1 ∙ ap (map Some) (sym (given_all values.0) ∙ sym (ap given values.1))
 
-  module _ (pool entries : List (Entry Sym)) (h : ℕ) (over : IsOver plan pool entries h i) where
+  module _ (pool entries : List (Entry Sym)) (h : ℕ) (over : IsOver plan focus pool entries h i) where
     partial_of_it : (b : Assignment Sym) → i.partial ≡ whole b → IsPartial (chronicle plan) pool (whole b) (look_of i.binding)
     partial_of_it b is = subst (λ (t : Partial Sym). IsPartial (chronicle plan) pool t (look_of i.binding)) is (record { len = of.len ∙ sym (length-map plan.chronicle.events event_of); given = λ e. some_if (at i.partial e) _ (λ y j. over.given e y j); distinct = of.distinct; binding = of.binding; allowed = of.allowed })
 

@@ -1,6 +1,6 @@
 -- The progress of one window of an instance.
-use Rattle.std.proofs.Common.{◌≡◌, ℕ, zero, suc, ◌≤◌, ◌<◌, ◌+◌, ◌-◌, ◌^◌, List, [], ◌∷◌, ◌++◌, length, map, refl, sym, ap, subst, ◌∙◌, arith, inl, inr, length-set, length-append, get_or-set_same, get_or-set_other, Bool, true}
-use Rattle.std.specs.Prelude.{ℤ, pos, ◌≤ℤ◌, Option, Some, None, is_some, IfSome, slice_get, slice_set}
+use Rattle.std.proofs.Common.{◌≡◌, ℕ, zero, suc, ◌≤◌, ◌<◌, ◌-◌, ◌^◌, List, [], ◌∷◌, ◌++◌, length, map, refl, sym, ap, subst, ◌∙◌, arith, inl, inr, length-append, Bool, true}
+use Rattle.std.specs.Prelude.{ℤ, pos, ◌≤ℤ◌, Option, Some, None, is_some, IfSome, slice_get}
 use Rattle.std.proofs.lemmas.Bool.{cases_lt}
 use Rattle.std.proofs.lemmas.List.{length-map}
 use Rattle.std.proofs.lemmas.Int.{ints}
@@ -19,8 +19,6 @@ use Rattle.crs_model.specs.Plans.{chronicle, IsProper}
 use Rattle.crs_model.specs.Ready.{HoldsOne}
 use Rattle.crs_model.specs.Verdicts.{Count, IsStretch, BodyIsBound}
 use Rattle.crs_model.specs.HasProgress.{IsCounted, IsProgress, IsMetBy, IsLostBy}
-use Rattle.crs_model.specs.Partial.{CanGoOn}
-use Rattle.crs_model.specs.Steps.{flat}
 use Rattle.crs_model.specs.Seen.{window_of}
 use Rattle.crs_model.specs.declared.chronicle.Window.{Window as CodeWindow}
 use Rattle.crs_model.specs.declared.progress.Verdict.{Verdict}
@@ -31,10 +29,10 @@ use Rattle.crs_model.proofs.Holding.{windows_hold}
 use Rattle.crs_model.proofs.Options.{of_some, some_if}
 use Rattle.crs_model.proofs.Opened.{in_place, same_stretch}
 use Rattle.crs_model.proofs.Progressing.{progress_up}
-use Rattle.crs_instance.specs.Instances.{InstanceState, IsOf, no_progress, progress_at}
+use Rattle.crs_instance.specs.Instances.{InstanceState, IsOf, progress_at}
 use Rattle.crs_instance.specs.Followed.{IsStretchAt}
-use Rattle.crs_store.specs.Windows.{HasAt, Settles, Passes, Begins, IsSameInstance, IsFollowed, IsPassed, IsBegun, IsAble}
-use Rattle.crs_store.specs.Judged.{AreStepped, IsJudged, IsLostNowhere}
+use Rattle.crs_store.specs.Windows.{HasAt, Settles, Passes, Begins, IsSameInstance, IsFollowed, IsPassed, IsBegun}
+use Rattle.crs_store.specs.Judged.{AreStepped, IsJudged}
 
 count_most : {A : Type 0} (P : A → Type 0) (xs : List A) (n : ℕ) → Count P xs n → n ≤ length xs
 count_most P [] n h = omega (arith, h)

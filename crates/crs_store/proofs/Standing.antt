@@ -1,49 +1,48 @@
 -- What a store stands for after a call.
-use Rattle.std.proofs.Common.{◌≡◌, ℕ, ◌<◌, ◌≤◌, List, [], ◌∷◌, ◌++◌, length, refl, sym, ap, subst, ◌∙◌, inl, inr, ◌⊎◌, arith}
-use Rattle.std.specs.Prelude.{Option, Some, None, IfSome, IsSomeAnd, replicate, slice_get, Bool, false}
+use Rattle.std.proofs.Common.{◌≡◌, ℕ, suc, ◌<◌, ◌≤◌, List, [], ◌∷◌, ◌++◌, length, refl, sym, ap, subst, ◌∙◌, inl, inr, ◌⊎◌, arith}
+use Rattle.std.specs.Prelude.{Option, Some, None, IfSome, IsSomeAnd, replicate, slice_get, Bool}
 use Rattle.std.specs.List.{AllByRecursion, AllZip}
-use Rattle.std.proofs.lemmas.List.{ext_get_or, length-replicate, length-map, map-append}
+use Rattle.std.proofs.lemmas.List.{ext_get_or, length-replicate, length-map}
 use Rattle.crs_base.specs.declared.symbols.Sym.{Sym}
 use Rattle.crs_base.specs.Words.{IsIn}
-use Rattle.crs_base.specs.Sifted.{Sifts}
 use Rattle.crs_base.specs.Entry.{Entry}
-use Rattle.crs_base.proofs.Words.{in_append_left, in_append_right, each_from_in, in_from_each, in_map}
-use Rattle.crs_base.proofs.Alls.{all_append}
+use Rattle.crs_base.proofs.Words.{each_from_in, in_from_each, in_map}
 use Rattle.crs_history.specs.Histories.{HistoryState}
 use Rattle.crs_history.proofs.FarBack.{far_later}
 use Rattle.crs_model.specs.declared.plan.Plan.{Plan}
-use Rattle.crs_model.specs.Partial.{Partial, at}
+use Rattle.crs_model.specs.Models.{Chronicle}
+use Rattle.crs_model.specs.Partial.{Partial, at, IsLevelClosed}
 use Rattle.crs_model.specs.Plans.{chronicle, IsProper}
 use Rattle.crs_model.specs.Open.{IsOpen, StandsFor, IsRecognisedWhole, before}
-use Rattle.crs_model.specs.Steps.{flat, GoesOnWith, GoesOn, IsFresh}
-use Rattle.crs_model.specs.Levels.{level_in}
-use Rattle.crs_model.specs.Images.{IsImage}
+use Rattle.crs_model.specs.Steps.{IsFresh}
 use Rattle.crs_model.specs.Seen.{event_of}
 use Rattle.crs_model.proofs.Options.{of_some, some_if, cases_of}
-use Rattle.crs_model.proofs.Offers.{offered, recognised_full}
+use Rattle.crs_model.proofs.Offers.{recognised_full}
+use Rattle.crs_model.proofs.ByLevel.{offered_until}
 use Rattle.crs_instance.specs.Instances.{InstanceState, IsOf}
 use Rattle.crs_instance.specs.Followed.{Follows}
 use Rattle.crs_instance.proofs.GoesOn.{root_goes_on}
 use Rattle.crs_instance.proofs.BindAnswers.{get-replicate}
-use Rattle.crs_store.specs.Stores.{parts, AllOf, StoreState, IsStore, Stands, IsSameStore, IsOffered}
-use Rattle.crs_store.specs.Windows.{IsAble, IsOver, IsOpenAt, IsSameInstance, IsFollowed}
-use Rattle.crs_store.specs.Sweeps.{IsFree, IsReady, IsNow, IsOpenNow, IsOverNow, AreForksOfFirst, TakesIn}
-use Rattle.crs_store.proofs.Forking.{both}
-use Rattle.crs_store.proofs.Leaving.{leaves_image, leaves_each}
+use Rattle.crs_store.specs.Stores.{parts, AllOf, StoreState, IsStore, Stands, IsSameStore, levels_of, IsOfferedUntil}
+use Rattle.crs_store.specs.Levels.{levels_in}
+use Rattle.crs_store.specs.Windows.{IsAble, IsOver, IsOpenAt, IsSameInstance}
+use Rattle.crs_store.specs.Sweeps.{IsFree, IsReady, TakesIn}
 use Rattle.crs_store.proofs.Overs.{open_able, floor_early}
 use Rattle.crs_store.proofs.Progress.{still_of}
 
 -- ---- lists of instances
-
-pub all_both : {A : Type 0} (P Q : A → Type 0) (xs : List A) → AllByRecursion P xs → AllByRecursion Q xs → AllByRecursion (λ x. P x × Q x) xs
-all_both P Q [] h k = tt
-all_both P Q (x ∷ xs) h k = ((h.0, k.0), all_both P Q xs h.1 k.1)
 
 pub zip_all : {A : Type 0} (R : A → A → Type 0) (P Q : A → Type 0) (keep : (x y : A) → R x y → P x → Q y) (xs ys : List A) → AllZip R xs ys → AllByRecursion P xs → AllByRecursion Q ys
 zip_all R P Q keep [] [] z h = tt
 zip_all R P Q keep [] (y ∷ ys) z h = absurd z
 zip_all R P Q keep (x ∷ xs) [] z h = absurd z
 zip_all R P Q keep (x ∷ xs) (y ∷ ys) z h = (keep x y z.0 h.0, zip_all R P Q keep xs ys z.1 h.1)
+
+pub zip_length : {A : Type 0} (R : A → A → Type 0) (xs ys : List A) → AllZip R xs ys → length ys ≡ length xs
+zip_length R [] [] h = refl
+zip_length R [] (y ∷ ys) h = absurd h
+zip_length R (x ∷ xs) [] h = absurd h
+zip_length R (x ∷ xs) (y ∷ ys) h = ap suc (zip_length R xs ys h.1)
 
 pub parts_same : (R : InstanceState → InstanceState → Type 0) (same : (x y : InstanceState) → R x y → IsSameInstance x y) (xs ys : List InstanceState) → AllZip R xs ys → parts ys ≡ parts xs
 parts_same R same [] [] z = refl
@@ -54,80 +53,55 @@ parts_same R same (x ∷ xs) (y ∷ ys) z = let one = ap (λ (t : InstanceState)
 pub zip_of : (plan : Plan) (R : InstanceState → InstanceState → Type 0) (same : (x y : InstanceState) → R x y → IsSameInstance x y) (xs ys : List InstanceState) → AllZip R xs ys → AllOf plan xs → AllOf plan ys
 zip_of plan R same xs ys z all = zip_all R (IsOf plan) (IsOf plan) (λ x y r of. still_of plan x y (same x y r) of) xs ys z all
 
--- what a list of instances follows, with entries of the pool, as those of the partial assignments
-pub over_of : (plan : Plan) (pool entries : List (Entry Sym)) (n : ℕ) (is : List InstanceState) → ((a : Partial Sym) → IsIn a (parts is) → (e : ℕ) (y : Entry Sym) → at a e ≡ Some y → IsIn y pool) → AllByRecursion (Follows plan entries n) is → AllByRecursion (IsOver plan pool entries n) is
-over_of plan pool entries n is given follows =
-    each_from_in (IsOver plan pool entries n) is (λ i k. record { given = given i.partial (in_map (λ (s : InstanceState). s.partial) is i k); follows = in_from_each (Follows plan entries n) is follows i k })
+-- what a list of instances follows, with entries of the pool, as those of the partial assignments, which are level-closed
+pub over_of : (plan : Plan) (focus : Bool) (pool entries : List (Entry Sym)) (n : ℕ) (is : List InstanceState) → ((a : Partial Sym) → IsIn a (parts is) → (e : ℕ) (y : Entry Sym) → at a e ≡ Some y → IsIn y pool) → ((a : Partial Sym) → IsIn a (parts is) → IsLevelClosed (levels_in plan focus) a) → AllByRecursion (Follows plan entries n) is → AllByRecursion (IsOver plan focus pool entries n) is
+over_of plan focus pool entries n is given closed follows =
+    each_from_in (IsOver plan focus pool entries n) is (λ i k. record {
+      given = given i.partial (in_map (λ (s : InstanceState). s.partial) is i k);
+      closed = closed i.partial (in_map (λ (s : InstanceState). s.partial) is i k);
+      follows = in_from_each (Follows plan entries n) is follows i k;
+    })
 
-pub follows_of : (plan : Plan) (pool entries : List (Entry Sym)) (n : ℕ) (is : List InstanceState) → AllByRecursion (IsOver plan pool entries n) is → AllByRecursion (Follows plan entries n) is
-follows_of plan pool entries n is over = each_from_in (Follows plan entries n) is (λ i k. (in_from_each (IsOver plan pool entries n) is over i k).follows)
-
--- ---- an entry is taken in
-
-pub taken : (plan : Plan) → IsProper plan → (history : HistoryState) (x : Entry Sym) (since : ℕ) (held mid kept more new : List InstanceState) → AllOf plan held → AllZip (IsFollowed plan history x since) held mid → AreForksOfFirst plan history x mid mid more
-    → Sifts (IsAble plan x.date) mid kept → new ≡ kept ++ more → TakesIn plan history x since held new
-taken plan proper history x since held mid kept more new all followed forks left is settled up read low over ready =
-    let entries : List (Entry Sym) = settled ++ x ∷ [] in
-    let now : IsNow plan history x entries = record { read = record { kept = read.kept; few = read.few; far = far_later plan.reach since x.date history.floor up read.far }; there = in_append_right settled (x ∷ []) x (inl refl) } in
-    let same : parts mid ≡ parts held = parts_same (IsFollowed plan history x since) (λ a b r. r.same) held mid followed in
-    let over_mid : AllByRecursion (IsOverNow plan entries x) mid = zip_all (IsFollowed plan history x since) (IsOver plan settled settled since) (IsOverNow plan entries x) (λ a b r o. record {
-      given = λ e y k. in_append_left settled (x ∷ []) y (o.given e y (sym (ap (λ (t : InstanceState). at t.partial e) r.same.same) ∙ k));
-      follows = r.follows settled up read low o.follows;
-    }) held mid followed over in
-    let of_mid : AllOf plan mid = zip_of plan (IsFollowed plan history x since) (λ a b r. r.same) held mid followed all in
-    let ready_mid : IsReady x (parts mid) = subst (IsReady x) (sym same) ready in
-    let made = forks entries now over_mid ready_mid in
-    let stay : IsImage (GoesOn (IsOpenNow plan entries x)) (parts mid) (parts kept) = leaves_image (IsAble plan x.date) (λ i. IsOf plan i × IsOverNow plan entries x i) (IsOpenNow plan entries x)
-    (λ i q p. (open_able plan entries entries x.date i q.0 q.1).1 p) (λ i q f. (open_able plan entries entries x.date i q.0 q.1).0 f) mid kept (all_both (IsOf plan) (IsOverNow plan entries x) mid of_mid over_mid) ready_mid.1 left in (
-      subst (λ (t : List (Partial Sym)). IsImage (GoesOnWith (IsOpenNow plan entries x) x) t (parts new)) same
-          (subst (λ (t : List (Partial Sym)). IsImage (GoesOnWith (IsOpenNow plan entries x) x) (parts mid) t) (sym (ap parts is ∙ map-append (λ (i : InstanceState). i.partial) kept more))
-          (both (IsOpenNow plan entries x) x (parts mid) (parts kept) (parts more) ready_mid stay made.0)),
-      subst (AllByRecursion (IsOverNow plan entries x)) (sym is) (all_append (IsOverNow plan entries x) kept more (leaves_each (IsAble plan x.date) (IsOverNow plan entries x) mid kept over_mid left) made.1),
-    )
-
-pub taken_each : (plan : Plan) (d : ℕ) (mid kept more new : List InstanceState) → AllOf plan mid → AllOf plan more → Sifts (IsAble plan d) mid kept → new ≡ kept ++ more → AllOf plan new
-taken_each plan d mid kept more new all each left is = subst (AllOf plan) (sym is) (all_append (IsOf plan) kept more (leaves_each (IsAble plan d) (IsOf plan) mid kept all left) each)
+pub follows_of : (plan : Plan) (focus : Bool) (pool entries : List (Entry Sym)) (n : ℕ) (is : List InstanceState) → AllByRecursion (IsOver plan focus pool entries n) is → AllByRecursion (Follows plan entries n) is
+follows_of plan focus pool entries n is over = each_from_in (Follows plan entries n) is (λ i k. (in_from_each (IsOver plan focus pool entries n) is over i k).follows)
 
 -- ---- an entry is offered
 
--- without focus all levels are 0
-pub stands_flat : (s : StoreState) → s.focus ≡ false → (was pool entries : List (Entry Sym)) (d g : ℕ) → Stands s was pool entries d g → StandsFor (chronicle s.plan) flat (parts s.held) was pool entries d g
-stands_flat s un was pool entries d g h = subst (λ (b : Bool). StandsFor (chronicle s.plan) (level_in (chronicle s.plan).events b) (parts s.held) was pool entries d g) un h.stands
+pub given_held : (c : Chronicle Sym) (level : ℕ → ℕ) (held : List (Partial Sym)) (was pool entries : List (Entry Sym)) (d g : ℕ) → StandsFor c level held was pool entries d g → (a : Partial Sym) → IsIn a held → (e : ℕ) (y : Entry Sym) → at a e ≡ Some y → IsIn y pool
+given_held c level held was pool entries d g stands a i e y j = of_some (at a e) y _ j ((stands.each a i).0.partial.given e)
 
-pub flat_stands : (s : StoreState) → s.focus ≡ false → (was pool entries : List (Entry Sym)) (d g : ℕ) → StandsFor (chronicle s.plan) flat (parts s.held) was pool entries d g → AllByRecursion (Follows s.plan entries d) s.held → s.date ≡ d → Stands s was pool entries d g
-flat_stands s un was pool entries d g h follows judged = record {
-  stands = subst (λ (b : Bool). StandsFor (chronicle s.plan) (level_in (chronicle s.plan).events b) (parts s.held) was pool entries d g) (sym un) h;
-  follows = follows;
-  judged = judged;
-}
-
-pub given_held : (plan : Plan) (held : List (Partial Sym)) (was pool entries : List (Entry Sym)) (d g : ℕ) → StandsFor (chronicle plan) flat held was pool entries d g → (a : Partial Sym) → IsIn a held → (e : ℕ) (y : Entry Sym) → at a e ≡ Some y → IsIn y pool
-given_held plan held was pool entries d g stands a i e y j = of_some (at a e) y _ j ((stands.each a i).0.partial.given e)
+pub closed_held : (c : Chronicle Sym) (level : ℕ → ℕ) (held : List (Partial Sym)) (was pool entries : List (Entry Sym)) (d g : ℕ) → StandsFor c level held was pool entries d g → (a : Partial Sym) → IsIn a held → IsLevelClosed level a
+closed_held c level held was pool entries d g stands a i = (stands.each a i).0.closed
 
 -- no instance gives a new entry
-ready : (plan : Plan) (held : List (Partial Sym)) (was pool entries : List (Entry Sym)) (d g : ℕ) (x : Entry Sym) → StandsFor (chronicle plan) flat held was pool entries d g → IsFresh pool x → IsReady x held
-ready plan held was pool entries d g x stands fresh = (each_from_in (IsFree x) held (λ a i e j. fresh x (given_held plan held was pool entries d g stands a i e x j) refl), stands.distinct)
+ready : (c : Chronicle Sym) (level : ℕ → ℕ) (held : List (Partial Sym)) (was pool entries : List (Entry Sym)) (d g : ℕ) (x : Entry Sym) → StandsFor c level held was pool entries d g → IsFresh pool x → IsReady x held
+ready c level held was pool entries d g x stands fresh = (each_from_in (IsFree x) held (λ a i e j. fresh x (given_held c level held was pool entries d g stands a i e x j) refl), stands.distinct)
 
-pub store_offered : (old new : StoreState) (history : HistoryState) (x : Entry Sym) → IsStore old → IsSameStore old new → new.date ≡ x.date → TakesIn old.plan history x old.date old.held new.held → IsOffered old history x new
-store_offered old new history x is same judged takes was settled d g stands kept far few fresh later =
-    let plan = old.plan in
-    let flat_one = stands_flat old is.unfocused was settled settled d g stands in
-    let far_d = far_later plan.reach g d history.floor flat_one.marked far in
-    let over : AllByRecursion (IsOver plan settled settled d) old.held = over_of plan settled settled d old.held (given_held plan (parts old.held) was settled settled d g flat_one) stands.follows in
-    let taken_in = subst (λ (k : ℕ). TakesIn plan history x k old.held new.held) stands.judged takes in
-    let r = taken_in settled later (record { kept = kept; few = few; far = far_d }) (floor_early plan is.proper d history.floor far_d) over (ready plan (parts old.held) was settled settled d g x flat_one fresh) in
-    let out : StandsFor (chronicle plan) flat (parts new.held) was (settled ++ x ∷ []) (settled ++ x ∷ []) x.date g =
-    offered (chronicle plan) settled settled (x ∷ []) was d x.date g later (λ e i. elim i [ inl s ↦ subst (λ (z : Entry Sym). d ≤ z.date) (sym s) later | inr never ↦ absurd never ]) x later fresh (parts old.held) (parts new.held) flat_one
-    (λ e i. in_append_right settled (x ∷ []) e i) r.0 in
-    flat_stands new (same.focus ∙ is.unfocused) was (settled ++ x ∷ []) (settled ++ x ∷ []) x.date g
-    (subst (λ (p : Plan). StandsFor (chronicle p) flat (parts new.held) was (settled ++ x ∷ []) (settled ++ x ∷ []) x.date g) (sym same.plan) out)
-    (subst (λ (p : Plan). AllByRecursion (Follows p (settled ++ x ∷ []) x.date) new.held) (sym same.plan) (follows_of plan (settled ++ x ∷ []) (settled ++ x ∷ []) x.date new.held r.1))
-    judged
+-- what was shown of the levels of one store is so of another with the same plan and focus
+pub same_levels : (old new : StoreState) → IsSameStore old new → (was pool entries : List (Entry Sym)) (d g : ℕ) (held : List (Partial Sym)) → StandsFor (chronicle old.plan) (levels_of old) held was pool entries d g → StandsFor (chronicle new.plan) (levels_of new) held was pool entries d g
+same_levels old new same was pool entries d g held h =
+    subst (λ (b : Bool). StandsFor (chronicle new.plan) (levels_in new.plan b) held was pool entries d g) (sym same.focus)
+    (subst (λ (p : Plan). StandsFor (chronicle p) (levels_in p old.focus) held was pool entries d g) (sym same.plan) h)
 
-pub offered_from : (seen old new : StoreState) (history : HistoryState) (x : Entry Sym) (p : Plan) → seen ≡ old → IsStore seen → p ≡ seen.plan → IsSameStore seen new → new.date ≡ x.date → TakesIn p history x seen.date seen.held new.held → IsOffered old history x new
-offered_from seen old new history x p view is sp same judged takes =
-    subst (λ (o : StoreState). IsOffered o history x new) view
-    (store_offered seen new history x is same judged (subst (λ (t : Plan). TakesIn t history x seen.date seen.held new.held) sp takes))
+pub store_offered : (old new : StoreState) (history : HistoryState) (x : Entry Sym) (until : ℕ) → x.date ≤ until → IsStore old → IsSameStore old new → new.date ≡ until → TakesIn old.plan old.focus history x until old.date old.held new.held → IsOfferedUntil old history x until new
+store_offered old new history x until up is same judged takes was settled d g stands kept far few fresh later =
+    let c = chronicle old.plan in
+    let level = levels_of old in
+    let one = stands.stands in
+    let far_d = far_later old.plan.reach g d history.floor one.marked far in
+    let over : AllByRecursion (IsOver old.plan old.focus settled settled d) old.held = over_of old.plan old.focus settled settled d old.held (given_held c level (parts old.held) was settled settled d g one) (closed_held c level (parts old.held) was settled settled d g one) stands.follows in
+    let taken_in = subst (λ (k : ℕ). TakesIn old.plan old.focus history x until k old.held new.held) stands.judged takes in
+    let r = taken_in settled later up (record { kept = kept; few = few; far = far_d }) (floor_early old.plan is.proper d history.floor far_d) over (ready c level (parts old.held) was settled settled d g x one fresh) in
+    record {
+      stands = same_levels old new same was (settled ++ x ∷ []) (settled ++ x ∷ []) until g (parts new.held) (offered_until c level (parts old.held) (parts new.held) was settled settled d until g x one fresh later (omega arith) r.0);
+      follows = subst (λ (p : Plan). AllByRecursion (Follows p (settled ++ x ∷ []) until) new.held) (sym same.plan) (follows_of old.plan old.focus (settled ++ x ∷ []) (settled ++ x ∷ []) until new.held r.1);
+      judged = judged;
+    }
+
+pub offered_from : (seen old new : StoreState) (history : HistoryState) (x : Entry Sym) (until : ℕ) → x.date ≤ until → (p : Plan) → seen ≡ old → IsStore seen → p ≡ seen.plan → IsSameStore seen new → new.date ≡ until → TakesIn p seen.focus history x until seen.date seen.held new.held → IsOfferedUntil old history x until new
+offered_from seen old new history x until up p view is sp same judged takes =
+    subst (λ (o : StoreState). IsOfferedUntil o history x until new) view
+    (store_offered seen new history x until up is same judged (subst (λ (t : Plan). TakesIn t seen.focus history x until seen.date seen.held new.held) sp takes))
 
 -- ---- the root alone
 
@@ -144,13 +118,13 @@ root_follows plan proper i of is k = some_if (slice_get (chronicle plan).windows
     never None e P h = h
     never (Some y) e P h = absurd cc
 
-pub root_open : (plan : Plan) → IsProper plan → (i : InstanceState) → IsOf plan i → i.partial ≡ replicate (length plan.chronicle.events) None → IsOpenAt plan [] [] 0 i.partial
-root_open plan proper i of is =
+pub root_open : (plan : Plan) (focus : Bool) → IsProper plan → (i : InstanceState) → IsOf plan i → i.partial ≡ replicate (length plan.chronicle.events) None → IsOpenAt plan focus [] [] 0 i.partial
+root_open plan focus proper i of is =
     let none : Option (Entry Sym) = None in
     let free : (e : ℕ) → at i.partial e ≡ None = (λ e. ap (λ (t : Partial Sym). at t e) is ∙ get-replicate (length plan.chronicle.events) e none) in
-    let over : IsOver plan [] [] 0 i = record { given = λ e y j. absurd (not_both (at i.partial e) y j (free e)); follows = root_follows plan proper i of is } in
-    (open_able plan [] [] 0 i of over).1 (
-      root_goes_on plan proper i of free,
+    let over : IsOver plan focus [] [] 0 i = record { given = λ e y j. absurd (not_both (at i.partial e) y j (free e)); closed = λ e f l m n. free f; follows = root_follows plan proper i of is } in
+    (open_able plan focus [] [] 0 i of over).1 (
+      root_goes_on (levels_in plan focus) plan proper i of free,
       λ k. some_if (slice_get (chronicle plan).windows k) _ (λ w s from to stretch bound lost. never (at i.partial w.from.event) (free w.from.event) _ stretch.starts),
     )
   where
@@ -161,8 +135,18 @@ root_open plan proper i of is =
     never None e P h = h
     never (Some y) e P h = absurd cc
 
-stands_root : (plan : Plan) → IsProper plan → (a : Partial Sym) → length a ≡ length (chronicle plan).events → a ≡ replicate (length plan.chronicle.events) None → IsOpenAt plan [] [] 0 a → StandsFor (chronicle plan) flat (a ∷ []) [] [] [] 0 0
-stands_root plan proper a len is fine =
+pub root_able : (plan : Plan) (focus : Bool) → IsProper plan → (i : InstanceState) → IsOf plan i → i.partial ≡ replicate (length plan.chronicle.events) None → IsAble plan focus 0 i
+root_able plan focus proper i of is =
+    let none : Option (Entry Sym) = None in
+    let free : (e : ℕ) → at i.partial e ≡ None = (λ e. ap (λ (t : Partial Sym). at t e) is ∙ get-replicate (length plan.chronicle.events) e none) in
+    let over : IsOver plan focus [] [] 0 i = record { given = λ e y j. absurd (given_none (at i.partial e) y j (free e)); closed = λ e f l m n. free f; follows = root_follows plan proper i of is } in
+    (open_able plan focus [] [] 0 i of over).0 (root_open plan focus proper i of is)
+  where
+    given_none : (o : Option (Entry Sym)) (y : Entry Sym) → o ≡ Some y → o ≡ None → ⊥
+    given_none o y j f = absurd cc
+
+stands_root : (plan : Plan) (focus : Bool) → IsProper plan → (a : Partial Sym) → length a ≡ length (chronicle plan).events → a ≡ replicate (length plan.chronicle.events) None → IsOpenAt plan focus [] [] 0 a → StandsFor (chronicle plan) (levels_in plan focus) (a ∷ []) [] [] [] 0 0
+stands_root plan focus proper a len is fine =
     let none : Option (Entry Sym) = None in
     let free : (e : ℕ) → at a e ≡ None = (λ e. ap (λ (t : Partial Sym). at t e) is ∙ get-replicate (length plan.chronicle.events) e none) in
     let inside : 0 < length a = (let p = proper.events_some in let q = ap length is ∙ length-replicate (length plan.chronicle.events) none in omega arith) in
@@ -172,7 +156,7 @@ stands_root plan proper a len is fine =
       marked = omega arith;
       distinct = (tt, tt);
       each = λ b i. elim i [
-        | inl s ↦ subst (λ (z : Partial Sym). IsOpen (chronicle plan) flat [] [] 0 z × (IsRecognisedWhole (chronicle plan) [] (before 0 []) 0 z → ⊥)) (sym s) (
+        | inl s ↦ subst (λ (z : Partial Sym). IsOpen (chronicle plan) (levels_in plan focus) [] [] 0 z × (IsRecognisedWhole (chronicle plan) [] (before 0 []) 0 z → ⊥)) (sym s) (
           fine,
           λ rec. recognised_full (chronicle plan) [] (before 0 []) 0 a 0 rec inside (free 0),
         )
@@ -185,11 +169,13 @@ stands_root plan proper a len is fine =
     by o (inl e) h = e
     by o (inr s) h = absurd (of_some o s.0 (λ y. IsIn y []) s.1 h)
 
-pub new_stands : (plan : Plan) → IsProper plan → (i : InstanceState) → IsOf plan i → i.partial ≡ replicate (length plan.chronicle.events) None → (s : StoreState) → s.plan ≡ plan → s.focus ≡ false → s.held ≡ i ∷ [] → s.date ≡ 0 → Stands s [] [] [] 0 0
-new_stands plan proper i of is s sp un sh judged =
-    flat_stands s un [] [] [] 0 0
-    (subst (λ (q : Plan). StandsFor (chronicle q) flat (parts s.held) [] [] [] 0 0) (sym sp)
-    (subst (λ (t : List InstanceState). StandsFor (chronicle plan) flat (parts t) [] [] [] 0 0) (sym sh)
-    (stands_root plan proper i.partial (of.len ∙ sym (length-map plan.chronicle.events event_of)) is (root_open plan proper i of is))))
-    (subst (λ (q : Plan). AllByRecursion (Follows q [] 0) s.held) (sym sp) (subst (AllByRecursion (Follows plan [] 0)) (sym sh) (root_follows plan proper i of is, tt)))
-    judged
+pub new_stands : (plan : Plan) (focus : Bool) → IsProper plan → (i : InstanceState) → IsOf plan i → i.partial ≡ replicate (length plan.chronicle.events) None → (s : StoreState) → s.plan ≡ plan → s.focus ≡ focus → s.held ≡ i ∷ [] → s.date ≡ 0 → Stands s [] [] [] 0 0
+new_stands plan focus proper i of is s sp sf sh judged = record {
+  stands =
+      subst (λ (b : Bool). StandsFor (chronicle s.plan) (levels_in s.plan b) (parts s.held) [] [] [] 0 0) (sym sf)
+      (subst (λ (q : Plan). StandsFor (chronicle q) (levels_in q focus) (parts s.held) [] [] [] 0 0) (sym sp)
+      (subst (λ (t : List InstanceState). StandsFor (chronicle plan) (levels_in plan focus) (parts t) [] [] [] 0 0) (sym sh)
+      (stands_root plan focus proper i.partial (of.len ∙ sym (length-map plan.chronicle.events event_of)) is (root_open plan focus proper i of is))));
+  follows = subst (λ (q : Plan). AllByRecursion (Follows q [] 0) s.held) (sym sp) (subst (AllByRecursion (Follows plan [] 0)) (sym sh) (root_follows plan proper i of is, tt));
+  judged = judged;
+}

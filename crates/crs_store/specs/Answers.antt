@@ -1,5 +1,5 @@
 -- What a mark answers of a chronicle.
-use Rattle.std.specs.Prelude.{◌≡◌, ◌<◌, ◌≤◌, ◌^◌, ℕ, List, map, length, Option, Some, None}
+use Rattle.std.specs.Prelude.{◌≡◌, ◌<◌, ◌≤◌, ◌^◌, ℕ, List, map, length, Bool, Option, Some, None}
 use Rattle.std.specs.List.{AllByRecursion, AllZip}
 use Rattle.crs_base.specs.declared.symbols.Sym.{Sym}
 use Rattle.crs_base.specs.Words.{IsIn, Ordered}
@@ -79,14 +79,11 @@ answer_cmp r s = assignment_cmp (assignment_of r) (assignment_of s)
 abbrev pub TellsDone : Plan → ℕ → (Partial Sym → Type 0) → InstanceState → Type 0
 TellsDone plan h P i = (IsDone plan h i → P i.partial) × (P i.partial → IsDone plan h i)
 
--- what is found among the first instances is the recognitions of those that are done
-pub record AreFoundIn (plan : Plan) (h number : ℕ) (mark : Mark) (held first : List InstanceState) (found : List Recognition) : Type 0 where
+-- what is found among the instances is the recognitions of those that are done
+pub record AreFound (plan : Plan) (h number : ℕ) (mark : Mark) (held : List InstanceState) (found : List Recognition) : Type 0 where
   pub each : AllByRecursion (IsRecognitionOfOne plan h number mark held) found
   pub image : (pool entries : List (Entry Sym)) → AllByRecursion (TellsDone plan h (IsRecognisedWhole (chronicle plan) pool entries h)) held → Ordered (λ a b. a ≡ b → ⊥) (parts held)
-      → IsImage (GoesOn (IsRecognisedWhole (chronicle plan) pool entries h)) (parts first) (wholes found)
-
-abbrev pub AreFound : Plan → ℕ → ℕ → Mark → List InstanceState → List Recognition → Type 0
-AreFound plan h number mark held found = AreFoundIn plan h number mark held held found
+      → IsImage (GoesOn (IsRecognisedWhole (chronicle plan) pool entries h)) (parts held) (wholes found)
 
 -- the same in the order of the lists of their entries' keys
 pub record AreFoundInOrder (plan : Plan) (h number : ℕ) (mark : Mark) (held : List InstanceState) (answer : List Recognition) : Type 0 where
@@ -96,8 +93,8 @@ pub record AreFoundInOrder (plan : Plan) (h number : ℕ) (mark : Mark) (held : 
   pub sorted : IsSortedBy (λ r s. is_lt (answer_cmp r s)) answer
 
 -- the instances pass the dates up to h; what is found among them then is the answer, and those that can wait stay
-pub record MovesOn (plan : Plan) (history : HistoryState) (since h number : ℕ) (mark : Mark) (old new : List InstanceState) (answer : List Recognition) : Type 0 where
+pub record MovesOn (plan : Plan) (focus : Bool) (history : HistoryState) (since h number : ℕ) (mark : Mark) (old new : List InstanceState) (answer : List Recognition) : Type 0 where
   pub between : List InstanceState
   pub passed : AllZip (IsPassed plan history since h) old between
   pub found : AreFoundInOrder plan h number mark between answer
-  pub left : Sifts (CanWait plan h) between new
+  pub left : Sifts (CanWait plan focus h) between new

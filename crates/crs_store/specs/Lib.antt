@@ -1,5 +1,17 @@
+pub mod Levels
 pub mod Stores
 pub mod Windows
 pub mod Judged
+pub mod Hooks
+pub mod Slots
+pub mod Links
 pub mod Sweeps
 pub mod Answers
+pub mod Dues
+pub mod Ripenings
+pub mod Tidy
+pub mod Joins
+pub mod Forkings
+pub mod Scannings
+pub mod Walks
+pub mod Linkings

@@ -1,5 +1,5 @@
 -- Stores, and what they stand for.
-use Rattle.std.specs.Prelude.{◌≡◌, ◌≤◌, ◌<◌, ◌^◌, ℕ, List, [], ◌∷◌, ◌++◌, length, map, Bool, false}
+use Rattle.std.specs.Prelude.{◌≡◌, ◌≤◌, ◌<◌, ◌^◌, ℕ, List, [], ◌∷◌, ◌++◌, length, map, Bool}
 use Rattle.std.specs.List.{AllByRecursion}
 use Rattle.crs_base.specs.declared.symbols.Sym.{Sym}
 use Rattle.crs_base.specs.Entry.{Entry}
@@ -7,11 +7,11 @@ use Rattle.crs_model.specs.declared.plan.Plan.{Plan}
 use Rattle.crs_model.specs.Partial.{Partial}
 use Rattle.crs_model.specs.Plans.{chronicle, IsProper}
 use Rattle.crs_model.specs.Steps.{IsFresh}
-use Rattle.crs_model.specs.Levels.{level_in}
 use Rattle.crs_model.specs.Open.{StandsFor}
 use Rattle.crs_history.specs.Histories.{HistoryState, IsFarBack, StandsFor as HistoryStandsFor}
 use Rattle.crs_instance.specs.Instances.{InstanceState, IsOf}
 use Rattle.crs_instance.specs.Followed.{Follows}
+use Rattle.crs_store.specs.Levels.{levels_in}
 
 -- a store, as contracts see it
 pub record StoreState : Type 0 where
@@ -29,16 +29,15 @@ parts is = map (λ i. i.partial) is
 abbrev pub AllOf : Plan → List InstanceState → Type 0
 AllOf plan is = AllByRecursion (IsOf plan) is
 
--- a store of a proper plan without focus, and instances of the plan, judged last at a date up to 2^42
+-- a store of a proper plan, and instances of the plan, judged last at a date up to 2^42
 pub record IsStore (s : StoreState) : Type 0 where
   pub proper : IsProper s.plan
-  pub unfocused : s.focus ≡ false
   pub instances : AllOf s.plan s.held
   pub early : s.date ≤ 2 ^ 42
 
 -- the level of each event of the plan, as the store reads it
 abbrev pub levels_of : StoreState → ℕ → ℕ
-levels_of s = level_in (chronicle s.plan).events s.focus
+levels_of s = levels_in s.plan s.focus
 
 -- What is held is exactly what can still be recognised and wasn't, with the progress of its windows, and was judged last at d.
 pub record Stands (s : StoreState) (was pool entries : List (Entry Sym)) (d g : ℕ) : Type 0 where
@@ -52,9 +51,13 @@ pub record IsSameStore (old new : StoreState) : Type 0 where
   pub number : new.number ≡ old.number
   pub focus : new.focus ≡ old.focus
 
--- After x was offered, whose arrival number is new, whose date isn't before d, and which the history has as its last. The pool is what is settled, which are fewer than 2^32, and g is the horizon of the last mark.
-abbrev pub IsOffered : StoreState → HistoryState → Entry Sym → StoreState → Type 0
-IsOffered old history x new =
+-- After x was offered, whose arrival number is new, whose date isn't before d, and which the history has as its last, and all was judged at a date. The pool is what is settled, which are fewer than 2^32, and g is the horizon of the last mark.
+abbrev pub IsOfferedUntil : StoreState → HistoryState → Entry Sym → ℕ → StoreState → Type 0
+IsOfferedUntil old history x until new =
     (was settled : List (Entry Sym)) (d g : ℕ) → Stands old was settled settled d g →
     HistoryStandsFor (settled ++ x ∷ []) history → IsFarBack old.plan.reach g history.floor → length (settled ++ x ∷ []) < 2 ^ 32 → IsFresh settled x → d ≤ x.date →
-    Stands new was (settled ++ x ∷ []) (settled ++ x ∷ []) x.date g
+    Stands new was (settled ++ x ∷ []) (settled ++ x ∷ []) until g
+
+-- the same, judged at the date of x
+abbrev pub IsOffered : StoreState → HistoryState → Entry Sym → StoreState → Type 0
+IsOffered old history x new = IsOfferedUntil old history x x.date new

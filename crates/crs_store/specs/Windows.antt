@@ -1,20 +1,20 @@
 -- What instances know of their windows: as entries are settled, as dates pass, and as events are bound.
-use Rattle.std.specs.Prelude.{◌≡◌, ◌≤◌, ◌<◌, ◌^◌, ◌-◌, ℕ, ℤ, pos, ◌≤ℤ◌, List, [], ◌∷◌, ◌++◌, length, Option, Some, IfSome, slice_get}
+use Rattle.std.specs.Prelude.{◌≡◌, ◌≤◌, ◌<◌, ◌^◌, ◌-◌, ℕ, ℤ, pos, ◌≤ℤ◌, List, [], ◌∷◌, ◌++◌, length, Bool, Option, Some, IfSome, slice_get}
 use Rattle.crs_base.specs.declared.symbols.Sym.{Sym}
 use Rattle.crs_base.specs.Words.{IsIn}
 use Rattle.crs_base.specs.Entry.{Entry}
 use Rattle.crs_model.specs.declared.plan.Plan.{Plan}
 use Rattle.crs_model.specs.declared.progress.Progress.{Progress}
 use Rattle.crs_model.specs.Bindings.{look_of, Looser}
-use Rattle.crs_model.specs.Partial.{Partial, at, CanGoOn}
+use Rattle.crs_model.specs.Partial.{Partial, at, IsLevelClosed, CanGoOn}
 use Rattle.crs_model.specs.Plans.{chronicle}
-use Rattle.crs_model.specs.Steps.{flat}
 use Rattle.crs_model.specs.Open.{IsOpen}
 use Rattle.crs_model.specs.Verdicts.{IsStretch, BodyIsBound}
 use Rattle.crs_model.specs.HasProgress.{IsProgress, IsMetBy, NoneLostBy}
 use Rattle.crs_history.specs.Histories.{HistoryState, IsFarBack, StandsFor}
 use Rattle.crs_instance.specs.Instances.{InstanceState, progress_at}
 use Rattle.crs_instance.specs.Followed.{Follows}
+use Rattle.crs_store.specs.Levels.{levels_in}
 
 -- What can be read at a date: the history stands for the entries, which are fewer than 2^32, and goes far enough back.
 pub record IsRead (plan : Plan) (history : HistoryState) (entries : List (Entry Sym)) (n : ℕ) : Type 0 where
@@ -71,18 +71,19 @@ pub record IsBegun (plan : Plan) (history : HistoryState) (h : ℕ) (parent old 
   pub follows : (entries : List (Entry Sym)) → StandsFor entries history → length entries < 2 ^ 32 → ((k : ℕ) → StartsAfter plan old.partial k history.floor) → HasMore parent old → Follows plan entries h parent → Follows plan entries h new
 
 -- its dates can go on at h, and no window is lost as its progress tells
-abbrev pub IsAble : Plan → ℕ → InstanceState → Type 0
-IsAble plan h i = CanGoOn (chronicle plan) flat i.partial h × NoneLostBy (chronicle plan) (look_of i.binding) i.partial h (λ k. (progress_at i.progress k).count) (λ k. (progress_at i.progress k).broken)
+abbrev pub IsAble : Plan → Bool → ℕ → InstanceState → Type 0
+IsAble plan focus h i = CanGoOn (chronicle plan) (levels_in plan focus) i.partial h × NoneLostBy (chronicle plan) (look_of i.binding) i.partial h (λ k. (progress_at i.progress k).count) (λ k. (progress_at i.progress k).broken)
 
 -- the window has begun, and is met at h as its progress tells
 abbrev pub IsMetAt : Plan → ℕ → InstanceState → ℕ → Type 0
 IsMetAt plan h i k =
     IfSome (slice_get (chronicle plan).windows k) (λ w. (from : ℤ) × (to : ℤ) × IsStretch i.partial w from to × BodyIsBound (look_of i.binding) w.body × IsMetBy w.body to (pos h) (progress_at i.progress k).count (progress_at i.progress k).broken)
 
--- its entries are of the pool, and it has the progress of its windows at n over the entries
-pub record IsOver (plan : Plan) (pool entries : List (Entry Sym)) (n : ℕ) (i : InstanceState) : Type 0 where
+-- its entries are of the pool, it is level-closed, and it has the progress of its windows at n over the entries
+pub record IsOver (plan : Plan) (focus : Bool) (pool entries : List (Entry Sym)) (n : ℕ) (i : InstanceState) : Type 0 where
   pub given : (e : ℕ) (y : Entry Sym) → at i.partial e ≡ Some y → IsIn y pool
+  pub closed : IsLevelClosed (levels_in plan focus) i.partial
   pub follows : Follows plan entries n i
 
-abbrev pub IsOpenAt : Plan → List (Entry Sym) → List (Entry Sym) → ℕ → Partial Sym → Type 0
-IsOpenAt plan pool entries n a = IsOpen (chronicle plan) flat pool entries n a
+abbrev pub IsOpenAt : Plan → Bool → List (Entry Sym) → List (Entry Sym) → ℕ → Partial Sym → Type 0
+IsOpenAt plan focus pool entries n a = IsOpen (chronicle plan) (levels_in plan focus) pool entries n a

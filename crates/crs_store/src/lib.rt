@@ -1,12 +1,20 @@
 //! The partial instances of one chronicle that can still be recognised.
 #![tactic(auto)]
 
-mod forks;
+mod candidates;
+mod dues;
+mod holding;
+mod hooks;
+mod levels;
+mod linking;
+mod links;
 mod order;
-mod recognising;
 mod refused;
-mod staying;
+mod ripening;
+mod scanning;
+mod slots;
 mod store;
+mod walking;
 mod windows;
 
 pub use refused::StoreRefused;

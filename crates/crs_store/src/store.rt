@@ -1,19 +1,23 @@
-ghost use Rattle.std.specs.Prelude.{◌≡◌, ◌+◌, ◌*◌, ◌<◌, ◌≤◌, ◌^◌, ◌↔◌, ◌⊎◌, [], length, slice_get, IsTrue, OnOk, IfOk, IfSome, Err, false};
+ghost use Rattle.std.specs.Prelude.{◌≡◌, ◌+◌, ◌*◌, ◌<◌, ◌≤◌, ◌^◌, ◌↔◌, ◌⊎◌, [], ◌∷◌, length, replicate, None, slice_get, IsTrue, OnOk, IfOk, IfSome, Err, false};
 ghost use Rattle.std.specs.Option.{option_copied};
 ghost use Rattle.crs_base.specs.Seen.{entry_of};
 ghost use Rattle.crs_history.specs.Histories.{EndsWith};
 ghost use Rattle.crs_model.specs.Plans.{IsProper};
-ghost use Rattle.crs_instance.specs.Instances.{IsOf};
-ghost use Rattle.crs_store.specs.Stores.{AllOf, Stands, IsStore, IsSameStore, IsOffered};
+ghost use Rattle.crs_instance.specs.Instances.{InstanceState, IsOf};
+ghost use Rattle.crs_store.specs.Stores.{Stands, IsStore, IsSameStore, IsOffered, IsOfferedUntil};
 ghost use Rattle.crs_store.specs.Sweeps.{TakesIn};
-ghost use Rattle.crs_store.specs.Answers.{IsAdvanced, AreFoundInOrder, MovesOn};
+ghost use Rattle.crs_store.specs.Answers.{IsAdvanced, MovesOn};
+ghost use Rattle.crs_store.specs.Hooks.{AreHooks};
+ghost use Rattle.crs_store.specs.Slots.{members};
+ghost use Rattle.crs_store.specs.Tidy.{IsTidyHolding};
 ghost use Rattle.crs_store.specs.declared.refused.StoreRefused.TheVariants.{Stopped, Memory};
 
-use crate::forks::all_forks;
+use crate::candidates::forks;
+use crate::holding::{Holding, follow, hold_all, no_holding, pass};
+use crate::hooks::Hooks;
 use crate::order::put_in_order;
-use crate::recognising::recognitions;
 use crate::refused::StoreRefused;
-use crate::staying::{follow_all, keep_able, keep_waiting, pass_all};
+use crate::ripening::take_ripe;
 use crs_base::{Entry, List, Steps};
 use crs_history::History;
 use crs_instance::Instance;
@@ -29,71 +33,80 @@ pub struct Store {
     plan: Rc<Plan>,
     number: u32,
     focus: bool,
-    held: Vec<Instance>,
+    hooks: Hooks,
+    holding: Holding,
     date: u64,
     stopped: bool,
     alloc: Global,
 }
 
 impl Model for Store {
+    ghost use Rattle.std.specs.Prelude.{◌≡◌, false};
+    ghost use Rattle.crs_store.specs.Hooks.{AreHooks};
+    ghost use Rattle.crs_store.specs.Slots.{members};
     ghost use Rattle.crs_store.specs.Stores.{StoreState, IsStore};
+    ghost use Rattle.crs_store.specs.Tidy.{IsTidyHolding};
 
     ghost Value = { StoreState };
 
-    ghost view = { λ s. record { plan = s.plan.value; number = s.number; focus = s.focus; held = s.held.items; date = s.date; stopped = s.stopped } };
+    ghost view = { λ s. record { plan = s.plan.value; number = s.number; focus = s.focus; held = members s.holding.slots.slots; date = s.date; stopped = s.stopped } };
 
-    ghost invariant = { λ s. IsStore (record { plan = s.plan.value; number = s.number; focus = s.focus; held = s.held.items; date = s.date; stopped = s.stopped }) };
+    ghost invariant = { λ s. IsStore (record { plan = s.plan.value; number = s.number; focus = s.focus; held = members s.holding.slots.slots; date = s.date; stopped = s.stopped }) × AreHooks s.plan.value s.hooks.events.items s.hooks.windows.items × (s.stopped ≡ false → IsTidyHolding s.plan.value s.focus s.hooks s.holding s.date) };
 }
 
-/// Adds what comes of the instances by the entry, and drops those that it makes hopeless.
+/// Takes in the entry, and judges all at the date `until`: adds what comes of the instances by it, and
+/// drops what can't be recognised any more.
 fn take_in<L: Ledger>(
     alloc: Global,
     plan: &Plan,
-    held: &mut Vec<Instance>,
+    focus: bool,
+    hooks: &Hooks,
+    holding: &mut Holding,
     history: &History,
     since: u64,
     entry: &Rc<Entry>,
+    until: u64,
     steps: &mut Steps<L>,
 ) -> Result<(), AllocError>
     requires proper { IsProper plan.now }
-    requires of { AllOf plan.now held.old.items }
-    requires since { since ≤ 2 ^ 42 }
+    requires hooks { AreHooks plan.now hooks.now.events.items hooks.now.windows.items }
+    requires tidy { IsTidyHolding plan.now focus hooks.now holding.old since }
+    requires last { EndsWith (entry_of entry.now.value) history.now.entries }
+    requires since { since ≤ entry.now.value.date }
     requires date { entry.now.value.date < 2 ^ 40 }
-    ensures of { AllOf plan.now held.new.items }
-    ensures taken { OnOk result (TakesIn plan.now history.now (entry_of entry.now.value) since held.old.items held.new.items) }
-    ensures cost { steps.new ≤ steps.old + 2 * length plan.now.chronicle.events * length held.old.items }
+    requires later { entry.now.value.date ≤ until }
+    requires small { until ≤ 2 ^ 42 }
+    ensures tidy { OnOk result (IsTidyHolding plan.now focus hooks.now holding.new until) }
+    ensures taken { OnOk result (TakesIn plan.now focus history.now (entry_of entry.now.value) until since (members holding.old.slots.slots) (members holding.new.slots.slots)) }
+    ensures cost { focus ≡ false → steps.new ≤ steps.old + 2 * length plan.now.chronicle.events * length (members holding.old.slots.slots) }
 {
-    follow_all(plan, held, entry, history, since);
-    let mut more = all_forks(alloc, plan, held.as_slice(), history, entry, steps)?;
-    keep_able(plan, held, entry.date);
-    held.append(&mut more)?;
+    follow(alloc, holding, plan, focus, hooks, history, entry, since)?;
+    let born = forks(
+        alloc,
+        plan,
+        focus,
+        hooks.events.as_slice(),
+        &holding.slots,
+        &mut holding.waiting,
+        history,
+        entry,
+        until,
+        steps,
+    )?;
+    pass(
+        alloc, holding, plan, focus, hooks, history, entry.date, until,
+    )?;
+    hold_all(holding, plan, focus, hooks, born, until)?;
     Ok(())
-}
-
-/// The recognitions of the instances that are whole with each window met at `h`, in order.
-fn answer(
-    alloc: Global,
-    plan: &Plan,
-    held: &[Instance],
-    h: u64,
-    number: u32,
-    mark: Mark,
-) -> Result<List<Recognition>, AllocError>
-    requires proper { IsProper plan.now }
-    requires small { h ≤ 2 ^ 42 }
-    ensures { IfOk result (AreFoundInOrder plan.now h number mark held.now) }
-{
-    let mut found = recognitions(alloc, plan, held, h, number, mark)?;
-    put_in_order(&mut found);
-    let listed = list_of(alloc, found)?;
-    Ok(listed)
 }
 
 /// Moves the instances on to `h`: answers the recognitions, and keeps those that can wait.
 fn move_on(
     alloc: Global,
     plan: &Plan,
-    held: &mut Vec<Instance>,
+    focus: bool,
+    hooks: &Hooks,
+    holding: &mut Holding,
     history: &History,
     since: u64,
     h: u64,
@@ -101,16 +114,45 @@ fn move_on(
     mark: Mark,
 ) -> Result<List<Recognition>, AllocError>
     requires proper { IsProper plan.now }
-    requires of { AllOf plan.now held.old.items }
-    requires since { since ≤ 2 ^ 42 }
+    requires hooks { AreHooks plan.now hooks.now.events.items hooks.now.windows.items }
+    requires tidy { IsTidyHolding plan.now focus hooks.now holding.old since }
+    requires later { since ≤ h }
     requires small { h ≤ 2 ^ 42 }
-    ensures of { AllOf plan.now held.new.items }
-    ensures moved { IfOk result (MovesOn plan.now history.now since h number mark held.old.items held.new.items) }
+    ensures tidy { IfOk result (λ _. IsTidyHolding plan.now focus hooks.now holding.new h) }
+    ensures moved { IfOk result (MovesOn plan.now focus history.now since h number mark (members holding.old.slots.slots) (members holding.new.slots.slots)) }
 {
-    pass_all(plan, held, history, since, h);
-    let found = answer(alloc, plan, held.as_slice(), h, number, mark)?;
-    keep_waiting(plan, held, h);
-    Ok(found)
+    pass(alloc, holding, plan, focus, hooks, history, since, h)?;
+    let mut found = take_ripe(
+        alloc,
+        plan,
+        &mut holding.slots,
+        &mut holding.ripe,
+        h,
+        number,
+        mark,
+    )?;
+    put_in_order(&mut found);
+    let listed = list_of(alloc, found)?;
+    Ok(listed)
+}
+
+/// What is held at first: the root alone.
+fn first_holding(
+    alloc: Global,
+    plan: &Plan,
+    focus: bool,
+    hooks: &Hooks,
+) -> Result<Holding, AllocError>
+    requires proper { IsProper plan.now }
+    requires hooks { AreHooks plan.now hooks.now.events.items hooks.now.windows.items }
+    ensures tidy { IfOk result (λ holding. IsTidyHolding plan.now focus hooks.now holding 0) }
+    ensures root { IfOk result (λ holding. (i : InstanceState) × (members holding.slots.slots ≡ i ∷ []) × IsOf plan.now i × (i.partial ≡ replicate (length plan.now.chronicle.events) None)) }
+{
+    let mut holding = no_holding(alloc);
+    let mut born = Vec::new(alloc);
+    born.push(Instance::root(alloc, plan)?)?;
+    hold_all(&mut holding, plan, focus, hooks, born, 0)?;
+    Ok(holding)
 }
 
 /// The same items in order.
@@ -128,20 +170,21 @@ impl Store {
     /// A store of the chronicle of this number, counted from 0 in file order. Nothing is bound yet.
     /// Without focus every event counts as of level 0.
     pub fn new(alloc: Global, plan: Rc<Plan>, number: u32, focus: bool) -> Result<Store, AllocError>
-        requires unfocused { focus ≡ false }
         requires proper { IsProper plan.value }
         ensures plan { IfOk result (λ s. s.plan ≡ plan.value) }
         ensures number { IfOk result (λ s. s.number ≡ number) }
+        ensures focus { IfOk result (λ s. s.focus ≡ focus) }
         ensures running { IfOk result (λ s. s.stopped ≡ false) }
         ensures stands { IfOk result (λ s. Stands s [] [] [] 0 0) }
     {
-        let mut held = Vec::new(alloc);
-        held.push(Instance::root(alloc, &plan)?)?;
+        let hooks = Hooks::of(alloc, &plan)?;
+        let holding = first_holding(alloc, &plan, focus, &hooks)?;
         Ok(Store {
             plan,
             number,
             focus,
-            held,
+            hooks,
+            holding,
             date: 0,
             stopped: false,
             alloc,
@@ -149,7 +192,8 @@ impl Store {
     }
 
     /// Takes in an entry, whose key is after those of the entries that were taken in before, and
-    /// which is the last of the history. After `Memory` the store answers only `Stopped`.
+    /// which is the last of the history. One that is dated before these is passed over. After
+    /// `Memory` nothing is held, and the store answers only `Stopped`.
     pub fn offer<L: Ledger>(
         &mut self,
         history: &History,
@@ -162,33 +206,62 @@ impl Store {
         ensures raised { IsTrue self.new.stopped ↔ (IsTrue self.old.stopped ⊎ (result ≡ Err Memory)) }
         ensures same { IsSameStore self.old self.new }
         ensures stands { OnOk result (IsOffered self.old history.now (entry_of entry.now.value) self.new) }
-        ensures cost { steps.new ≤ steps.old + 2 * length self.old.plan.chronicle.events * length self.old.held }
+        ensures cost { self.old.focus ≡ false → steps.new ≤ steps.old + 2 * length self.old.plan.chronicle.events * length self.old.held }
+    {
+        self.offer_until(history, entry, entry.date, steps)
+    }
+
+    /// Takes in an entry as `offer` does, and judges all that is held at the date `until`, which no
+    /// later entry is before.
+    pub fn offer_until<L: Ledger>(
+        &mut self,
+        history: &History,
+        entry: &Rc<Entry>,
+        until: u64,
+        steps: &mut Steps<L>,
+    ) -> Result<(), StoreRefused>
+        requires last { self.old.stopped ≡ false → EndsWith (entry_of entry.now.value) history.now.entries }
+        requires date { entry.now.value.date < 2 ^ 40 }
+        requires later { entry.now.value.date ≤ until }
+        requires small { until ≤ 2 ^ 42 }
+        ensures stopped { (result ≡ Err Stopped) ↔ IsTrue self.old.stopped }
+        ensures raised { IsTrue self.new.stopped ↔ (IsTrue self.old.stopped ⊎ (result ≡ Err Memory)) }
+        ensures same { IsSameStore self.old self.new }
+        ensures stands { OnOk result (IsOfferedUntil self.old history.now (entry_of entry.now.value) until self.new) }
+        ensures cost { self.old.focus ≡ false → steps.new ≤ steps.old + 2 * length self.old.plan.chronicle.events * length self.old.held }
     {
         if self.stopped {
             return Err(StoreRefused::Stopped);
         }
+        if entry.date < self.date {
+            return Ok(());
+        }
         match take_in(
             self.alloc,
             &self.plan,
-            &mut self.held,
+            self.focus,
+            &self.hooks,
+            &mut self.holding,
             history,
             self.date,
             entry,
+            until,
             steps,
         ) {
             Ok(()) => {
-                self.date = entry.date;
+                self.date = until;
                 Ok(())
             }
             Err(_) => {
+                self.holding = no_holding(self.alloc);
                 self.stopped = true;
                 Err(StoreRefused::Memory)
             }
         }
     }
 
-    /// Moves on to the horizon `h`, and answers what is newly recognised, with this mark. After
-    /// `Memory` the store answers only `Stopped`.
+    /// Moves on to the horizon `h`, and answers what is newly recognised, with this mark; nothing at
+    /// one before the last. After `Memory` nothing is held, and the store answers only `Stopped`.
     pub fn advance(
         &mut self,
         history: &History,
@@ -204,10 +277,15 @@ impl Store {
         if self.stopped {
             return Err(StoreRefused::Stopped);
         }
+        if h < self.date {
+            return Ok(List::new(self.alloc));
+        }
         match move_on(
             self.alloc,
             &self.plan,
-            &mut self.held,
+            self.focus,
+            &self.hooks,
+            &mut self.holding,
             history,
             self.date,
             h,
@@ -219,6 +297,7 @@ impl Store {
                 Ok(found)
             }
             Err(_) => {
+                self.holding = no_holding(self.alloc);
                 self.stopped = true;
                 Err(StoreRefused::Memory)
             }
@@ -228,9 +307,8 @@ impl Store {
     /// How many instances are held.
     pub fn held(&self) -> usize
         ensures count { result ≡ length self.now.held }
-        ensures unfocused { self.now.focus ≡ false }
     {
-        self.held.len()
+        self.holding.slots.len()
     }
 
     /// The instance at a place, from 0. None exactly where the place is not below their number.
@@ -238,6 +316,6 @@ impl Store {
         ensures place { option_copied result ≡ slice_get self.now.held i }
         ensures of { IfSome (option_copied result) (IsOf self.now.plan) }
     {
-        self.held.as_slice().get(i)
+        self.holding.slots.nth(i)
     }
 }

@@ -5,7 +5,7 @@ ghost use Rattle.crs_instance.specs.Fixtures.{IsPlain, IsFixture, spaced};
 use crate::{Store, StoreRefused};
 use crs_base::{Entry, List, Steps, Sym, SymList, Text};
 use crs_history::History;
-use crs_model::{Chronicle, EventDef, Mark, Pattern, Plan};
+use crs_model::{Chronicle, EventDef, Mark, Pattern, Plan, Recognition};
 use crs_stn::{Bound, Network};
 use std::alloc::{AllocError, Global};
 use std::marker::Brand;
@@ -100,7 +100,7 @@ fn entry(alloc: Global, arrival: u32, date: u64, name: u32) -> Result<Rc<Entry>,
     )?)
 }
 
-/// Offers the entry as the only one of a history, with a counter of its own.
+/// Offers an entry as the only one of a history, with a counter of its own.
 fn offer_apart<L: Ledger>(
     blank: Blank,
     alloc: Global,
@@ -117,38 +117,109 @@ fn offer_apart<L: Ledger>(
     Ok(store.offer(&history, entry, &mut Steps::<L>::new(blank)))
 }
 
+/// The date and the name of an event that is offered, or the date of a mark, how many recognitions
+/// are new at it, and how many instances are held behind it.
+#[derive(Clone, Copy)]
+enum Step {
+    Event(u32, u32),
+    Mark(u32, usize, usize),
+}
+
+/// Whether the first recognition, if there is one, is of chronicle 3 and of this mark.
+fn begins_well(answer: &List<Recognition>, mark: Mark) -> bool {
+    match answer.get(0) {
+        None => true,
+        Some(first) => first.chronicle == 3 && first.mark == mark,
+    }
+}
+
+/// Takes one step, and says whether the numbers of a mark were met.
+fn take_step(
+    alloc: Global,
+    store: &mut Store,
+    arrival: u32,
+    step: &Step,
+) -> Result<Result<bool, StoreRefused>, AllocError> {
+    match *step {
+        Step::Event(date, name) => {
+            let entry = entry(alloc, arrival, date as u64, name)?;
+            match offer_apart::<Brand>(Blank::new(1), alloc, store, &entry)? {
+                Ok(()) => Ok(Ok(true)),
+                Err(refused) => Ok(Err(refused)),
+            }
+        }
+        Step::Mark(date, new, held) => {
+            let history = History::new(alloc);
+            let mark = Mark::Clock(date as u64);
+            match store.advance(&history, date as u64, mark) {
+                Ok(answer) => Ok(Ok(
+                    begins_well(&answer, mark) && answer.len() == new && store.held() == held,
+                )),
+                Err(refused) => Ok(Err(refused)),
+            }
+        }
+    }
+}
+
+/// Whether a new store meets the numbers of all marks.
+fn meets(alloc: Global, plan: Rc<Plan>, steps: &[Step]) -> Result<bool, Fail>
+    requires { IsProper plan.value }
+{
+    let mut store = Store::new(alloc, plan, 3, false)?;
+    let mut arrival = 0;
+    for step in steps {
+        if !take_step(alloc, &mut store, arrival, step)?? {
+            return Ok(false);
+        }
+        arrival = arrival.wrapping_add(1);
+    }
+    Ok(true)
+}
+
 #[test]
 fn holds_what_can_still_be_recognised(rt: HostRuntime) -> Result<(), Fail> {
     let alloc = rt.alloc();
-    let mut store = Store::new(alloc, plan(alloc, 0, 1, 1)?, 3, false)?;
-    let history = History::new(alloc);
-    assert_eq!(rt; store.held(), 1);
-    offer_apart::<Brand>(Blank::new(1), alloc, &mut store, &entry(alloc, 0, 1, 0)?)??;
-    offer_apart::<Brand>(Blank::new(1), alloc, &mut store, &entry(alloc, 1, 2, 0)?)??;
-    offer_apart::<Brand>(Blank::new(1), alloc, &mut store, &entry(alloc, 2, 4, 1)?)??;
-    let first = store.advance(&history, 5, Mark::Clock(5))?;
-    assert_eq!(rt; first.len(), 2);
-    assert_eq!(rt; store.held(), 3);
-    offer_apart::<Brand>(Blank::new(1), alloc, &mut store, &entry(alloc, 3, 6, 1)?)??;
-    let second = store.advance(&history, 7, Mark::Clock(7))?;
-    assert_eq!(rt; second.len(), 2);
-    assert_eq!(rt; store.held(), 2);
-    let at_five = first.get(1);
-    assert!(rt; at_five.is_some_and(|r| r.chronicle == 3 && r.mark == Mark::Clock(5)));
-    let third = store.advance(&history, 7, Mark::Finish)?;
-    assert_eq!(rt; third.len(), 0);
+    let steps = [
+        Step::Mark(0, 0, 1),
+        Step::Event(1, 0),
+        Step::Event(2, 0),
+        Step::Event(4, 1),
+        Step::Mark(5, 2, 3),
+        Step::Event(6, 1),
+        Step::Mark(7, 2, 2),
+        Step::Mark(7, 0, 2),
+    ];
+    assert!(rt; meets(alloc, plan(alloc, 0, 1, 1)?, &steps)?);
     Ok(())
 }
 
 #[test]
 fn gives_no_entry_to_two_events(rt: HostRuntime) -> Result<(), Fail> {
     let alloc = rt.alloc();
-    let mut store = Store::new(alloc, plan(alloc, 0, 0, 0)?, 0, false)?;
-    let history = History::new(alloc);
-    offer_apart::<Brand>(Blank::new(1), alloc, &mut store, &entry(alloc, 0, 1, 0)?)??;
-    assert_eq!(rt; store.held(), 3);
-    assert_eq!(rt; store.advance(&history, 2, Mark::Clock(2))?.len(), 0);
-    offer_apart::<Brand>(Blank::new(1), alloc, &mut store, &entry(alloc, 1, 2, 0)?)??;
-    assert_eq!(rt; store.advance(&history, 3, Mark::Clock(3))?.len(), 1);
+    let steps = [
+        Step::Event(1, 0),
+        Step::Mark(2, 0, 2),
+        Step::Event(2, 0),
+        Step::Mark(3, 1, 3),
+    ];
+    assert!(rt; meets(alloc, plan(alloc, 0, 0, 0)?, &steps)?);
+    Ok(())
+}
+
+#[test]
+fn takes_the_place_of_one_that_is_over(rt: HostRuntime) -> Result<(), Fail> {
+    let alloc = rt.alloc();
+    let steps = [
+        Step::Event(1, 0),
+        Step::Mark(2, 0, 2),
+        Step::Event(3, 7),
+        Step::Mark(7, 0, 1),
+        Step::Event(8, 0),
+        Step::Mark(9, 0, 2),
+        Step::Event(9, 1),
+        Step::Mark(10, 1, 2),
+        Step::Mark(14, 0, 1),
+    ];
+    assert!(rt; meets(alloc, plan(alloc, 0, 1, 1)?, &steps)?);
     Ok(())
 }

@@ -3,8 +3,10 @@ ghost use Rattle.crs_base.specs.Seen.{entry_of};
 ghost use Rattle.crs_model.specs.Plans.{chronicle, IsProper};
 ghost use Rattle.crs_instance.specs.Instances.{IsOf, progress_at};
 ghost use Rattle.crs_store.specs.Windows.{Settles, Passes, Begins, IsFollowed, IsPassed, IsBegun, IsAble, IsMetAt};
+ghost use Rattle.crs_store.specs.Sweeps.{IsDone};
 ghost use Rattle.crs_store.specs.Judged.{AreStepped, IsJudged, IsLostNowhere, IsMetTo};
 
+use crate::levels::can_go_on;
 use crs_base::Entry;
 use crs_history::History;
 use crs_instance::Instance;
@@ -205,11 +207,21 @@ pub(crate) fn are_met(plan: &Plan, instance: &Instance, h: u64) -> bool
     true
 }
 
-/// Whether the unbound events can come at or after h, and no window is lost then.
-pub(crate) fn is_able(plan: &Plan, instance: &Instance, h: u64) -> bool
+/// Whether the awaited events can come at or after h, and no window is lost then.
+pub(crate) fn is_able(plan: &Plan, focus: bool, instance: &Instance, h: u64) -> bool
+    requires proper { IsProper plan.now }
+    requires of { IsOf plan.now instance.now }
+    requires small { h ≤ 2 ^ 42 }
+    ensures { IsTrue result ↔ IsAble plan.now focus h instance.now }
+{
+    can_go_on(plan, focus, instance, h) && !has_lost(plan, instance, h)
+}
+
+/// Whether each event is bound and each window met at `h`.
+pub(crate) fn is_done(plan: &Plan, instance: &Instance, h: u64) -> bool
     requires proper { IsProper plan.now }
     requires small { h ≤ 2 ^ 42 }
-    ensures { IsOf plan.now instance.now → IsTrue result ↔ IsAble plan.now h instance.now }
+    ensures { IsTrue result ↔ IsDone plan.now h instance.now }
 {
-    instance.can_go_on(h) && !has_lost(plan, instance, h)
+    instance.is_whole() && are_met(plan, instance, h)
 }

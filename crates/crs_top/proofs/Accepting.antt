@@ -1,5 +1,5 @@
 -- What a refused line and an accepted event bring.
-use Rattle.std.proofs.Common.{◌≡◌, ◌≢◌, ◌<◌, ◌≤◌, ℕ, ◌+◌, true, false, cond, List, [], ◌++◌, length, nat_lt, nat_le, refl, sym, ap, subst}
+use Rattle.std.proofs.Common.{◌≡◌, ◌≢◌, ◌<◌, ◌≤◌, ℕ, ◌+◌, true, false, cond, List, [], length, nat_lt, nat_le, refl, sym, ap, subst}
 use Rattle.std.proofs.Common.{◌∙◌, arith, append-nil, lt-ltb, map, Bool, Result, Ok, Err}
 use Rattle.std.specs.Prelude.{OnOk, Some, None, if◌then◌else◌}
 use Rattle.std.proofs.lemmas.Bool.{le-ltb}
@@ -22,22 +22,28 @@ use Rattle.crs_top.specs.declared.session.Session.{Session}
 use Rattle.crs_top.specs.Session.{Represents, Brings, BringsAll}
 use Rattle.crs_top.specs.Tallies.{AllLive, with_refused}
 use Rattle.crs_top.specs.Texts.{Frame, setting_of, fault_of}
+use Rattle.crs_top.specs.Written.{Written, with_text}
 use Rattle.crs_top.proofs.States.{noted}
 use Rattle.crs_top.proofs.Results.{both_ok}
 use Rattle.crs_top.proofs.Grown.{accepted, view_stays}
 use Rattle.crs_top.proofs.Counting.{passed, counted_passed, counted_refused}
 
 -- a refused line is written, and changes nothing
-pub refused_brings : (f : Frame) (x : Session) (s : State) → Represents f x s → (n : ℕ) (fault : run.Fault) (after : State × Outcome) (new : Session) (out more : List ℕ)
-    → after ≡ (s, Refused fault) → new ≡ record x { counts = with_refused x.counts } → more ≡ out ++ refusal_line n (fault_of fault)
-    → Brings f x.counts new n (view_of s) after out more
+pub refused_brings : (f : Frame) (x : Session) (s : State) → Represents f x s → (n : ℕ) (fault : run.Fault) (after : State × Outcome) (new : Session) (out more : Written)
+    → after ≡ (s, Refused fault) → new ≡ record x { counts = with_refused x.counts } → more ≡ with_text out (refusal_line n (fault_of fault))
+    → Brings f x.engine.focus x.counts new n (view_of s) after out more
 refused_brings f x s r n fault after new out more is now written =
-    subst (λ (a : State × Outcome). Brings f x.counts new n (view_of s) a out more) (sym is)
-    (subst (λ (y : Session). Brings f x.counts y n (view_of s) (s, Refused fault) out more) (sym now) (record {
+    subst (λ (a : State × Outcome). Brings f x.engine.focus x.counts new n (view_of s) a out more) (sym is)
+    (subst (λ (y : Session). Brings f x.engine.focus x.counts y n (view_of s) (s, Refused fault) out more) (sym now) (record {
       state = noted f x s r;
+      same_focus = refl;
       text = refusal_line n (fault_of fault);
       says = refl;
-      written = written;
+      written = ap (λ (w : Written). w.text) written;
+      found = [];
+      notices = refl;
+      filled = tt;
+      added = ap (λ (w : Written). w.found) written ∙ sym (append-nil out.found);
       tally = record (passed r.peaked.0) { refused = 1 };
       tallied = ((refl, refl), r.peaked.1);
       counted = counted_refused x.counts r.peaked.0 r.peaked.2;
@@ -45,8 +51,8 @@ refused_brings f x s r n fault after new out more is now written =
 
 -- so where its text was written, and it was counted
 pub refuse_brings : {A E : Type 0} (result : Result A E) (x new : Session) (n : ℕ) (fault : run.Fault)
-    (after : Frame → State → State × Outcome) (out more : List ℕ)
-    → OnOk result (more ≡ out ++ refusal_line n (fault_of fault)) → OnOk result (new ≡ record x { counts = with_refused x.counts })
+    (after : Frame → State → State × Outcome) (out more : Written)
+    → OnOk result (more ≡ with_text out (refusal_line n (fault_of fault))) → OnOk result (new ≡ record x { counts = with_refused x.counts })
     → ((f : Frame) (s : State) → Represents f x s → after f s ≡ (s, Refused fault)) → OnOk result (BringsAll x new n after out more)
 refuse_brings result x new n fault after out more w m is = both_ok result _ _ (BringsAll x new n after out more) w m
     (λ w m f s r. refused_brings f x s r n fault (after f s) new out more (is f s r) m w)
@@ -62,14 +68,19 @@ full_is f x s r e full =
     λ i. cond (no i) named (s, Refused (run.Full (sym r.most_here i)))
 
 -- a line that is passed over changes nothing
-pub passed_brings : (f : Frame) (x : Session) (s : State) → Represents f x s → (n : ℕ) (after : State × Outcome) (out : List ℕ)
+pub passed_brings : (f : Frame) (x : Session) (s : State) → Represents f x s → (n : ℕ) (after : State × Outcome) (out : Written)
     → (s, Passed) ≡ after
-    → Brings f x.counts x n (view_of s) after out out
-passed_brings f x s r n after out is = subst (λ (a : State × Outcome). Brings f x.counts x n (view_of s) a out out) is (record {
+    → Brings f x.engine.focus x.counts x n (view_of s) after out out
+passed_brings f x s r n after out is = subst (λ (a : State × Outcome). Brings f x.engine.focus x.counts x n (view_of s) a out out) is (record {
   state = r;
+  same_focus = refl;
   text = [];
   says = refl;
-  written = sym (append-nil out);
+  written = sym (append-nil out.text);
+  found = [];
+  notices = refl;
+  filled = tt;
+  added = sym (append-nil out.found);
   tally = passed r.peaked.0;
   tallied = ((refl, refl), r.peaked.1);
   counted = counted_passed x.counts r.peaked.0 r.peaked.2;
@@ -131,23 +142,28 @@ module _ (f : Frame) (x : Session) (s : State) (r : Represents f x s) (e : Event
       λ i. cond (room_is i) (cond (big i) (with_entry s (entry_of_event (length s.accepted) e) e, Accepted (entry_of_event (length s.accepted) e)) (s, Refused (run.Values (lim i)))) (s, Refused (run.Full f.entries))
 
   -- the event is accepted
-  pub accept_brings : x.met ≡ true → x.engine.horizon ≤ e.date → (n : ℕ) (new : EngineState) (table : Table) (en : CodeEntry) (out : List ℕ)
+  pub accept_brings : x.met ≡ true → x.engine.horizon ≤ e.date → (n : ℕ) (new : EngineState) (table : Table) (en : CodeEntry) (out : Written)
       → HasAccepted x.engine new → new.stopped ≡ false → table.texts ≡ with_texts x.symbols.texts (texts_of e) → table.limit ≡ x.symbols.limit
       → length x.symbols.texts + length (new_texts x.symbols.texts (texts_of e)) ≤ x.symbols.limit
       → entry_seen table.texts en ≡ entry_of_event x.engine.accepted e → IsEntryIn table.texts en
       → StandsFor new r.entries.settled (put_in_order (entry_of en) r.entries.waiting)
-      → Brings f x.counts (record x { engine = new; symbols = table }) n (view_of s) (after_named (setting_of f) s e) out out
+      → Brings f x.engine.focus x.counts (record x { engine = new; symbols = table }) n (view_of s) (after_named (setting_of f) s e) out out
   accept_brings was_met due n new table en out a running texts limit fits seen known st =
       let small : nat_le (length s.texts + length (new_texts s.texts (texts_of e))) f.symbols ≡ true = grind (arith, new_is, r.models.limit) in
       let taken : State × Outcome = (with_entry s (entry_of_event (length s.accepted) e) e, Accepted (entry_of_event (length s.accepted) e)) in
       let is : taken ≡ after_named (setting_of f) s e =
       (λ i. cond (sym room_is i) (cond (sym small i) taken (s, Refused (run.Values f.symbols))) (s, Refused (run.Full f.entries))) in
-      subst (λ (b : State × Outcome). Brings f x.counts (record x { engine = new; symbols = table }) n (view_of s) b out out) is (record {
+      subst (λ (b : State × Outcome). Brings f x.engine.focus x.counts (record x { engine = new; symbols = table }) n (view_of s) b out out) is (record {
         state = accepted f x s r was_met has_room e due new table en a running texts limit seen known st;
+        same_focus = a.same_focus;
         text = [];
         says = refl;
-        written = sym (append-nil out);
+        written = sym (append-nil out.text);
+        found = [];
+        notices = refl;
+        filled = tt;
+        added = sym (append-nil out.found);
         tally = passed r.peaked.0;
-        tallied = ((refl, refl), subst (λ v. AllLive f.models.chronicles v r.peaked.0) (sym (view_stays f x s r e due)) r.peaked.1);
+        tallied = ((refl, refl), subst (λ v. AllLive x.engine.focus f.models.chronicles v r.peaked.0) (sym (view_stays f x s r e due)) r.peaked.1);
         counted = counted_passed x.counts r.peaked.0 r.peaked.2;
       })

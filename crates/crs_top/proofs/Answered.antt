@@ -4,7 +4,11 @@ use Rattle.std.proofs.Common.{length-append, inl, inr}
 use Rattle.std.specs.Prelude.{Some, IsSomeAnd, slice_get, option_map, flat_map}
 use Rattle.std.specs.Option.{option_map_or}
 use Rattle.std.specs.List.{AllByRecursion}
-use Rattle.std.proofs.lemmas.List.{length-map}
+use Rattle.std.proofs.lemmas.List.{length-map, map-append}
+use Rattle.std.specs.declared.rc.Rc.{Rc}
+use Rattle.std.proofs.Common.{Global}
+use Rattle.crs_base.specs.declared.entry.Entry.{Entry as CodeEntry}
+use Rattle.crs_base.specs.Seen.{entry_of}
 use Rattle.crs_base.specs.declared.symbols.Sym.{Sym}
 use Rattle.crs_base.specs.Entry.{Entry}
 use Rattle.crs_base.specs.Symbols.{AreDistinct}
@@ -18,8 +22,8 @@ use Rattle.crs_model.specs.declared.recognition.Recognition.{Recognition}
 use Rattle.crs_model.specs.Models.{EventDef}
 use Rattle.crs_model.specs.Open.{IsNew, IsRecognised}
 use Rattle.crs_model.specs.Plans.{chronicle, IsProper}
-use Rattle.crs_model.specs.Seen.{assignment_of, given}
-use Rattle.crs_model.specs.Renaming.{text_in, AreKnown, renamed_assignment, IsChronicleOf, IsEntryOf}
+use Rattle.crs_model.specs.Seen.{assignment_of, event_of, given}
+use Rattle.crs_model.specs.Renaming.{text_in, AreKnown, renamed_assignment, renamed_entry, IsChronicleOf, IsEntryOf}
 use Rattle.crs_model.proofs.RenamedAssignments.{known_values, new_renamed}
 use Rattle.crs_model.proofs.RenamedWindows.{HasNoStar, no_stars}
 use Rattle.crs_model.proofs.Options.{some_and}
@@ -28,8 +32,11 @@ use Rattle.crs_engine.specs.Marks.{ListsNew, ListsAllNew}
 use Rattle.crs_report.specs.Lines.{recognition_line}
 use Rattle.crs_report.specs.Printed.{chronicle_at, AreBound, IsPrintable, line_seen}
 use Rattle.crs_top.specs.Session.{HasText, chronicle_in, entries_in, line_in, ArePrintable}
+use Rattle.crs_report.specs.Listeners.{notice_of}
+use Rattle.crs_top.specs.Notices.{AreMarkNotices, notice_at}
 use Rattle.crs_top.specs.Tallies.{AllNew}
 use Rattle.crs_top.specs.Texts.{IsMarkText}
+use Rattle.crs_top.specs.Written.{HasEntry}
 
 flat_map_append : {A : Type 0} (f : A → List ℕ) (xs ys : List A) → flat_map f (xs ++ ys) ≡ flat_map f xs ++ flat_map f ys
 flat_map_append f [] ys = refl
@@ -75,6 +82,24 @@ module _ (texts : List (List ℕ)) (distinct : AreDistinct texts) where
         let line : line_in plans texts r ≡ recognition_line (chronicle_in texts p) mark (renamed_assignment (text_in texts) (assignment_of r)) =
         ap (λ o. option_map_or (line_seen texts r) o []) here ∙ ap (λ m. recognition_line (chronicle_in texts p) m (renamed_assignment (text_in texts) (assignment_of r))) h.0.mark in
         λ i. line i ++ lines_are plans number mark answer at h.1 i
+
+  -- what listeners are told of recognitions is told of their assignments
+  dates_are : (es : List (Rc CodeEntry Global))
+      → map (λ e. e.value.date) es ≡ map (λ e. e.date) (map (renamed_entry (text_in texts)) (map (λ e. entry_of e.value) es))
+  dates_are [] = refl
+  dates_are (e ∷ es) = ap (λ (ds : List ℕ). e.value.date ∷ ds) (dates_are es)
+
+  notices_are : (p : Plan) (number : ℕ) (mark : Mark) (answer : List Recognition) → AllByRecursion (IsRecognitionOf (chronicle p) number mark) answer
+      → map notice_of answer ≡ map (notice_at number) (map (renamed_assignment (text_in texts)) (map assignment_of answer))
+  notices_are p number mark [] each = refl
+  notices_are p number mark (r ∷ answer) each =
+      λ i. record { chronicle = each.0.chronicle i; dates = dates_are r.entries i } ∷ notices_are p number mark answer each.1 i
+
+  each_filled : (p : Plan) → IsProper p → (number : ℕ) (mark : Mark) (answer : List Recognition)
+      → AllByRecursion (IsRecognitionOf (chronicle p) number mark) answer → AllByRecursion HasEntry answer
+  each_filled p proper number mark [] each = tt
+  each_filled p proper number mark (r ∷ answer) each =
+      (omega (arith, each.0.entries, length-map p.chronicle.events event_of, proper.events_some), each_filled p proper number mark answer each.1)
 
   module _ (plans : Plans) (mark : Mark) (was now : List (Entry Sym)) (g h : ℕ)
       (known : AllByRecursion (IsEntryOf (HasText texts)) now) (known_was : AllByRecursion (IsEntryOf (HasText texts)) was) where
@@ -139,3 +164,27 @@ module _ (texts : List (List ℕ)) (distinct : AreDistinct texts) where
           ∙ ap (λ n. n + length l.1) (sym
           (length-map (map assignment_of l.0) (renamed_assignment (text_in texts)) ∙ length-map l.0 assignment_of)),
     )
+
+    -- what listeners are told of the answer
+    pub answer_notices : (ps : List Plan) (number : ℕ) (answer : List Recognition) → AllByRecursion IsProper ps
+        → AllByRecursion (λ p. IsChronicleOf (HasText texts) (chronicle p)) ps
+        → ListsAllNew ps number mark was g now h answer
+        → AreMarkNotices number (map (chronicle_in texts) ps) (record { settled = entries_in texts was; horizon = g })
+        (record { settled = entries_in texts now; horizon = h }) (map notice_of answer)
+    answer_notices [] number answer proper of l = ap (map notice_of) l
+    answer_notices (p ∷ ps) number answer proper of l = (
+      map (renamed_assignment (text_in texts)) (map assignment_of l.0),
+      map notice_of l.1,
+      new_renamed (text_in texts) (HasText texts) apart (chronicle p) of.0 proper.0.named
+          (stars_of p proper.0) now now was was h g known known known_was known_was (map assignment_of l.0) l.3.listed,
+      answer_notices ps (suc number) l.1 proper.1 of.1 l.4,
+      ap (map notice_of) l.2 ∙ map-append notice_of l.0 l.1
+          ∙ ap (λ ns. ns ++ map notice_of l.1) (notices_are p number mark l.0 l.3.each),
+    )
+
+    -- each recognition has an entry, since each chronicle has an event
+    pub all_filled : (ps : List Plan) (number : ℕ) (answer : List Recognition) → AllByRecursion IsProper ps
+        → ListsAllNew ps number mark was g now h answer → AllByRecursion HasEntry answer
+    all_filled [] number answer proper l = subst (AllByRecursion HasEntry) (sym l) tt
+    all_filled (p ∷ ps) number answer proper l = subst (AllByRecursion HasEntry) (sym l.2)
+        (all_append HasEntry l.0 l.1 (each_filled p proper.0 number mark l.0 l.3.each) (all_filled ps (suc number) l.1 proper.1 l.4))

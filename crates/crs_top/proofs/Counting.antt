@@ -92,28 +92,28 @@ peak_after peak n = by peak (capped n)
 
 -- ---- lines behind others
 
-pub tally_more : (f : Frame) (s : State) (gs : List Given) (g : Given) (t first : Tally) → IsGivenTally f s gs t
-    → IsLineTally f.models.chronicles (view_of (after_all (setting_of f) s gs))
+pub tally_more : (focus : Bool) (f : Frame) (s : State) (gs : List Given) (g : Given) (t first : Tally) → IsGivenTally focus f s gs t
+    → IsLineTally focus f.models.chronicles (view_of (after_all (setting_of f) s gs))
     (view_of (after_given (setting_of f) (after_all (setting_of f) s gs) g).0)
     (after_given (setting_of f) (after_all (setting_of f) s gs) g).1 first
-    → IsGivenTally f s (gs ++ g ∷ []) (together t first)
-tally_more f s [] g t first h k = (first, nothing, k, refl, ap (λ z. together z first) h ∙ none_together first ∙ sym (together_none first))
-tally_more f s (x ∷ gs) g t first h k = (
+    → IsGivenTally focus f s (gs ++ g ∷ []) (together t first)
+tally_more focus f s [] g t first h k = (first, nothing, k, refl, ap (λ z. together z first) h ∙ none_together first ∙ sym (together_none first))
+tally_more focus f s (x ∷ gs) g t first h k = (
   h.0,
   together h.1 first,
   h.2,
-  tally_more f (after_given (setting_of f) s x).0 gs g h.1 first h.3 k,
+  tally_more focus f (after_given (setting_of f) s x).0 gs g h.1 first h.3 k,
   ap (λ z. together z first) h.4 ∙ together_assoc h.0 h.1 first,
 )
 
-pub tally_append : (f : Frame) (s : State) (xs ys : List Given) (a b : Tally) → IsGivenTally f s xs a
-    → IsGivenTally f (after_all (setting_of f) s xs) ys b → IsGivenTally f s (xs ++ ys) (together a b)
-tally_append f s [] ys a b h k = subst (IsGivenTally f s ys) (sym (ap (λ z. together z b) h ∙ none_together b)) k
-tally_append f s (x ∷ xs) ys a b h k = (
+pub tally_append : (focus : Bool) (f : Frame) (s : State) (xs ys : List Given) (a b : Tally) → IsGivenTally focus f s xs a
+    → IsGivenTally focus f (after_all (setting_of f) s xs) ys b → IsGivenTally focus f s (xs ++ ys) (together a b)
+tally_append focus f s [] ys a b h k = subst (IsGivenTally focus f s ys) (sym (ap (λ z. together z b) h ∙ none_together b)) k
+tally_append focus f s (x ∷ xs) ys a b h k = (
   h.0,
   together h.1 b,
   h.2,
-  tally_append f (after_given (setting_of f) s x).0 xs ys h.1 b h.3 k,
+  tally_append focus f (after_given (setting_of f) s x).0 xs ys h.1 b h.3 k,
   ap (λ z. together z b) h.4 ∙ together_assoc h.0 h.1 b,
 )
 
@@ -129,11 +129,12 @@ line_some cs was now (run.Refused fault) r n h = ap (nat_lt 0) h.0
 line_some cs was now (run.Accepted entry) r n h = ap (nat_lt 0) h.0
 line_some cs was now (run.Marked mark) r n h = ap (nat_lt 0) h.0
 
-pub some_counted : (c : Setting) (cs : List (Chronicle (List ℕ))) (s : State) (ls : List Line) (t : Tally) → IsTallyFrom c cs s ls t
+pub some_counted : (focus : Bool) (c : Setting) (cs : List (Chronicle (List ℕ))) (s : State) (ls : List Line) (t : Tally)
+    → IsTallyFrom focus c cs s ls t
     → nat_lt 0 t.refused ≡ list_any is_refused (outcomes c s ls)
-some_counted c cs s [] t h = ap (λ (z : Tally). nat_lt 0 z.refused) h
-some_counted c cs s (l ∷ ls) t h =
+some_counted focus c cs s [] t h = ap (λ (z : Tally). nat_lt 0 z.refused) h
+some_counted focus c cs s (l ∷ ls) t h =
     let o = after_line c s l in
     ap (λ (z : Tally). nat_lt 0 z.refused) h.4
     ∙ or_some h.0.refused h.1.refused (is_refused o.1) (list_any is_refused (outcomes c o.0 ls))
-    (line_some cs (view_of s) (view_of o.0) o.1 h.0.refused h.0.recognitions h.2.0) (some_counted c cs o.0 ls h.1 h.3)
+    (line_some cs (view_of s) (view_of o.0) o.1 h.0.refused h.0.recognitions h.2.0) (some_counted focus c cs o.0 ls h.1 h.3)

@@ -21,7 +21,7 @@ use Rattle.crs_top.specs.Loads.{Refuses}
 use Rattle.crs_top.specs.Logs.{summary_of, ended_as, Says}
 use Rattle.crs_top.specs.Models.{IsAccepted}
 use Rattle.crs_top.specs.Run.{Most}
-use Rattle.crs_top.specs.Session.{IsUncounted, IsUnfocused}
+use Rattle.crs_top.specs.Session.{IsUncounted}
 use Rattle.crs_top.specs.Summing.{TakesLog, IsSummed, WritesSummary}
 use Rattle.crs_top.specs.Tallies.{IsSummary}
 use Rattle.crs_top.specs.Texts.{Frame, some_refused}
@@ -29,29 +29,30 @@ use Rattle.crs_top.proofs.Completes.{not_both}
 use Rattle.crs_top.proofs.Summing.{refused_by, begun_by, summary_is}
 
 -- the numbers of a session that took the whole log
-pub summed : (log : List ℕ) (x y : Session) (s : Summary) → IsUncounted x → TakesLog log x y → s ≡ summary_of y → IsUnfocused y.engine → IsSummed x log s
-summed log x y s u t e n f r =
+pub summed : (log : List ℕ) (x y : Session) (s : Summary) → IsUncounted x → TakesLog log x y → s ≡ summary_of y → IsSummed x log s
+summed log x y s u t e f r =
     let k = t f (at_start f.texts) r in
-    subst (IsSummary f log) (sym e) (summary_is f log x.counts (begun_by f x r u) y (given_lines 4096 0 (lines_of log)) k.0 refl k.1 n)
+    subst (IsSummary x.engine.focus f log) (sym e) (summary_is f log x.engine.focus x.counts (begun_by f x r u) y (given_lines 4096 0 (lines_of log)) k.0 refl k.1)
 
 -- the numbers of the whole log were written
-pub summed_up : (f : Frame) (limit : ℕ) (log : List ℕ) (old new : Told) (s : Summary) (status : Status) → length log < limit → IsSummary f log s
-    → WritesSummary s old status new → SumsUp f limit log old status new
-summed_up f limit log old new s status below h (inl k) = inl (
+pub summed_up : (focus : Bool) (f : Frame) (limit : ℕ) (log : List ℕ) (old new : Told) (s : Summary) (status : Status) → length log < limit
+    → IsSummary focus f log s
+    → WritesSummary s old status new → SumsUp focus f limit log old status new
+summed_up focus f limit log old new s status below h (inl k) = inl (
   below,
   (
     summary_line s,
     (s, h, refl),
-    subst (λ (b : Bool). Says (ended_as b) old (summary_line s) status new) (refused_by f log s h) k,
+    subst (λ (b : Bool). Says (ended_as b) old (summary_line s) status new) (refused_by focus f log s h) k,
   ),
 )
-summed_up f limit log old new s status below h (inr w) = inr (inr w)
+summed_up focus f limit log old new s status below h (inr w) = inr (inr w)
 
 -- the models of drills were refused
-pub drill_refused : (most : Most) (seed lines : ℕ) (old new : Told) (refused : ModelRefused) (status : Status)
-    → IsFaultyText most.symbols drill_models_text refused → Refuses old refused status new → Drills most seed lines old status new
-drill_refused most seed lines old new (At line word) status h r = inr (inl (model_line line word, (line, word, h, refl), r))
-drill_refused most seed lines old new NoMemory status h r = inr (inr r)
+pub drill_refused : (focus : Bool) (most : Most) (seed lines : ℕ) (old new : Told) (refused : ModelRefused) (status : Status)
+    → IsFaultyText most.symbols drill_models_text refused → Refuses old refused status new → Drills focus most seed lines old status new
+drill_refused focus most seed lines old new (At line word) status h r = inr (inl (model_line line word, (line, word, h, refl), r))
+drill_refused focus most seed lines old new NoMemory status h r = inr (inr r)
 
 -- a text is accepted as the models of one frame
 pub one_frame : (symbols entries : ℕ) (text : List ℕ) (f g : Frame) → IsAccepted symbols entries text f → IsAccepted symbols entries text g → f ≡ g
@@ -64,7 +65,8 @@ one_frame symbols entries text f g a b =
     let n : f.entries ≡ g.entries = a.entries_are ∙ sym b.entries_are in
     λ i. record { models = (pair i).0; texts = (pair i).1; symbols = s i; entries = n i }
 
-module _ (most : Most) (seed lines : ℕ) (old new : Told) (fault : Type 0) (status : Status) (wf : status ≡ WriteFault → fault) where
+module _ (focus : Bool) (most : Most) (seed lines : ℕ) (old new : Told) (fault : Type 0) (status : Status)
+    (wf : status ≡ WriteFault → fault) where
   abbrev log : List ℕ
   log = drill_text seed lines
 
@@ -72,7 +74,7 @@ module _ (most : Most) (seed lines : ℕ) (old new : Told) (fault : Type 0) (sta
   said due text (inl s) n = inl s.0
   said due text (inr s) n = elim s.0 [ inl e ↦ absurd (n (wf e)) | inr e ↦ inr e ]
 
-  completes_sum : (g : Frame) → IsAccepted most.symbols most.entries drill_models_text g → SumsUp g most.bytes log old status new
+  completes_sum : (g : Frame) → IsAccepted most.symbols most.entries drill_models_text g → SumsUp focus g most.bytes log old status new
       → CompletesDrill most seed lines fault status
   completes_sum g b (inl k) = record {
     accepted = λ f a l n. said (ended_as (some_refused f log)) k.1.0
@@ -87,7 +89,7 @@ module _ (most : Most) (seed lines : ℕ) (old new : Told) (fault : Type 0) (sta
   }
   completes_sum g b (inr (inr w)) = record { accepted = λ f a l n. inr w.0; too_long = λ f a l n. inr w.0; refused = λ line word h n. inr w.0 }
 
-  pub completes_drill : Drills most seed lines old status new → CompletesDrill most seed lines fault status
+  pub completes_drill : Drills focus most seed lines old status new → CompletesDrill most seed lines fault status
   completes_drill (inl h) = completes_sum h.0 h.1 h.2
   completes_drill (inr (inl h)) = record {
     accepted = λ f a l n. absurd (not_both most.symbols most.entries drill_models_text f h.1.0 h.1.1 a h.1.2);

@@ -212,5 +212,7 @@ accepted f x s r was_met room e due new table en a running texts limit seen know
       most_here = r.most_here;
       met = r.met;
       ended = r.ended;
-      peaked = subst (λ v. IsPeaked f.models.chronicles v x.counts.peak) (sym (view_stays f x s r e due)) r.peaked;
+      peaked = subst (λ (b : Bool). IsPeaked b f.models.chronicles (view_of (with_entry s (entry_of_event (length s.accepted) e) e)) x.counts.peak)
+          (sym a.same_focus)
+          (subst (λ v. IsPeaked x.engine.focus f.models.chronicles v x.counts.peak) (sym (view_stays f x s r e due)) r.peaked);
     }

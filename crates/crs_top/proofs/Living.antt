@@ -1,6 +1,6 @@
 -- What an engine holds is what lives.
-use Rattle.std.proofs.Common.{◌≡◌, ◌<◌, ◌∙◌, ◌+◌, ℕ, arith, zero-add, Bool, false, List, [], ◌∷◌, map, length, refl, sym, ap, subst}
-use Rattle.std.specs.Prelude.{sum, fold}
+use Rattle.std.proofs.Common.{◌≡◌, ◌<◌, ◌∙◌, ◌+◌, ℕ, arith, zero-add, Bool, List, [], ◌∷◌, map, length, refl, sym, ap, subst}
+use Rattle.std.specs.Prelude.{sum, fold, slice_index_or, if◌then◌else◌}
 use Rattle.std.specs.List.{AllByRecursion, AllZip}
 use Rattle.std.proofs.lemmas.List.{length-map}
 use Rattle.crs_base.specs.declared.symbols.Sym.{Sym}
@@ -8,13 +8,13 @@ use Rattle.crs_base.specs.Entry.{Entry}
 use Rattle.crs_base.specs.Symbols.{Table, AreDistinct}
 use Rattle.crs_base.proofs.Words.{in_from_each}
 use Rattle.crs_model.specs.declared.plan.Plan.{Plan}
-use Rattle.crs_model.specs.Models.{Chronicle}
+use Rattle.crs_model.specs.Models.{Chronicle, EventDef}
 use Rattle.crs_model.specs.Partial.{Partial}
 use Rattle.crs_model.specs.Levels.{level_in}
 use Rattle.crs_model.specs.Open.{IsLive, IsRecognisedWhole, StandsFor as Keeps, before}
 use Rattle.crs_model.specs.Order.{AreAll}
 use Rattle.crs_model.specs.Plans.{chronicle, IsProper}
-use Rattle.crs_model.specs.Renaming.{text_in, IsChronicleOf, IsEntryOf}
+use Rattle.crs_model.specs.Renaming.{text_in, renamed_event, IsChronicleOf, IsEntryOf}
 use Rattle.crs_model.proofs.Marks.{before_all}
 use Rattle.crs_model.proofs.RenamedLive.{live_renamed}
 use Rattle.crs_model.proofs.RenamedWindows.{renamed_partial}
@@ -22,7 +22,7 @@ use Rattle.crs_store.specs.Stores.{StoreState, parts}
 use Rattle.crs_engine.specs.Engines.{EngineState, IsStoreAt, plans_of}
 use Rattle.crs_log.specs.Recognitions.{View, view_of}
 use Rattle.crs_log.specs.Run.{State}
-use Rattle.crs_top.specs.Session.{HasText, chronicle_in, entries_in, HasModels, HasEntries, IsUnfocused}
+use Rattle.crs_top.specs.Session.{HasText, chronicle_in, entries_in, HasModels, HasEntries}
 use Rattle.crs_top.specs.Tallies.{AreLive, AllLive}
 use Rattle.crs_top.specs.Texts.{Frame}
 use Rattle.crs_top.proofs.Answered.{apart, stars_of}
@@ -36,6 +36,15 @@ kept_live c level held settled h is k = record {
   each = λ a i. let l = k.each a i in (l.0, subst (λ es. IsRecognisedWhole c settled es h a → ⊥) is l.1);
   all = λ a l. k.all a (l.0, subst (λ es. IsRecognisedWhole c settled es h a → ⊥) (sym is) l.1);
 }
+
+-- events keep their levels with other symbols
+levels_kept : (f : Sym → List ℕ) (events : List (EventDef Sym)) → map (λ v. v.level) (map (renamed_event f) events) ≡ map (λ v. v.level) events
+levels_kept f [] = refl
+levels_kept f (v ∷ vs) = ap (λ (levels : List ℕ). v.level ∷ levels) (levels_kept f vs)
+
+same_levels : (f : Sym → List ℕ) (events : List (EventDef Sym)) (focus : Bool)
+    → level_in (map (renamed_event f) events) focus ≡ level_in events focus
+same_levels f events focus = λ i e. if focus then slice_index_or (levels_kept f events i) e 0 else 0
 
 fold_from : (m : ℕ) (ns : List ℕ) → fold (λ a b. a + b) m ns ≡ m + fold (λ a b. a + b) 0 ns
 fold_from m [] = omega arith
@@ -53,37 +62,38 @@ module _ (texts : List (List ℕ)) (distinct : AreDistinct texts) (settled : Lis
   now = record { settled = entries_in texts settled; horizon = h }
 
   -- a store of the plan holds the live ones
-  store_live : (p : Plan) (s : StoreState) → IsProper p → IsChronicleOf (HasText texts) (chronicle p) → s.focus ≡ false
-      → IsStoreAt settled h p s → AreLive (chronicle_in texts p) now (length s.held)
-  store_live p s proper of unfocused at =
+  store_live : (focus : Bool) (p : Plan) (s : StoreState) → IsProper p → IsChronicleOf (HasText texts) (chronicle p)
+      → IsStoreAt focus settled h p s → AreLive focus (chronicle_in texts p) now (length s.held)
+  store_live focus p s proper of at =
       let c = chronicle p in
       let one : Keeps c (level_in c.events s.focus) (parts s.held) settled settled settled h h =
       subst (λ (q : Plan). Keeps (chronicle q) (level_in (chronicle q).events s.focus)
-      (parts s.held) settled settled settled h h) at.0 (at.1).stands in
-      let two : Keeps c (level_in c.events false) (parts s.held) settled settled settled h h =
-      subst (λ (b : Bool). Keeps c (level_in c.events b) (parts s.held) settled settled settled h h) unfocused one in
+      (parts s.held) settled settled settled h h) at.plan (at.stands).stands in
+      let two : Keeps c (level_in c.events focus) (parts s.held) settled settled settled h h =
+      subst (λ (b : Bool). Keeps c (level_in c.events b) (parts s.held) settled settled settled h h) at.focus_is one in
       let all = before_all h settled (λ e i. in_from_each (λ (x : Entry Sym). x.date < h) settled dated e i) in
-      let live = kept_live c (level_in c.events false) (parts s.held) settled h all two in
+      let live = kept_live c (level_in c.events focus) (parts s.held) settled h all two in
       let there = live_renamed (text_in texts) (HasText texts) (apart texts distinct) c of proper.named (stars_of texts distinct p proper)
-      settled known (level_in c.events false) settled known h (parts s.held) live in (
+      settled known (level_in c.events focus) settled known h (parts s.held) live in
+      let read = subst (λ (level : ℕ → ℕ). AreAll (IsLive (chronicle_in texts p) level now.settled now.settled h)
+      (map (renamed_partial (text_in texts)) (parts s.held))) (sym (same_levels (text_in texts) c.events focus)) there in (
         map (renamed_partial (text_in texts)) (parts s.held),
-        there,
+        read,
         sym (length-map (parts s.held) (renamed_partial (text_in texts)) ∙ length-map s.held (λ i. i.partial)),
       )
 
   -- the stores of all plans hold those of all chronicles
-  pub stores_live : (ps : List Plan) (ss : List StoreState) → AllByRecursion IsProper ps
-      → AllByRecursion (λ p. IsChronicleOf (HasText texts) (chronicle p)) ps
-      → AllByRecursion (λ s. s.focus ≡ false) ss → AllZip (IsStoreAt settled h) ps ss
-      → AllLive (map (chronicle_in texts) ps) now (sum (map (λ s. length s.held) ss))
-  stores_live [] [] proper of unfocused at = refl
-  stores_live [] (s ∷ ss) proper of unfocused at = absurd at
-  stores_live (p ∷ ps) [] proper of unfocused at = absurd at
-  stores_live (p ∷ ps) (s ∷ ss) proper of unfocused at = (
+  pub stores_live : (focus : Bool) (ps : List Plan) (ss : List StoreState) → AllByRecursion IsProper ps
+      → AllByRecursion (λ p. IsChronicleOf (HasText texts) (chronicle p)) ps → AllZip (IsStoreAt focus settled h) ps ss
+      → AllLive focus (map (chronicle_in texts) ps) now (sum (map (λ s. length s.held) ss))
+  stores_live focus [] [] proper of at = refl
+  stores_live focus [] (s ∷ ss) proper of at = absurd at
+  stores_live focus (p ∷ ps) [] proper of at = absurd at
+  stores_live focus (p ∷ ps) (s ∷ ss) proper of at = (
     length s.held,
     sum (map (λ s. length s.held) ss),
-    (store_live p s proper.0 of.0 unfocused.0 at.0),
-    stores_live ps ss proper.1 of.1 unfocused.1 at.1,
+    (store_live focus p s proper.0 of.0 at.0),
+    stores_live focus ps ss proper.1 of.1 at.1,
     (sum_more (length s.held) (map (λ s. length s.held) ss)),
   )
 
@@ -93,13 +103,13 @@ held_by e = sum (map (λ s. length s.held) e.stores)
 
 -- what the engine of a session holds lives in the state that it stands for
 pub held_live : (f : Frame) (e : EngineState) (table : Table) (s : State) → HasModels f e.plans table → HasEntries e table.texts s.accepted
-    → s.horizon ≡ e.horizon → IsUnfocused e → AllLive f.models.chronicles (view_of s) (held_by e)
-held_live f e table s m n horizon unfocused =
+    → s.horizon ≡ e.horizon → AllLive e.focus f.models.chronicles (view_of s) (held_by e)
+held_live f e table s m n horizon =
     let settled = settled_now e table.texts s.accepted n s.horizon horizon in
     let there = stores_live table.texts m.distinct n.settled e.horizon (known_settled e table.texts s.accepted n) n.stands.settled_before
-    (plans_of e.plans) e.stores m.proper m.chronicles_in unfocused n.stands.stores in
+    e.focus (plans_of e.plans) e.stores m.proper m.chronicles_in n.stands.stores in
     let view : record { settled = entries_in table.texts n.settled; horizon = e.horizon } ≡ view_of s =
     (λ i. record { settled = settled i; horizon = sym horizon i }) in
-    subst (λ (v : View). AllLive f.models.chronicles v (held_by e)) view
-    (subst (λ (cs : List (Chronicle (List ℕ))). AllLive cs (record { settled = entries_in table.texts n.settled; horizon = e.horizon })
+    subst (λ (v : View). AllLive e.focus f.models.chronicles v (held_by e)) view
+    (subst (λ (cs : List (Chronicle (List ℕ))). AllLive e.focus cs (record { settled = entries_in table.texts n.settled; horizon = e.horizon })
     (held_by e)) (sym m.chronicles) there)

@@ -1,5 +1,5 @@
 -- What an accepted `clock` and an accepted `end` bring.
-use Rattle.std.proofs.Common.{◌≡◌, ◌<◌, ◌≤◌, ◌^◌, ◌-◌, ℕ, Bool, true, false, cond, List, ◌++◌, length, nat_lt, refl, sym, ap, subst, ◌∙◌}
+use Rattle.std.proofs.Common.{◌≡◌, ◌<◌, ◌≤◌, ◌^◌, ◌-◌, ℕ, Bool, true, false, cond, List, length, nat_lt, refl, sym, ap, subst, ◌∙◌}
 use Rattle.std.proofs.Common.{arith, Ok, Err, true≢false}
 use Rattle.std.specs.Prelude.{Some, None, IsSome, OnOk, Result, flat_map, IsTrue, ◌↔◌, ◌⊎◌}
 use Rattle.std.proofs.Common.{inl, inr}
@@ -19,15 +19,16 @@ use Rattle.crs_log.specs.Run as run
 use Rattle.crs_log.specs.Run.{State, Outcome, Marked, after_ordered, horizon_at, end_date}
 use Rattle.crs_log.specs.Recognitions.{view_of}
 use Rattle.crs_top.specs.declared.session.Session.{Session}
-use Rattle.crs_top.specs.Session.{IsReached, IsUnfocused, Represents, Brings, BringsAll, line_in}
+use Rattle.crs_top.specs.Session.{IsReached, Represents, Brings, BringsAll, line_in}
 use Rattle.crs_top.specs.declared.session.Counts.{Counts}
 use Rattle.crs_top.specs.Tallies.{AllLive, with_mark, with_refused}
 use Rattle.crs_top.specs.Texts.{Frame, setting_of, fault_of}
+use Rattle.crs_top.specs.Written.{Written, with_text, with_answer}
 use Rattle.crs_report.specs.Lines.{refusal_line}
 use Rattle.crs_top.proofs.Accepting.{refuse_brings}
 use Rattle.crs_top.proofs.Counting.{passed, counted_mark, peak_after}
 use Rattle.crs_top.proofs.Living.{held_by, held_live}
-use Rattle.crs_top.proofs.States.{mark_text, mark_new, models_then, entries_then, marked}
+use Rattle.crs_top.proofs.States.{mark_text, mark_new, mark_notices, answer_filled, models_then, entries_then, marked}
 
 fine_by : {A : Type 0} (stopped early : Bool) (full back : Refused) (answer : A) → stopped ≡ false
     → IsRefusedAs (if stopped then Some full else (if early then Some back else None)) (Ok answer) → early ≡ false
@@ -73,27 +74,27 @@ module _ (f : Frame) (x : Session) (s : State) (r : Represents f x s) (new : Eng
   end_rises open_ = let h = r.reached.open_horizon (r.ended ∙ open_) in let l = r.reached.open_last (r.ended ∙ open_) in omega (arith, r.horizon)
 
 module _ (f : Frame) (x : Session) (s : State) (r : Represents f x s) (new : EngineState) (answer : List Recognition) (met : x.met ≡ true)
-    (going : new.stopped ≡ false) (unfocused : IsUnfocused new) where
+    (going : new.stopped ≡ false) where
   -- what is held after the mark lives then
   mark_live : (mark : Mark) (t h : ℕ) (ended : Bool) → HasMoved x.engine new t h → x.engine.horizon ≤ h
       → AfterMark x.engine new mark r.entries.settled r.entries.waiting answer
-      → AllLive f.models.chronicles (view_of (record s { last = t; horizon = h; ended = ended })) (held_by new)
+      → AllLive new.focus f.models.chronicles (view_of (record s { last = t; horizon = h; ended = ended })) (held_by new)
   mark_live mark t h ended m rises after =
       let moved = moved_forward x.engine new t h m rises in
       held_live f new x.symbols (record s { last = t; horizon = h; ended = ended })
       (models_then f x s r new mark answer h m.same_plans moved rises after)
-      (entries_then f x s r new mark answer h m.same_plans moved rises after) (sym moved) unfocused
+      (entries_then f x s r new mark answer h m.same_plans moved rises after) (sym moved)
 
   abbrev counts_then : Counts
   counts_then = with_mark x.counts (length answer) (kept_of new)
 
   -- a mark brings its recognitions, and what is held is counted
-  mark_brings : (mark : Mark) (t h : ℕ) (here there : Bool) (n : ℕ) (out more : List ℕ) → there ≡ here → HasMoved x.engine new t h
+  mark_brings : (mark : Mark) (t h : ℕ) (here there : Bool) (n : ℕ) (out more : Written) → there ≡ here → HasMoved x.engine new t h
       → x.engine.horizon ≤ h
       → AfterMark x.engine new mark r.entries.settled r.entries.waiting answer
       → IsReached (record s { last = t; horizon = h; ended = there })
-      → more ≡ out ++ flat_map (line_in new.plans x.symbols.texts) answer
-      → Brings f x.counts (record x { engine = new; ended = here; counts = counts_then }) n (view_of s)
+      → more ≡ with_answer out (flat_map (line_in new.plans x.symbols.texts) answer) answer
+      → Brings f x.engine.focus x.counts (record x { engine = new; ended = here; counts = counts_then }) n (view_of s)
       (record s { last = t; horizon = h; ended = there }, Marked mark) out more
   mark_brings mark t h here there n out more same m rises after reached written =
       let moved = moved_forward x.engine new t h m rises in
@@ -101,43 +102,51 @@ module _ (f : Frame) (x : Session) (s : State) (r : Represents f x s) (new : Eng
       record {
         state = marked f x s r new mark answer h m.same_plans moved rises after t here there counts_then same m going reached
             (held_by new, live, peak_after x.counts.peak (held_by new));
+        same_focus = m.same_focus;
         text = flat_map (line_in new.plans x.symbols.texts) answer;
         says = mark_text f x s r new mark answer h m.same_plans moved rises after;
-        written = written;
+        written = ap (λ (w : Written). w.text) written;
+        found = answer;
+        notices = mark_notices f x s r new mark answer h m.same_plans moved rises after;
+        filled = answer_filled f x s r new mark answer h m.same_plans moved rises after;
+        added = ap (λ (w : Written). w.found) written;
         tally = record (passed (held_by new)) { recognitions = length answer };
-        tallied = ((refl, mark_new f x s r new mark answer h m.same_plans moved rises after), live);
+        tallied = (
+          (refl, mark_new f x s r new mark answer h m.same_plans moved rises after),
+          subst (λ (b : Bool). AllLive b f.models.chronicles (view_of (record s { last = t; horizon = h; ended = there })) (held_by new)) m.same_focus live,
+        );
         counted = counted_mark x.counts (length answer) (held_by new);
       }
 
   -- a clock brings its mark
-  pub clock_brings : (t n : ℕ) (out more : List ℕ) → x.ended ≡ false → t < 2 ^ 40 → nat_lt t x.engine.last ≡ false → HasMoved x.engine new t (t - x.engine.delay)
-      → AfterMark x.engine new (Clock t) r.entries.settled r.entries.waiting answer → more ≡ out ++ flat_map (line_in new.plans x.symbols.texts) answer
-      → Brings f x.counts (record x { engine = new; counts = counts_then }) n (view_of s)
+  pub clock_brings : (t n : ℕ) (out more : Written) → x.ended ≡ false → t < 2 ^ 40 → nat_lt t x.engine.last ≡ false → HasMoved x.engine new t (t - x.engine.delay)
+      → AfterMark x.engine new (Clock t) r.entries.settled r.entries.waiting answer → more ≡ with_answer out (flat_map (line_in new.plans x.symbols.texts) answer) answer
+      → Brings f x.engine.focus x.counts (record x { engine = new; counts = counts_then }) n (view_of s)
       (after_ordered (setting_of f) s (items.Clock t)) out more
   clock_brings t n out more open_ small fine m after written =
       let m' : HasMoved x.engine new t (t - s.delay) = subst (λ (d : ℕ). HasMoved x.engine new t (t - d)) (sym r.delay) m in
       let now : State = record s { last = t; horizon = t - s.delay } in
       let is : (now, Marked (Clock t)) ≡ after_ordered (setting_of f) s (items.Clock t) =
       (λ i. cond (sym (ap (nat_lt t) r.last ∙ fine) i) (s, run.Refused (run.Back t s.last)) (now, Marked (Clock t))) in
-      subst (λ (a : State × Outcome). Brings f x.counts (record x { engine = new; counts = counts_then }) n (view_of s) a out more) is
+      subst (λ (a : State × Outcome). Brings f x.engine.focus x.counts (record x { engine = new; counts = counts_then }) n (view_of s) a out more) is
       (mark_brings (Clock t) t (t - s.delay) x.ended s.ended n out more r.ended m'
       (clock_rises f x s r new answer met going t open_ fine) after
       (reached_met f x s r new answer met going t (t - s.delay) s.ended (λ q. refl) (λ q. small)) written)
 
   -- an end brings its mark
-  pub end_brings : (n : ℕ) (out more : List ℕ) → x.ended ≡ false → HasMoved x.engine new (2 ^ 42) (2 ^ 42)
-      → AfterMark x.engine new Finish r.entries.settled r.entries.waiting answer → more ≡ out ++ flat_map (line_in new.plans x.symbols.texts) answer
-      → Brings f x.counts (record x { engine = new; ended = true; counts = counts_then }) n (view_of s)
+  pub end_brings : (n : ℕ) (out more : Written) → x.ended ≡ false → HasMoved x.engine new (2 ^ 42) (2 ^ 42)
+      → AfterMark x.engine new Finish r.entries.settled r.entries.waiting answer → more ≡ with_answer out (flat_map (line_in new.plans x.symbols.texts) answer) answer
+      → Brings f x.engine.focus x.counts (record x { engine = new; ended = true; counts = counts_then }) n (view_of s)
       (after_ordered (setting_of f) s items.Finish) out more
   end_brings n out more open_ m after written =
       mark_brings Finish (2 ^ 42) (2 ^ 42) true true n out more refl m (end_rises f x s r new answer met going open_) after
       (reached_met f x s r new answer met going (2 ^ 42) (2 ^ 42) true (λ q. absurd (true≢false q)) (λ q. absurd (true≢false q))) written
 
 -- a clock before the last is refused
-pub back_brings : {A E : Type 0} (result : Result A E) (x : Session) (e : EngineState) (y : Session) (t n a b : ℕ) (out more : List ℕ)
+pub back_brings : {A E : Type 0} (result : Result A E) (x : Session) (e : EngineState) (y : Session) (t n a b : ℕ) (out more : Written)
     → x.engine.stopped ≡ false → IsRefusedAs {A = List Recognition} (clock_refusal x.engine t) (Err (Back a b))
     → (IsSome (clock_refusal x.engine t) → e ≡ x.engine)
-    → OnOk result (more ≡ out ++ refusal_line n (fault_of (run.Back a b)))
+    → OnOk result (more ≡ with_text out (refusal_line n (fault_of (run.Back a b))))
     → OnOk result (y ≡ record x { engine = e; counts = with_refused x.counts })
     → OnOk result (BringsAll x y n (λ f s. after_ordered (setting_of f) s (items.Clock t)) out more)
 back_brings result x e y t n a b out more running refused same written counted =

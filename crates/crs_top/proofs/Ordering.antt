@@ -16,6 +16,7 @@ use Rattle.crs_log.specs.Recognitions.{view_of}
 use Rattle.crs_top.specs.declared.session.Session.{Session}
 use Rattle.crs_top.specs.Session.{Represents, Brings, IsUnused, ordered_what, is_blank_what, is_delay_what}
 use Rattle.crs_top.specs.Texts.{Frame, setting_of}
+use Rattle.crs_top.specs.Written.{Written}
 use Rattle.crs_top.proofs.States.{delayed}
 use Rattle.crs_top.proofs.Counting.{passed, counted_passed}
 
@@ -38,14 +39,19 @@ unused f x s r h =
     let k = r.reached.fresh (r.met ∙ h) in
     record { none = sym r.count ∙ ap length k.0; start = sym r.last ∙ k.1; horizon = sym r.horizon ∙ k.2 }
 
-pub delay_brings : (f : Frame) (x : Session) (s : State) (d n : ℕ) (out : List ℕ) → IsUnused x.engine → Represents f x s
-    → Brings f x.counts (record x { engine = record x.engine { delay = d } }) n (view_of s)
+pub delay_brings : (f : Frame) (x : Session) (s : State) (d n : ℕ) (out : Written) → IsUnused x.engine → Represents f x s
+    → Brings f x.engine.focus x.counts (record x { engine = record x.engine { delay = d } }) n (view_of s)
     (ordered_what (setting_of f) s (Is (Delay d))) out out
 delay_brings f x s d n out u r = record {
   state = delayed f x s d u r;
+  same_focus = refl;
   text = [];
   says = refl;
-  written = sym (append-nil out);
+  written = sym (append-nil out.text);
+  found = [];
+  notices = refl;
+  filled = tt;
+  added = sym (append-nil out.found);
   tally = passed r.peaked.0;
   tallied = ((refl, refl), r.peaked.1);
   counted = counted_passed x.counts r.peaked.0 r.peaked.2;

@@ -22,7 +22,7 @@ use Rattle.crs_log.specs.SeenNames.{name_seen, AreNamesIn}
 use Rattle.crs_parse.specs.Meant.{models_read}
 use Rattle.crs_compile.specs.Compiled.{chronicles_in, ClosesFirst, IsRefusal}
 use Rattle.crs_engine.specs.Engines.{EngineState, StandsFor, plans_of, kept_of}
-use Rattle.crs_top.specs.Session.{HasText, chronicle_in, HasModels, HasEntries, Represents, IsUnfocused}
+use Rattle.crs_top.specs.Session.{HasText, chronicle_in, HasModels, HasEntries, Represents}
 use Rattle.crs_top.proofs.Living.{held_by, held_live}
 use Rattle.crs_top.specs.Models.{IsAccepted, ClosesInconsistent}
 use Rattle.crs_top.specs.Prepared.{AreReadIn}
@@ -126,9 +126,10 @@ module _ (symbols entries : ℕ) (text : List ℕ) (m : CodeModels) (table : Tab
   }
 
   -- the session at the start
-  pub represented : (e : EngineState) (peak : ℕ) → peak ≡ kept_of e → e.plans ≡ plans → e.delay ≡ 0 → e.last ≡ 0 → e.horizon ≡ 0 → e.accepted ≡ 0 → e.limit ≡ entries → e.stopped ≡ false → IsUnfocused e → StandsFor e [] []
+  pub represented : (e : EngineState) (peak : ℕ) → peak ≡ kept_of e → e.plans ≡ plans → e.delay ≡ 0 → e.last ≡ 0 → e.horizon ≡ 0
+      → e.accepted ≡ 0 → e.limit ≡ entries → e.stopped ≡ false → StandsFor e [] []
       → Represents frame (record { engine = e; symbols = table; entries = entries; met = false; ended = false; counts = record { refused = 0; recognitions = 0; peak = peak } }) (at_start table.texts)
-  represented e peak is_kept p delay last horizon count most running unfocused stands = record {
+  represented e peak is_kept p delay last horizon count most running stands = record {
     models = has_models_by e p;
     entries = no_entries e stands;
     reached = record { fresh = λ _. (refl, refl, refl); open_horizon = λ _. omega arith; open_last = λ _. omega arith };
@@ -145,7 +146,7 @@ module _ (symbols entries : ℕ) (text : List ℕ) (m : CodeModels) (table : Tab
     ended = refl;
     peaked = (
       held_by e,
-      held_live frame e table (at_start table.texts) (has_models_by e p) (no_entries e stands) (sym horizon) unfocused,
+      held_live frame e table (at_start table.texts) (has_models_by e p) (no_entries e stands) (sym horizon),
       subst (λ k. kept_of e ≤ k) (sym is_kept) (let k : kept_of e ≤ kept_of e = omega arith in k),
     );
   }

@@ -30,8 +30,11 @@ use Rattle.crs_top.specs.Session.{HasText, chronicle_in, entries_in, HasModels, 
 use Rattle.crs_top.specs.Session.{ArePrintable}
 use Rattle.crs_top.specs.declared.session.Counts.{Counts}
 use Rattle.crs_top.specs.Tallies.{AllNew, IsPeaked, with_refused}
+use Rattle.crs_report.specs.Listeners.{notice_of}
+use Rattle.crs_top.specs.Notices.{AreMarkNotices}
 use Rattle.crs_top.specs.Texts.{Frame, LogEntry, IsMarkText}
-use Rattle.crs_top.proofs.Answered.{all_printable, answer_text, answer_new}
+use Rattle.crs_top.specs.Written.{HasEntry}
+use Rattle.crs_top.proofs.Answered.{all_printable, answer_text, answer_new, answer_notices, all_filled}
 
 -- a refused line is noted
 pub noted : (f : Frame) (x : Session) (s : State) → Represents f x s → Represents f (record x { counts = with_refused x.counts }) s
@@ -213,6 +216,19 @@ module _ (f : Frame) (x : Session) (s : State) (r : Represents f x s) (new : Eng
       (known_then x.engine x.symbols.texts s.accepted r.entries new.horizon) (known_settled x.engine x.symbols.texts s.accepted r.entries)
       (plans_of x.engine.plans) 0 answer r.models.proper r.models.chronicles_in after.answers)
 
+  -- what listeners are told of it, in which each recognition has an entry
+  pub mark_notices : AreMarkNotices 0 f.models.chronicles (view_of s) (view (dated_before h s.accepted) h) (map notice_of answer)
+  mark_notices = with_views (λ cs was then. AreMarkNotices 0 cs was then (map notice_of answer))
+      (answer_notices x.symbols.texts r.models.distinct x.engine.plans mark r.entries.settled now x.engine.horizon new.horizon
+      (known_then x.engine x.symbols.texts s.accepted r.entries new.horizon) (known_settled x.engine x.symbols.texts s.accepted r.entries)
+      (plans_of x.engine.plans) 0 answer r.models.proper r.models.chronicles_in after.answers)
+
+  pub answer_filled : AllByRecursion HasEntry answer
+  answer_filled =
+      all_filled x.symbols.texts r.models.distinct x.engine.plans mark r.entries.settled now x.engine.horizon new.horizon
+      (known_then x.engine x.symbols.texts s.accepted r.entries new.horizon) (known_settled x.engine x.symbols.texts s.accepted r.entries)
+      (plans_of x.engine.plans) 0 answer r.models.proper after.answers
+
   -- the models and the entries after the mark
   pub models_then : HasModels f new.plans x.symbols
   models_then = subst (λ (p : Plans). HasModels f p x.symbols) (sym kept) r.models
@@ -223,7 +239,7 @@ module _ (f : Frame) (x : Session) (s : State) (r : Represents f x s) (new : Eng
   -- the session stands for the state after the mark
   pub marked : (t : ℕ) (here there : Bool) (counts : Counts) → there ≡ here → HasMoved x.engine new t h → new.stopped ≡ false
       → IsReached (record s { last = t; horizon = h; ended = there })
-      → IsPeaked f.models.chronicles (view (dated_before h s.accepted) h) counts.peak
+      → IsPeaked new.focus f.models.chronicles (view (dated_before h s.accepted) h) counts.peak
       → Represents f (record x { engine = new; ended = here; counts = counts }) (record s { last = t; horizon = h; ended = there })
   marked t here there counts same m running reached peaked = record {
     models = models_then;

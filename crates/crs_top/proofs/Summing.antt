@@ -1,6 +1,6 @@
 -- Lines that were given, and the numbers of a log whose lines were all taken.
-use Rattle.std.proofs.Common.{◌≡◌, ◌∙◌, ap, sym, refl, subst, ℕ, ◌+◌, nat_lt, zero-add, false, List, [], ◌++◌, length, append-nil}
-use Rattle.std.proofs.Common.{append_assoc, length-append}
+use Rattle.std.proofs.Common.{◌≡◌, ◌∙◌, ap, sym, refl, subst, ℕ, ◌+◌, nat_lt, zero-add, Bool, false, List, [], ◌++◌, length, append-nil}
+use Rattle.std.proofs.Common.{append_assoc, length-append, map}
 use Rattle.crs_base.specs.Lines.{lines_of}
 use Rattle.crs_log.specs.Reading.{Reader, Given, HasGiven, HasNoLine, given, given_lines, ahead}
 use Rattle.crs_log.specs.Recognitions.{view_of}
@@ -9,14 +9,18 @@ use Rattle.crs_report.specs.declared.summary.Summary.{Summary}
 use Rattle.crs_top.specs.declared.session.Session.{Session}
 use Rattle.crs_top.specs.declared.session.Counts.{Counts}
 use Rattle.crs_top.specs.Logs.{summary_of, has_refused, TakesPiece, TakesRest}
-use Rattle.crs_top.specs.Session.{Represents, IsUncounted, IsUnfocused}
+use Rattle.crs_top.specs.Session.{Represents, IsUncounted}
 use Rattle.crs_top.specs.Summing.{TakesLog}
-use Rattle.crs_top.specs.Taking.{after_all, Takes, IsGivenText, IsGivenTally}
+use Rattle.crs_model.specs.declared.recognition.Recognition.{Recognition}
+use Rattle.crs_report.specs.Listeners.{notice_of}
+use Rattle.crs_top.specs.Notices.{AreLogNotices}
+use Rattle.crs_top.specs.Taking.{after_all, Takes, IsGivenText, AreGivenNotices, IsGivenTally}
+use Rattle.crs_top.specs.Written.{Written, unwritten, joined}
 use Rattle.crs_top.specs.Tallies.{AllLive, AreCounts, IsSummary, IsTallyFrom, capped, last_of, started, together}
 use Rattle.crs_top.specs.Texts.{Frame, setting_of, IsLogText, some_refused}
 use Rattle.crs_top.proofs.Counting.{positive, some_counted}
 use Rattle.crs_top.proofs.Living.{held_by, held_live}
-use Rattle.crs_top.proofs.Taken.{takes_none, takes_append, given_text, given_tally, given_state}
+use Rattle.crs_top.proofs.Taken.{takes_none, takes_append, given_text, given_notices, given_tally, given_state}
 
 -- the lines of the first t bytes were given, and the reader stands behind them
 pub record IsAt (t : ℕ) (bytes : List ℕ) (lines : Reader) (told : List Given) : Type 0 where
@@ -31,9 +35,9 @@ at_none lines new =
     subst (λ (l : Reader). IsAt 0 [] l []) (sym new) (record { limit = refl; open_still = refl; fed = refl; none = (refl, refl); given = λ m. refl })
 
 -- the reader behind the next piece
-pub at_more : (t n : ℕ) (lines now : Reader) (told : List Given) (bytes piece : List ℕ) (x y : Session) (text : List ℕ) → length piece ≡ n
-    → IsAt t bytes lines told → (p : TakesPiece lines now x y piece text) → IsAt (t + n) (bytes ++ piece) now (told ++ p.told)
-at_more t n lines now told bytes piece x y text len a p = record {
+pub at_more : (t n : ℕ) (lines now : Reader) (told : List Given) (bytes piece : List ℕ) (x y : Session) (all : Written) → length piece ≡ n
+    → IsAt t bytes lines told → (p : TakesPiece lines now x y piece all) → IsAt (t + n) (bytes ++ piece) now (told ++ p.told)
+at_more t n lines now told bytes piece x y all len a p = record {
   limit = p.limit ∙ a.limit;
   open_still = p.finished ∙ a.open_still;
   fed = p.fed ∙ (λ j. a.fed j + len j);
@@ -46,73 +50,79 @@ at_more t n lines now told bytes piece x y text len a p = record {
 pub record HasTaken (log rest : List ℕ) (old : Session) (lines : Reader) (new : Session) : Type 0 where
   pub fed : List ℕ
   pub told : List Given
-  pub text : List ℕ
+  pub all : Written
   pub whole : fed ++ rest ≡ log
   pub at : IsAt (length fed) fed lines told
-  pub takes : (f : Frame) (s : State) → Represents f old s → Takes f old.counts new s told [] text
+  pub takes : (f : Frame) (s : State) → Represents f old s → Takes f old.engine.focus old.counts new s told unwritten all
 
 pub taken_none : (log : List ℕ) (x : Session) (lines : Reader)
     → lines ≡ record { limit = 4096; number = 0; rest = []; finished = false; fed = 0 } → HasTaken log log x lines x
 taken_none log x lines new = record {
   fed = [];
   told = [];
-  text = [];
+  all = unwritten;
   whole = refl;
   at = at_none lines new;
-  takes = λ f s r. takes_none f x s [] r;
+  takes = λ f s r. takes_none f x s unwritten r;
 }
 
-pub taken_more : (log piece rest : List ℕ) (old x y : Session) (lines now : Reader) (text : List ℕ) → HasTaken log (piece ++ rest) old lines x
-    → TakesPiece lines now x y piece text → HasTaken log rest old now y
-taken_more log piece rest old x y lines now text h p = record {
+pub taken_more : (log piece rest : List ℕ) (old x y : Session) (lines now : Reader) (all : Written) → HasTaken log (piece ++ rest) old lines x
+    → TakesPiece lines now x y piece all → HasTaken log rest old now y
+taken_more log piece rest old x y lines now all h p = record {
   fed = h.fed ++ piece;
   told = h.told ++ p.told;
-  text = h.text ++ text;
+  all = joined h.all all;
   whole = append_assoc h.fed piece rest ∙ h.whole;
   at = subst (λ (n : ℕ). IsAt n (h.fed ++ piece) now (h.told ++ p.told)) (sym (length-append h.fed piece))
-      (at_more (length h.fed) (length piece) lines now h.told h.fed piece x y text refl h.at p);
+      (at_more (length h.fed) (length piece) lines now h.told h.fed piece x y all refl h.at p);
   takes = λ f s r.
       let t = h.takes f s r in
-      takes_append f old.counts x y s h.told p.told h.text text t (p.takes f (after_all (setting_of f) s h.told) t.state);
+      takes_append f old.engine.focus old.counts x y s h.told p.told h.all all t (p.takes f (after_all (setting_of f) s h.told) t.state);
 }
 
 -- all is given, and the last line is taken
-pub taken_all : (log : List ℕ) (old x y : Session) (lines : Reader) (text : List ℕ) → HasTaken log [] old lines x → TakesRest lines x y text
+pub taken_all : (log : List ℕ) (old x y : Session) (lines : Reader) (all : Written) → HasTaken log [] old lines x → TakesRest lines x y all
     → TakesLog log old y
-taken_all log old x y lines text h p f s r =
+taken_all log old x y lines all h p f s r =
     let t = h.takes f s r in
     let whole : h.fed ≡ log = sym (append-nil h.fed) ∙ h.whole in
     let told : given_lines 4096 0 (lines_of log) ≡ h.told ++ p.told =
     ap (λ (bs : List ℕ). given 4096 0 bs) (sym whole ∙ sym (append-nil h.fed)) ∙ h.at.given [] ∙ ap (λ (gs : List Given). h.told ++ gs) p.ahead_is in (
-      h.text ++ text,
-      subst (λ (gs : List Given). Takes f old.counts y s gs [] (h.text ++ text)) (sym told)
-          (takes_append f old.counts x y s h.told p.told h.text text t (p.takes f (after_all (setting_of f) s h.told) t.state)),
+      joined h.all all,
+      subst (λ (gs : List Given). Takes f old.engine.focus old.counts y s gs unwritten (joined h.all all)) (sym told)
+          (takes_append f old.engine.focus old.counts x y s h.told p.told h.all all t (p.takes f (after_all (setting_of f) s h.told) t.state)),
     )
 
 -- what was counted before the first line
-pub record HasBegun (f : Frame) (start : Counts) : Type 0 where
+pub record HasBegun (f : Frame) (focus : Bool) (start : Counts) : Type 0 where
   pub first : ℕ
-  pub at_first : AllLive f.models.chronicles (view_of (at_start f.texts)) first
+  pub at_first : AllLive focus f.models.chronicles (view_of (at_start f.texts)) first
   pub counts : AreCounts start (started first)
 
-pub begun_by : (f : Frame) (x : Session) → Represents f x (at_start f.texts) → IsUncounted x → HasBegun f x.counts
+pub begun_by : (f : Frame) (x : Session) → Represents f x (at_start f.texts) → IsUncounted x → HasBegun f x.engine.focus x.counts
 begun_by f x r u = record {
   first = held_by x.engine;
-  at_first = held_live f x.engine x.symbols (at_start f.texts) r.models r.entries r.horizon u.unfocused;
+  at_first = held_live f x.engine x.symbols (at_start f.texts) r.models r.entries r.horizon;
   counts = record { refused = u.refused; recognitions = u.recognitions; peak = u.peak };
 }
 
 -- all lines of the log were taken
-module _ (f : Frame) (log : List ℕ) (start : Counts) (begun : HasBegun f start) (y : Session) (told : List Given) (text : List ℕ)
-    (all_told : given_lines 4096 0 (lines_of log) ≡ told) (takes : Takes f start y (at_start f.texts) told [] text) where
-  pub text_of : IsLogText f log text
-  text_of = given_text f 0 (at_start f.texts) (lines_of log) text
+module _ (f : Frame) (log : List ℕ) (focus : Bool) (start : Counts) (begun : HasBegun f focus start) (y : Session) (told : List Given)
+    (all : Written)
+    (all_told : given_lines 4096 0 (lines_of log) ≡ told) (takes : Takes f focus start y (at_start f.texts) told unwritten all) where
+  pub text_of : IsLogText f log all.text
+  text_of = given_text f 0 (at_start f.texts) (lines_of log) all.text
       (subst (λ (z : List ℕ). IsGivenText f (at_start f.texts) (given_lines 4096 0 (lines_of log)) z) (sym takes.written)
       (subst (λ (gs : List Given). IsGivenText f (at_start f.texts) gs takes.text) (sym all_told) takes.says))
 
-  tally_of : IsTallyFrom (setting_of f) f.models.chronicles (at_start f.texts) (lines_of log) takes.tally
-  tally_of = given_tally f 0 (at_start f.texts) (lines_of log) takes.tally
-      (subst (λ (gs : List Given). IsGivenTally f (at_start f.texts) gs takes.tally) (sym all_told) takes.tallied)
+  pub notices_of : AreLogNotices f log (map notice_of all.found)
+  notices_of = given_notices f 0 (at_start f.texts) (lines_of log) (map notice_of all.found)
+      (subst (λ (rs : List Recognition). AreGivenNotices f (at_start f.texts) (given_lines 4096 0 (lines_of log)) (map notice_of rs)) (sym takes.added)
+      (subst (λ (gs : List Given). AreGivenNotices f (at_start f.texts) gs (map notice_of takes.found)) (sym all_told) takes.notices))
+
+  tally_of : IsTallyFrom focus (setting_of f) f.models.chronicles (at_start f.texts) (lines_of log) takes.tally
+  tally_of = given_tally focus f 0 (at_start f.texts) (lines_of log) takes.tally
+      (subst (λ (gs : List Given). IsGivenTally focus f (at_start f.texts) gs takes.tally) (sym all_told) takes.tallied)
 
   state_of : Represents f y (last_of f log)
   state_of = subst (Represents f y)
@@ -122,14 +132,15 @@ module _ (f : Frame) (log : List ℕ) (start : Counts) (begun : HasBegun f start
   counts_of : AreCounts y.counts (together (started begun.first) takes.tally)
   counts_of = takes.counted (started begun.first) begun.counts
 
-  pub summary_is : IsUnfocused y.engine → IsSummary f log (summary_of y)
-  summary_is unfocused = record {
+  pub summary_is : IsSummary focus f log (summary_of y)
+  summary_is = record {
     lines = takes.tally;
     tallied = tally_of;
     first = begun.first;
     at_first = begun.at_first;
     last = held_by y.engine;
-    at_last = held_live f y.engine y.symbols (last_of f log) state_of.models state_of.entries state_of.horizon unfocused;
+    at_last = subst (λ (b : Bool). AllLive b f.models.chronicles (view_of (last_of f log)) (held_by y.engine)) takes.same_focus
+        (held_live f y.engine y.symbols (last_of f log) state_of.models state_of.entries state_of.horizon);
     entries = ap capped (sym state_of.count);
     refused = counts_of.refused ∙ ap capped (zero-add takes.tally.refused);
     recognitions = counts_of.recognitions ∙ ap capped (zero-add takes.tally.recognitions);
@@ -140,10 +151,10 @@ module _ (f : Frame) (log : List ℕ) (start : Counts) (begun : HasBegun f start
   pub refused_is : has_refused y ≡ some_refused f log
   refused_is =
       ap (nat_lt 0) (counts_of.refused ∙ ap capped (zero-add takes.tally.refused)) ∙ positive takes.tally.refused
-      ∙ some_counted (setting_of f) f.models.chronicles (at_start f.texts) (lines_of log) takes.tally tally_of
+      ∙ some_counted focus (setting_of f) f.models.chronicles (at_start f.texts) (lines_of log) takes.tally tally_of
 
 -- a summary says whether a line was refused
-pub refused_by : (f : Frame) (log : List ℕ) (s : Summary) → IsSummary f log s → nat_lt 0 s.refused ≡ some_refused f log
-refused_by f log s h =
+pub refused_by : (focus : Bool) (f : Frame) (log : List ℕ) (s : Summary) → IsSummary focus f log s → nat_lt 0 s.refused ≡ some_refused f log
+refused_by focus f log s h =
     ap (nat_lt 0) h.refused ∙ positive h.lines.refused
-    ∙ some_counted (setting_of f) f.models.chronicles (at_start f.texts) (lines_of log) h.lines h.tallied
+    ∙ some_counted focus (setting_of f) f.models.chronicles (at_start f.texts) (lines_of log) h.lines h.tallied

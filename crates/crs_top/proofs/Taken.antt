@@ -10,7 +10,14 @@ use Rattle.crs_log.specs.Reading.{Reader, Given, Plain, Long, Gives, HasNoLine, 
 use Rattle.crs_log.specs.Run.{Setting, State, Outcome, after_given, after_what}
 use Rattle.crs_top.specs.declared.session.Session.{Session}
 use Rattle.crs_top.specs.Session.{Represents, BringsAll, IsShort, number_of}
-use Rattle.crs_top.specs.Taking.{after_all, IsGivenText, IsGivenTally, Takes}
+use Rattle.std.proofs.Common.{map}
+use Rattle.std.proofs.lemmas.List.{map-append}
+use Rattle.crs_base.proofs.Alls.{all_append}
+use Rattle.crs_model.specs.declared.recognition.Recognition.{Recognition}
+use Rattle.crs_report.specs.Listeners.{Notice, notice_of}
+use Rattle.crs_top.specs.Notices.{AreOutcomeNotices, AreNoticesFrom}
+use Rattle.crs_top.specs.Taking.{after_all, IsGivenText, AreGivenNotices, IsGivenTally, Takes}
+use Rattle.crs_top.specs.Written.{Written, HasEntry, unwritten, joined}
 use Rattle.crs_top.specs.declared.session.Counts.{Counts}
 use Rattle.crs_top.specs.Tallies.{Tally, nothing, together, IsLineTally, IsTallyFrom}
 use Rattle.crs_top.proofs.Counting.{counted_none, counted_more, tally_more, tally_append}
@@ -68,29 +75,57 @@ text_more : (f : Frame) (s : State) (gs : List Given) (g : Given) (text first : 
 text_more f s [] g text first h k = (first, [], k, refl, ap (λ (xs : List ℕ). xs ++ first) h ∙ sym (append-nil first))
 text_more f s (x ∷ gs) g text first h k = (h.0, h.1 ++ first, h.2, text_more f (after_given (setting_of f) s x).0 gs g h.1 first h.3 k, ap (λ (xs : List ℕ). xs ++ first) h.4 ∙ append_assoc h.0 h.1 first)
 
-pub takes_none : (f : Frame) (x : Session) (s : State) (out : List ℕ) → Represents f x s → Takes f x.counts x s [] out out
+notices_more : (f : Frame) (s : State) (gs : List Given) (g : Given) (ns first : List Notice) → AreGivenNotices f s gs ns
+    → AreOutcomeNotices f.models.chronicles (view_of (after_all (setting_of f) s gs))
+    (view_of (after_given (setting_of f) (after_all (setting_of f) s gs) g).0) (after_given (setting_of f) (after_all (setting_of f) s gs) g).1 first
+    → AreGivenNotices f s (gs ++ g ∷ []) (ns ++ first)
+notices_more f s [] g ns first h k = (first, [], k, refl, ap (λ (xs : List Notice). xs ++ first) h ∙ sym (append-nil first))
+notices_more f s (x ∷ gs) g ns first h k = (
+  h.0,
+  h.1 ++ first,
+  h.2,
+  notices_more f (after_given (setting_of f) s x).0 gs g h.1 first h.3 k,
+  ap (λ (xs : List Notice). xs ++ first) h.4 ∙ append_assoc h.0 h.1 first,
+)
+
+pub takes_none : (f : Frame) (x : Session) (s : State) (out : Written) → Represents f x s → Takes f x.engine.focus x.counts x s [] out out
 takes_none f x s out r = record {
   state = r;
+  same_focus = refl;
   text = [];
   says = refl;
-  written = sym (append-nil out);
+  written = sym (append-nil out.text);
+  found = [];
+  notices = refl;
+  filled = tt;
+  added = sym (append-nil out.found);
   tally = nothing;
   tallied = refl;
   counted = counted_none x.counts;
 }
 
-pub takes_more : (f : Frame) (start : Counts) (x new : Session) (s : State) (gs : List Given) (g : Given) (out mid more : List ℕ)
-    → Takes f start x s gs out mid
-    → BringsAll x new (number_of g) (λ f s. after_given (setting_of f) s g) mid more → Takes f start new s (gs ++ g ∷ []) out more
-takes_more f start x new s gs g out mid more t brings =
+pub takes_more : (f : Frame) (focus : Bool) (start : Counts) (x new : Session) (s : State) (gs : List Given) (g : Given)
+    (out mid more : Written)
+    → Takes f focus start x s gs out mid
+    → BringsAll x new (number_of g) (λ f s. after_given (setting_of f) s g) mid more → Takes f focus start new s (gs ++ g ∷ []) out more
+takes_more f focus start x new s gs g out mid more t brings =
     let b = brings f (after_all (setting_of f) s gs) t.state in
     record {
       state = subst (λ (z : State). Represents f new z) (sym (after_more (setting_of f) s gs g)) b.state;
+      same_focus = b.same_focus ∙ t.same_focus;
       text = t.text ++ b.text;
       says = text_more f s gs g t.text b.text t.says b.says;
-      written = b.written ∙ ap (λ (xs : List ℕ). xs ++ b.text) t.written ∙ append_assoc out t.text b.text;
+      written = b.written ∙ ap (λ (xs : List ℕ). xs ++ b.text) t.written ∙ append_assoc out.text t.text b.text;
+      found = t.found ++ b.found;
+      notices = subst (AreGivenNotices f s (gs ++ g ∷ [])) (sym (map-append notice_of t.found b.found))
+          (notices_more f s gs g (map notice_of t.found) (map notice_of b.found) t.notices b.notices);
+      filled = all_append HasEntry t.found b.found t.filled b.filled;
+      added = b.added ∙ ap (λ (rs : List Recognition). rs ++ b.found) t.added ∙ append_assoc out.found t.found b.found;
       tally = together t.tally b.tally;
-      tallied = tally_more f s gs g t.tally b.tally t.tallied b.tallied;
+      tallied = tally_more focus f s gs g t.tally b.tally t.tallied
+          (subst (λ (o : Bool). IsLineTally o f.models.chronicles (view_of (after_all (setting_of f) s gs))
+          (view_of (after_given (setting_of f) (after_all (setting_of f) s gs) g).0)
+          (after_given (setting_of f) (after_all (setting_of f) s gs) g).1 b.tally) t.same_focus b.tallied);
       counted = counted_more start x.counts new.counts t.tally b.tally t.counted b.counted;
     }
 
@@ -133,17 +168,32 @@ given_text f n s (l ∷ ls) text h =
     (h.0, h.1, first, rest, h.4)
 
 -- so is their tally, and the state after them
-pub given_tally : (f : Frame) (n : ℕ) (s : State) (ls : List Line) (t : Tally) → IsGivenTally f s (given_lines line_limit n ls) t
-    → IsTallyFrom (setting_of f) f.models.chronicles s ls t
-given_tally f n s [] t h = h
-given_tally f n s (l ∷ ls) t h =
+pub given_tally : (focus : Bool) (f : Frame) (n : ℕ) (s : State) (ls : List Line) (t : Tally)
+    → IsGivenTally focus f s (given_lines line_limit n ls) t
+    → IsTallyFrom focus (setting_of f) f.models.chronicles s ls t
+given_tally focus f n s [] t h = h
+given_tally focus f n s (l ∷ ls) t h =
     let c = setting_of f in
     let g = given_line line_limit (n + 1) l in
     let same : after_given c s g ≡ run.after_line c s l = line_is c s (n + 1) l in
-    let rest : IsTallyFrom c f.models.chronicles (run.after_line c s l).0 ls h.1 =
-    subst (λ (z : State). IsTallyFrom c f.models.chronicles z ls h.1) (ap (λ a. a.0) same)
-    (given_tally f (n + 1) (after_given c s g).0 ls h.1 h.3) in
-    let first = subst (λ (a : State × Outcome). IsLineTally f.models.chronicles (view_of s) (view_of a.0) a.1 h.0) same h.2 in
+    let rest : IsTallyFrom focus c f.models.chronicles (run.after_line c s l).0 ls h.1 =
+    subst (λ (z : State). IsTallyFrom focus c f.models.chronicles z ls h.1) (ap (λ a. a.0) same)
+    (given_tally focus f (n + 1) (after_given c s g).0 ls h.1 h.3) in
+    let first = subst (λ (a : State × Outcome). IsLineTally focus f.models.chronicles (view_of s) (view_of a.0) a.1 h.0) same h.2 in
+    (h.0, h.1, first, rest, h.4)
+
+-- and what listeners are told of them
+pub given_notices : (f : Frame) (n : ℕ) (s : State) (ls : List Line) (ns : List Notice) → AreGivenNotices f s (given_lines line_limit n ls) ns
+    → AreNoticesFrom (setting_of f) f.models.chronicles s ls ns
+given_notices f n s [] ns h = h
+given_notices f n s (l ∷ ls) ns h =
+    let c = setting_of f in
+    let g = given_line line_limit (n + 1) l in
+    let same : after_given c s g ≡ run.after_line c s l = line_is c s (n + 1) l in
+    let rest : AreNoticesFrom c f.models.chronicles (run.after_line c s l).0 ls h.1 =
+    subst (λ (z : State). AreNoticesFrom c f.models.chronicles z ls h.1) (ap (λ a. a.0) same)
+    (given_notices f (n + 1) (after_given c s g).0 ls h.1 h.3) in
+    let first = subst (λ (a : State × Outcome). AreOutcomeNotices f.models.chronicles (view_of s) (view_of a.0) a.1 h.0) same h.2 in
     (h.0, h.1, first, rest, h.4)
 
 pub given_state : (c : Setting) (n : ℕ) (s : State) (ls : List Line) → after_all c s (given_lines line_limit n ls) ≡ run.after_lines c s ls
@@ -161,16 +211,35 @@ text_append : (f : Frame) (s : State) (xs ys : List Given) (a b : List ℕ) → 
 text_append f s [] ys a b h k = subst (λ (z : List ℕ). IsGivenText f s ys (z ++ b)) (sym h) k
 text_append f s (x ∷ xs) ys a b h k = (h.0, h.1 ++ b, h.2, text_append f (after_given (setting_of f) s x).0 xs ys h.1 b h.3 k, ap (λ (z : List ℕ). z ++ b) h.4 ∙ append_assoc h.0 h.1 b)
 
+notices_append : (f : Frame) (s : State) (xs ys : List Given) (a b : List Notice) → AreGivenNotices f s xs a
+    → AreGivenNotices f (after_all (setting_of f) s xs) ys b → AreGivenNotices f s (xs ++ ys) (a ++ b)
+notices_append f s [] ys a b h k = subst (λ (z : List Notice). AreGivenNotices f s ys (z ++ b)) (sym h) k
+notices_append f s (x ∷ xs) ys a b h k = (
+  h.0,
+  h.1 ++ b,
+  h.2,
+  notices_append f (after_given (setting_of f) s x).0 xs ys h.1 b h.3 k,
+  ap (λ (z : List Notice). z ++ b) h.4 ∙ append_assoc h.0 h.1 b,
+)
+
 -- what was taken from the start, and then more
-pub takes_append : (f : Frame) (start : Counts) (x new : Session) (s : State) (xs ys : List Given) (a text : List ℕ)
-    → Takes f start x s xs [] a
-    → Takes f x.counts new (after_all (setting_of f) s xs) ys [] text → Takes f start new s (xs ++ ys) [] (a ++ text)
-takes_append f start x new s xs ys a text t u = record {
+pub takes_append : (f : Frame) (focus : Bool) (start : Counts) (x new : Session) (s : State) (xs ys : List Given) (a more : Written)
+    → Takes f focus start x s xs unwritten a
+    → Takes f x.engine.focus x.counts new (after_all (setting_of f) s xs) ys unwritten more
+    → Takes f focus start new s (xs ++ ys) unwritten (joined a more)
+takes_append f focus start x new s xs ys a more t u = record {
   state = subst (λ (z : State). Represents f new z) (sym (after_append (setting_of f) s xs ys)) u.state;
-  text = a ++ text;
-  says = text_append f s xs ys a text (subst (IsGivenText f s xs) (sym t.written) t.says) (subst (IsGivenText f (after_all (setting_of f) s xs) ys) (sym u.written) u.says);
-  written = refl;
+  same_focus = u.same_focus ∙ t.same_focus;
+  text = t.text ++ u.text;
+  says = text_append f s xs ys t.text u.text t.says u.says;
+  written = (λ i. t.written i ++ u.written i);
+  found = t.found ++ u.found;
+  notices = subst (AreGivenNotices f s (xs ++ ys)) (sym (map-append notice_of t.found u.found))
+      (notices_append f s xs ys (map notice_of t.found) (map notice_of u.found) t.notices u.notices);
+  filled = all_append HasEntry t.found u.found t.filled u.filled;
+  added = (λ i. t.added i ++ u.added i);
   tally = together t.tally u.tally;
-  tallied = tally_append f s xs ys t.tally u.tally t.tallied u.tallied;
+  tallied = tally_append focus f s xs ys t.tally u.tally t.tallied
+      (subst (λ (o : Bool). IsGivenTally o f (after_all (setting_of f) s xs) ys u.tally) t.same_focus u.tallied);
   counted = counted_more start x.counts new.counts t.tally u.tally t.counted u.counted;
 }

@@ -1,9 +1,10 @@
 -- Of a drill at the limits of the program no line is refused.
-use Rattle.std.proofs.Common.{◌≡◌, ◌∙◌, ap, sym, refl, inl, inr, ℕ, ◌++◌, ◌≤◌, nat_lt, false, List, Option, Some, None, arith}
+use Rattle.std.proofs.Common.{◌≡◌, ◌∙◌, ap, sym, refl, inl, inr, ℕ, ◌++◌, ◌≤◌, nat_lt, Bool, false, List, Option, Some, None, arith}
 use Rattle.std.proofs.lemmas.Bool.{ltb-false}
 use Rattle.std.proofs.Math.Seq.{take-length}
 use Rattle.crs_desk.specs.Desk.{Told}
 use Rattle.crs_drill.specs.Drill.{drill_text}
+use Rattle.crs_report.specs.Listeners.{Member}
 use Rattle.crs_report.specs.Summaries.{summary_line}
 use Rattle.crs_report.specs.declared.summary.Summary.{Summary}
 use Rattle.crs_top.specs.declared.status.Status.{Status}
@@ -36,34 +37,34 @@ said_clean due old new text s status d n e (inr k) = elim k.0 [
   | inr q ↦ neither old new status Memory q (λ z. cc) (λ z. cc)
 ]
 
-sum_clean : (f : Frame) (limit : ℕ) (log : List ℕ) (old new : Told) (status : Status) → some_refused f log ≡ false
-    → SumsUp f limit log old status new → RefusesNothing old status new
-sum_clean f limit log old new status clean (inl k) =
-    said_clean (ended_as (some_refused f log)) old new k.1.0 k.1.1.0 status (ap ended_as clean)
-    (none k.1.1.0.refused (refused_by f log k.1.1.0 k.1.1.1 ∙ clean)) k.1.1.2 k.1.2
-sum_clean f limit log old new status clean (inr (inl k)) = neither old new status TooLong k.1 (λ z. cc) (λ z. cc)
-sum_clean f limit log old new status clean (inr (inr k)) = neither old new status Memory k.0 (λ z. cc) (λ z. cc)
+sum_clean : (focus : Bool) (f : Frame) (limit : ℕ) (log : List ℕ) (old new : Told) (status : Status) → some_refused f log ≡ false
+    → SumsUp focus f limit log old status new → RefusesNothing old status new
+sum_clean focus f limit log old new status clean (inl k) = said_clean (ended_as (some_refused f log)) old new k.1.0 k.1.1.0 status
+    (ap ended_as clean) (none k.1.1.0.refused (refused_by focus f log k.1.1.0 k.1.1.1 ∙ clean)) k.1.1.2 k.1.2
+sum_clean focus f limit log old new status clean (inr (inl k)) = neither old new status TooLong k.1 (λ z. cc) (λ z. cc)
+sum_clean focus f limit log old new status clean (inr (inr k)) = neither old new status Memory k.0 (λ z. cc) (λ z. cc)
 
-drill_clean : (seed lines : ℕ) (old new : Told) (status : Status) → lines ≤ 1000000 → Drills standard seed lines old status new
+drill_clean : (focus : Bool) (seed lines : ℕ) (old new : Told) (status : Status) → lines ≤ 1000000
+    → Drills focus standard seed lines old status new
     → RefusesNothing old status new
-drill_clean seed lines old new status few (inl h) =
-    sum_clean h.0 standard.bytes (drill_text seed lines) old new status (none_refused h.0 seed lines few h.1) h.2
-drill_clean seed lines old new status few (inr (inl h)) = elim h.2 [
+drill_clean focus seed lines old new status few (inl h) = sum_clean focus h.0 standard.bytes (drill_text seed lines) old new status
+    (none_refused h.0 seed lines few h.1) h.2
+drill_clean focus seed lines old new status few (inr (inl h)) = elim h.2 [
   | inl k ↦ neither old new status Rejected k.0 (λ z. cc) (λ z. cc)
   | inr k ↦ elim k.0 [
     | inl q ↦ neither old new status WriteFault q (λ z. cc) (λ z. cc)
     | inr q ↦ neither old new status Memory q (λ z. cc) (λ z. cc)
   ]
 ]
-drill_clean seed lines old new status few (inr (inr h)) = neither old new status Memory h.0 (λ z. cc) (λ z. cc)
+drill_clean focus seed lines old new status few (inr (inr h)) = neither old new status Memory h.0 (λ z. cc) (λ z. cc)
 
-pub unrefused : (base now : ℕ) (old new : Told) (words : List (List ℕ)) (status : Status) → Does base now standard old (command_of words) status new
+pub unrefused : (base now : ℕ) (members : List Member) (old new : Told) (words : List (List ℕ)) (status : Status) → Does base now standard members old (command_of words) status new
     → IsUnrefused old (command_of words) status new
-unrefused base now old new words status d = by (command_of words) refl d
+unrefused base now members old new words status d = by (command_of words) refl d
   where
-    by : (o : Option Command) → command_of words ≡ o → Does base now standard old o status new → IsUnrefused old o status new
+    by : (o : Option Command) → command_of words ≡ o → Does base now standard members old o status new → IsUnrefused old o status new
     by None e d = tt
-    by (Some (Run summary models log)) e d = tt
+    by (Some (Run focus summary tally models log)) e d = tt
     by (Some (Print listing models)) e d = tt
-    by (Some (Drill seed lines)) e d = let b = drill_bounds words seed lines e in drill_clean seed lines old new status b.few d.0
+    by (Some (Drill focus seed lines)) e d = let b = drill_bounds words focus seed lines e in drill_clean focus seed lines old new status b.few d.0
     by (Some (Import table)) e d = tt

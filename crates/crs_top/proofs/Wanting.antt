@@ -2,6 +2,8 @@
 use Rattle.std.proofs.Common.{refl, sym, inr, ℕ, ◌+◌, ◌<◌, ◌^◌, List, [], arith, append-nil}
 use Rattle.std.specs.Prelude.{Option, Some, None}
 use Rattle.crs_desk.specs.Desk.{Told}
+use Rattle.crs_report.specs.Listeners.{Member, keep_members}
+use Rattle.crs_words.specs.Kinds.{kinds_of}
 use Rattle.crs_words.specs.Commands.{Command, Run, Print, Drill, Import}
 use Rattle.crs_top.specs.declared.status.Status.TheVariants.{Memory}
 use Rattle.crs_top.specs.Commands.{Does}
@@ -31,17 +33,17 @@ none_loaded base limit old name = record {
   written = refl;
 }
 
-pub wants : (base : ℕ) (most : Most) (old : Told) (command : Option Command) → Does base base most old command Memory old
-wants base most old None =
+pub wants : (base : ℕ) (most : Most) (members : List Member) (old : Told) (command : Option Command) → Does base base most members old command Memory old
+wants base most members old None =
     (inr (inr refl, (0, record { files = refl; opened = refl; left = refl; turns = refl; within = omega arith; written = sym (append-nil old.written) })), refl)
-wants base most old (Some (Run summary models log)) =
-    run_ended base base (tail_of summary) most old old models log Memory
+wants base most members old (Some (Run focus summary tally models log)) =
+    run_ended base base (tail_of focus summary (keep_members (kinds_of tally) members)) most old old models log Memory
     (ends_wanting base base (2 ^ 20) (λ text. ⊥) (IsModelLine (IsFaulty most.symbols (bytes_of old models))) old models
     0 0 0 [] old (none_loaded base (2 ^ 20) old models) (omega arith))
-wants base most old (Some (Drill seed lines)) = (inr (inr (refl, refl)), refl)
-wants base most old (Some (Import table)) =
+wants base most members old (Some (Drill focus seed lines)) = (inr (inr (refl, refl)), refl)
+wants base most members old (Some (Import table)) =
     ends_wanting base base (2 ^ 26) (IsTableLog (bytes_of old table)) (IsTableLine (bytes_of old table)) old table
     0 0 0 [] old (none_loaded base (2 ^ 26) old table) (omega arith)
-wants base most old (Some (Print listing models)) =
+wants base most members old (Some (Print listing models)) =
     ends_wanting base base (2 ^ 20) (IsListed most.symbols listing (bytes_of old models)) (IsModelLine (IsFaulty most.symbols (bytes_of old models))) old models
     0 0 0 [] old (none_loaded base (2 ^ 20) old models) (omega arith)

@@ -1,5 +1,5 @@
 -- What a drill does to a desk that tells its contents: it runs the models of drills over a made log, and writes the summary line alone.
-use Rattle.std.specs.Prelude.{◌≡◌, ◌⊎◌, ℕ, ◌<◌, ◌≤◌, true, List, length}
+use Rattle.std.specs.Prelude.{◌≡◌, ◌⊎◌, ℕ, ◌<◌, ◌≤◌, Bool, List, length}
 use Rattle.crs_desk.specs.Desk.{Told}
 use Rattle.crs_drill.specs.Drill.{drill_text}
 use Rattle.crs_drill.specs.DrillModels.{drill_models_text}
@@ -9,9 +9,10 @@ use Rattle.crs_report.specs.Summaries.{summary_line}
 use Rattle.crs_report.specs.declared.summary.Summary.{Summary}
 use Rattle.crs_top.specs.declared.status.Status.TheVariants.{Done, Refusals, Rejected, Memory, TooLong}
 use Rattle.crs_top.specs.Loads.{IsModelLine}
-use Rattle.crs_top.specs.Logs.{tail_of, ended_as, Appends, Says}
+use Rattle.crs_top.specs.Logs.{ended_as, Appends, Says}
 use Rattle.crs_top.specs.Models.{IsAccepted, IsFaulty}
 use Rattle.crs_top.specs.Run.{Most}
+use Rattle.crs_top.specs.Tallies.{IsSummaryText}
 use Rattle.crs_top.specs.Texts.{Frame, some_refused}
 
 -- for want of memory nothing is written
@@ -19,21 +20,22 @@ abbrev pub IsWanting : Told → Status → Told → Type 0
 IsWanting old status new = (status ≡ Memory) × (new ≡ old)
 
 -- what a run with a summary writes behind the text of the log is written, and the status says whether a line was refused
-abbrev pub SaysSummary : Frame → List ℕ → Told → Status → Told → Type 0
-SaysSummary f log old status new =
-    (text : List ℕ) × tail_of true f log text × Says (ended_as (some_refused f log)) old text status new
+abbrev pub SaysSummary : Bool → Frame → List ℕ → Told → Status → Told → Type 0
+SaysSummary focus f log old status new =
+    (text : List ℕ) × IsSummaryText focus f log text × Says (ended_as (some_refused f log)) old text status new
 
 -- of a log that has as many bytes as the limit nothing is written
-abbrev pub SumsUp : Frame → ℕ → List ℕ → Told → Status → Told → Type 0
-SumsUp f limit log old status new =
-    ((length log < limit) × SaysSummary f log old status new)
+abbrev pub SumsUp : Bool → Frame → ℕ → List ℕ → Told → Status → Told → Type 0
+SumsUp focus f limit log old status new =
+    ((length log < limit) × SaysSummary focus f log old status new)
     ⊎ ((limit ≤ length log) × (status ≡ TooLong) × (new ≡ old))
     ⊎ IsWanting old status new
 
--- the models of drills are accepted, and the log is summed up; or their refusal is written
-abbrev pub Drills : Most → ℕ → ℕ → Told → Status → Told → Type 0
-Drills most seed lines old status new =
-    ((f : Frame) × IsAccepted most.symbols most.entries drill_models_text f × SumsUp f most.bytes (drill_text seed lines) old status new)
+-- the models of drills are accepted, and the log is summed up, with the levels of events read or not; or their refusal is written
+abbrev pub Drills : Bool → Most → ℕ → ℕ → Told → Status → Told → Type 0
+Drills focus most seed lines old status new =
+    ((f : Frame) × IsAccepted most.symbols most.entries drill_models_text f
+    × SumsUp focus f most.bytes (drill_text seed lines) old status new)
     ⊎ ((text : List ℕ) × IsModelLine (IsFaulty most.symbols drill_models_text) text × Says Rejected old text status new)
     ⊎ IsWanting old status new
 

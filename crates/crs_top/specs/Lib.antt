@@ -1,5 +1,7 @@
 pub mod Status
 pub mod Texts
+pub mod Written
+pub mod Notices
 pub mod Tallies
 pub mod Session
 pub mod Taking

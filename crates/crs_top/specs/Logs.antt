@@ -1,5 +1,5 @@
 -- Reading a log to its end, and writing as it comes.
-use Rattle.std.specs.Prelude.{◌≡◌, ◌⊎◌, ℕ, ◌+◌, ◌<◌, ◌≤◌, nat_lt, Bool, true, false, List, [], ◌∷◌, ◌++◌, length, take}
+use Rattle.std.specs.Prelude.{◌≡◌, ◌⊎◌, ℕ, ◌+◌, ◌<◌, ◌≤◌, nat_lt, Bool, true, false, List, [], ◌∷◌, ◌++◌, length, take, map, flat_map}
 use Rattle.std.specs.List.{AllByRecursion}
 use Rattle.crs_desk.specs.Desk.{Told, stream_at, advanced, Rises, HasRoom, Wrote}
 use Rattle.crs_desk.specs.declared.turn.Turn.{Turn}
@@ -9,12 +9,15 @@ use Rattle.crs_top.specs.declared.status.Status.{Status}
 use Rattle.crs_top.specs.declared.status.Status.TheVariants.{Done, Refusals, Words, Rejected, ReadFault, WriteFault, Memory, TooLong}
 use Rattle.crs_top.specs.declared.session.Session.{Session}
 use Rattle.crs_engine.specs.Engines.{kept_of}
+use Rattle.crs_report.specs.Listeners.{Notice, Member, notice_of, members_after, page_of}
 use Rattle.crs_report.specs.Summaries.{summary_line}
 use Rattle.crs_report.specs.declared.summary.Summary.{Summary}
-use Rattle.crs_top.specs.Session.{Represents, IsUnfocused}
+use Rattle.crs_top.specs.Session.{Represents}
 use Rattle.crs_top.specs.Tallies.{capped, IsSummaryText}
 use Rattle.crs_top.specs.Taking.{Takes}
+use Rattle.crs_top.specs.Notices.{AreLogNotices}
 use Rattle.crs_top.specs.Texts.{Frame, IsWholeText, IsLogText, some_refused}
+use Rattle.crs_top.specs.Written.{Written, unwritten}
 
 -- a text of which P holds was appended
 abbrev pub Appends : (List ℕ → Type 0) → List ℕ → List ℕ → Type 0
@@ -28,10 +31,19 @@ AppendsFront P old new = (text : List ℕ) × (k : ℕ) × P text × (new ≡ ol
 abbrev pub Tail : Type 1
 Tail = Frame → List ℕ → List ℕ → Type 0
 
--- nothing; or the summary line, where it is asked for
-abbrev pub tail_of : Bool → Tail
-tail_of false f log text = text ≡ []
-tail_of true f log text = IsSummaryText f log text
+-- the summary line where it is asked for, and nothing where it isn't
+abbrev pub IsSummaryPart : (focus summary : Bool) → Tail
+IsSummaryPart focus false f log text = text ≡ []
+IsSummaryPart focus true f log text = IsSummaryText focus f log text
+
+-- the pages of these listeners, as they stay and count through all recognitions of the log
+abbrev pub ArePages : List Member → Tail
+ArePages members f log text = (notices : List Notice) × AreLogNotices f log notices × (text ≡ flat_map page_of (members_after notices members))
+
+-- the summary line, where it is asked for, and then the pages; only the numbers in the line depend on whether levels are read
+abbrev pub tail_of : (focus summary : Bool) → List Member → Tail
+tail_of focus summary members f log text =
+    (line : List ℕ) × (pages : List ℕ) × IsSummaryPart focus summary f log line × ArePages members f log pages × (text ≡ line ++ pages)
 
 -- the text of the whole log, and then the tail
 abbrev pub IsEndedText : Tail → Frame → List ℕ → List ℕ → Type 0
@@ -83,20 +95,27 @@ abbrev pub HasReadLog : Tail → Frame → Told → ℕ → ℕ → Status → T
 HasReadLog tail f old input limit status new = (t : ℕ) × (more : List Turn) × ReadsLog tail f old input limit t more status new
 
 -- the lines that a piece completes are taken, and their text is made
-pub record TakesPiece (old_lines new_lines : Reader) (old new : Session) (piece text : List ℕ) : Type 0 where
+pub record TakesPiece (old_lines new_lines : Reader) (old new : Session) (piece : List ℕ) (all : Written) : Type 0 where
   pub told : List Given
   pub limit : new_lines.limit ≡ old_lines.limit
   pub finished : new_lines.finished ≡ old_lines.finished
   pub fed : new_lines.fed ≡ old_lines.fed + length piece
   pub none : HasNoLine new_lines
   pub ahead_is : (m : List ℕ) → ahead old_lines (piece ++ m) ≡ told ++ ahead new_lines m
-  pub takes : (f : Frame) (s : State) → Represents f old s → Takes f old.counts new s told [] text
+  pub takes : (f : Frame) (s : State) → Represents f old s → Takes f old.engine.focus old.counts new s told unwritten all
+
+-- so they are, and the listeners are told of the recognitions in the text
+pub record TellsPiece (old_lines new_lines : Reader) (old new : Session) (was now : List Member) (piece text : List ℕ) : Type 0 where
+  pub all : Written
+  pub piece_is : TakesPiece old_lines new_lines old new piece all
+  pub text_is : text ≡ all.text
+  pub heard : now ≡ members_after (map notice_of all.found) was
 
 -- the last line, which has no line feed, is taken, and its text is made
-pub record TakesRest (lines : Reader) (old new : Session) (text : List ℕ) : Type 0 where
+pub record TakesRest (lines : Reader) (old new : Session) (all : Written) : Type 0 where
   pub told : List Given
   pub ahead_is : ahead lines [] ≡ told
-  pub takes : (f : Frame) (s : State) → Represents f old s → Takes f old.counts new s told [] text
+  pub takes : (f : Frame) (s : State) → Represents f old s → Takes f old.engine.focus old.counts new s told unwritten all
 
 -- the status of a log that was read to its end
 abbrev pub ended_as : Bool → Status
@@ -118,22 +137,27 @@ summary_of x = record {
   peak = x.counts.peak;
 }
 
--- what a session writes behind the text of its log
-abbrev pub IsTailOf : Bool → Session → List ℕ → Type 0
-IsTailOf false x text = text ≡ []
-IsTailOf true x text = IsUnfocused x.engine × (text ≡ summary_line (summary_of x))
+-- the summary line of a session, where it is asked for
+abbrev pub IsSummaryOf : Bool → Session → List ℕ → Type 0
+IsSummaryOf false x text = text ≡ []
+IsSummaryOf true x text = text ≡ summary_line (summary_of x)
 
--- the last line is taken, and its text and the tail are made
-abbrev pub TakesEnd : Bool → Reader → Session → Session → List ℕ → Type 0
-TakesEnd summary lines old new text =
-    (last : List ℕ) × (tail : List ℕ) × TakesRest lines old new last × IsTailOf summary new tail × (text ≡ last ++ tail)
+-- what a session writes behind the text of its log, and the listeners behind that
+abbrev pub IsTailOf : Bool → List Member → Session → List ℕ → Type 0
+IsTailOf summary members x text = (line : List ℕ) × IsSummaryOf summary x line × (text ≡ line ++ flat_map page_of members)
+
+-- the last line is taken, the listeners are told of the recognitions in its text, and that and the tail are made
+abbrev pub TakesEnd : Bool → List Member → Reader → Session → Session → List ℕ → Type 0
+TakesEnd summary members lines old new text =
+    (last : Written) × (tail : List ℕ) × TakesRest lines old new last
+    × IsTailOf summary (members_after (map notice_of last.found) members) new tail × (text ≡ last.text ++ tail)
 
 -- whether some line was refused
 abbrev pub has_refused : Session → Bool
 has_refused x = nat_lt 0 x.counts.refused
 
 -- the rest is taken, and its text written, or a front of it, or none of it
-abbrev pub Finishes : Bool → Told → Session → Reader → Status → Told → Type 0
-Finishes summary old x lines status new =
+abbrev pub Finishes : Bool → List Member → Told → Session → Reader → Status → Told → Type 0
+Finishes summary members old x lines status new =
     ((status ≡ Memory) × (new ≡ old))
-    ⊎ ((y : Session) × (text : List ℕ) × TakesEnd summary lines x y text × Says (ended_as (has_refused y)) old text status new)
+    ⊎ ((y : Session) × (text : List ℕ) × TakesEnd summary members lines x y text × Says (ended_as (has_refused y)) old text status new)

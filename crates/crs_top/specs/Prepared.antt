@@ -1,5 +1,5 @@
 -- What a models text prepares.
-use Rattle.std.specs.Prelude.{◌≡◌, ℕ, List, [], Ok}
+use Rattle.std.specs.Prelude.{◌≡◌, ℕ, Bool, List, [], Ok}
 use Rattle.crs_base.specs.Symbols.{Table, AreDistinct}
 use Rattle.crs_log.specs.Run.{at_start}
 use Rattle.crs_model.specs.declared.models.Models.{Models as CodeModels}
@@ -20,9 +20,10 @@ pub record AreReadIn (symbols : ℕ) (text : List ℕ) (m : CodeModels) (table :
   pub distinct : AreDistinct table.texts
   pub limit : table.limit ≡ symbols
 
--- the session stands for the start of a run with the models that the text means
-pub record IsPrepared (symbols entries : ℕ) (text : List ℕ) (x : Session) : Type 0 where
+-- the session stands for the start of a run with the models that the text means, and reads the levels of events or not
+pub record IsPrepared (focus : Bool) (symbols entries : ℕ) (text : List ℕ) (x : Session) : Type 0 where
   pub frame : Frame
   pub accepted : IsAccepted symbols entries text frame
   pub represents : Represents frame x (at_start frame.texts)
   pub uncounted : IsUncounted x
+  pub focus_is : x.engine.focus ≡ focus

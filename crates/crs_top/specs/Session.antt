@@ -24,7 +24,10 @@ use Rattle.crs_engine.specs.Engines.{EngineState, StandsFor, plans_of, kept_of}
 use Rattle.crs_top.specs.declared.session.Session.{Session}
 use Rattle.crs_top.specs.declared.session.Counts.{Counts}
 use Rattle.crs_top.specs.Tallies.{Tally, IsLineTally, Counted, IsPeaked}
+use Rattle.crs_report.specs.Listeners.{notice_of}
+use Rattle.crs_top.specs.Notices.{AreOutcomeNotices}
 use Rattle.crs_top.specs.Texts.{Frame, LogEntry, IsOutcomeText}
+use Rattle.crs_top.specs.Written.{Written, HasEntry}
 
 -- the symbol has a text
 abbrev pub HasText : List (List ℕ) → Sym → Type 0
@@ -81,39 +84,39 @@ pub record Represents (f : Frame) (x : Session) (s : State) : Type 0 where
   pub most_here : x.entries ≡ f.entries
   pub met : s.met ≡ x.met
   pub ended : s.ended ≡ x.ended
-  pub peaked : IsPeaked f.models.chronicles (view_of s) x.counts.peak
+  pub peaked : IsPeaked x.engine.focus f.models.chronicles (view_of s) x.counts.peak
 
 -- the session stands for some state of some run
 abbrev pub IsReady : Session → Type 0
 IsReady x = (f : Frame) × (s : State) × Represents f x s
-
--- each store of the engine reads each event as of level 0
-abbrev pub IsUnfocused : EngineState → Type 0
-IsUnfocused e = AllByRecursion (λ s. s.focus ≡ false) e.stores
 
 -- nothing is counted yet but what is held at the start
 pub record IsUncounted (x : Session) : Type 0 where
   pub refused : x.counts.refused ≡ 0
   pub recognitions : x.counts.recognitions ≡ 0
   pub peak : x.counts.peak ≡ kept_of x.engine
-  pub unfocused : IsUnfocused x.engine
 
--- What one line brings, where recognition read `was` before it: the session stands for the state after it, its text is added, and it is
--- counted.
-pub record Brings (f : Frame) (old : Counts) (new : Session) (n : ℕ) (was : View) (after : State × Outcome)
-    (out more : List ℕ) : Type 0 where
+-- What one line brings, where recognition read `was` before it: the session stands for the state after it, its text is added and so are the
+-- recognitions in it, and it is counted. Levels are read or not as before.
+pub record Brings (f : Frame) (focus : Bool) (old : Counts) (new : Session) (n : ℕ) (was : View) (after : State × Outcome)
+    (out more : Written) : Type 0 where
   pub state : Represents f new after.0
+  pub same_focus : new.engine.focus ≡ focus
   pub text : List ℕ
   pub says : IsOutcomeText f.models.chronicles n was (view_of after.0) after.1 text
-  pub written : more ≡ out ++ text
+  pub written : more.text ≡ out.text ++ text
+  pub found : List Recognition
+  pub notices : AreOutcomeNotices f.models.chronicles was (view_of after.0) after.1 (map notice_of found)
+  pub filled : AllByRecursion HasEntry found
+  pub added : more.found ≡ out.found ++ found
   pub tally : Tally
-  pub tallied : IsLineTally f.models.chronicles was (view_of after.0) after.1 tally
+  pub tallied : IsLineTally focus f.models.chronicles was (view_of after.0) after.1 tally
   pub counted : Counted old new.counts tally
 
 -- whatever state of a run the session stands for
-abbrev pub BringsAll : Session → Session → ℕ → (Frame → State → State × Outcome) → List ℕ → List ℕ → Type 0
+abbrev pub BringsAll : Session → Session → ℕ → (Frame → State → State × Outcome) → Written → Written → Type 0
 BringsAll old new n after out more = (f : Frame) (s : State) → Represents f old s
-    → Brings f old.counts new n (view_of s) (after f s) out more
+    → Brings f old.engine.focus old.counts new n (view_of s) (after f s) out more
 
 abbrev pub number_of : Given → ℕ
 number_of (Long n) = n

@@ -1,5 +1,5 @@
 -- A log that is held whole, and its numbers.
-use Rattle.std.specs.Prelude.{◌⊎◌, ℕ, nat_lt, List, []}
+use Rattle.std.specs.Prelude.{◌⊎◌, ℕ, nat_lt, List}
 use Rattle.crs_base.specs.Lines.{lines_of, line_limit}
 use Rattle.crs_desk.specs.Desk.{Told}
 use Rattle.crs_log.specs.Reading.{given_lines}
@@ -14,15 +14,16 @@ use Rattle.crs_top.specs.Session.{Represents}
 use Rattle.crs_top.specs.Taking.{Takes}
 use Rattle.crs_top.specs.Tallies.{IsSummary}
 use Rattle.crs_top.specs.Texts.{Frame}
+use Rattle.crs_top.specs.Written.{Written, unwritten}
 
 -- each line of the log is taken
 abbrev pub TakesLog : List ℕ → Session → Session → Type 0
 TakesLog log old new = (f : Frame) (s : State) → Represents f old s
-    → (text : List ℕ) × Takes f old.counts new s (given_lines line_limit 0 (lines_of log)) [] text
+    → (all : Written) × Takes f old.engine.focus old.counts new s (given_lines line_limit 0 (lines_of log)) unwritten all
 
 -- these are the numbers of a run over the log, which starts from the session
 abbrev pub IsSummed : Session → List ℕ → Summary → Type 0
-IsSummed x log s = (f : Frame) → Represents f x (at_start f.texts) → IsSummary f log s
+IsSummed x log s = (f : Frame) → Represents f x (at_start f.texts) → IsSummary x.engine.focus f log s
 
 -- the line of these numbers is written, and the status says whether a line was refused
 abbrev pub WritesSummary : Summary → Told → Status → Told → Type 0

@@ -1,5 +1,5 @@
 -- The numbers of a run: what its lines bring, and how many partial assignments live.
-use Rattle.std.specs.Prelude.{◌≡◌, ◌≤◌, ℕ, ◌+◌, ◌-◌, ◌^◌, min, max, false, List, [], ◌∷◌, length}
+use Rattle.std.specs.Prelude.{◌≡◌, ◌≤◌, ℕ, ◌+◌, ◌-◌, ◌^◌, min, max, Bool, List, [], ◌∷◌, length}
 use Rattle.crs_base.specs.Lines.{Line, lines_of}
 use Rattle.crs_model.specs.Matching.{Assignment}
 use Rattle.crs_model.specs.Models.{Chronicle}
@@ -12,14 +12,14 @@ use Rattle.crs_report.specs.declared.summary.Summary.{Summary}
 use Rattle.crs_top.specs.declared.session.Counts.{Counts}
 use Rattle.crs_top.specs.Texts.{Frame, setting_of}
 
--- n partial assignments of the chronicle live: they are open, and not recognised
-abbrev pub AreLive : Chronicle (List ℕ) → View → ℕ → Type 0
-AreLive c v n = (live : List (Partial (List ℕ))) × AreAll (IsLiveIn c false v) live × (n ≡ length live)
+-- n partial assignments of the chronicle live, with the levels of its events read or not: they are open, and not recognised
+abbrev pub AreLive : Bool → Chronicle (List ℕ) → View → ℕ → Type 0
+AreLive focus c v n = (live : List (Partial (List ℕ))) × AreAll (IsLiveIn c focus v) live × (n ≡ length live)
 
 -- of all chronicles together
-abbrev pub AllLive : List (Chronicle (List ℕ)) → View → ℕ → Type 0
-AllLive [] v n = n ≡ 0
-AllLive (c ∷ cs) v n = (first : ℕ) × (rest : ℕ) × AreLive c v first × AllLive cs v rest × (n ≡ first + rest)
+abbrev pub AllLive : Bool → List (Chronicle (List ℕ)) → View → ℕ → Type 0
+AllLive focus [] v n = n ≡ 0
+AllLive focus (c ∷ cs) v n = (first : ℕ) × (rest : ℕ) × AreLive focus c v first × AllLive focus cs v rest × (n ≡ first + rest)
 
 -- n assignments are new at a mark, before which recognition read `was`
 abbrev pub AllNew : List (Chronicle (List ℕ)) → View → View → ℕ → Type 0
@@ -52,15 +52,15 @@ CountsAs cs was now (Accepted entry) refused recognitions = (refused ≡ 0) × (
 CountsAs cs was now (Marked mark) refused recognitions = (refused ≡ 0) × AllNew cs was now recognitions
 
 -- the tally of one line, after which recognition reads `now`
-abbrev pub IsLineTally : List (Chronicle (List ℕ)) → View → View → Outcome → Tally → Type 0
-IsLineTally cs was now outcome t = CountsAs cs was now outcome t.refused t.recognitions × AllLive cs now t.peak
+abbrev pub IsLineTally : Bool → List (Chronicle (List ℕ)) → View → View → Outcome → Tally → Type 0
+IsLineTally focus cs was now outcome t = CountsAs cs was now outcome t.refused t.recognitions × AllLive focus cs now t.peak
 
 -- the tally of lines that are met in the state s: each line is counted, and what lives after it
-abbrev pub IsTallyFrom : Setting → List (Chronicle (List ℕ)) → State → List Line → Tally → Type 0
-IsTallyFrom c cs s [] t = t ≡ nothing
-IsTallyFrom c cs s (l ∷ ls) t =
-    (first : Tally) × (rest : Tally) × IsLineTally cs (view_of s) (view_of (after_line c s l).0) (after_line c s l).1 first
-    × IsTallyFrom c cs (after_line c s l).0 ls rest × (t ≡ together first rest)
+abbrev pub IsTallyFrom : Bool → Setting → List (Chronicle (List ℕ)) → State → List Line → Tally → Type 0
+IsTallyFrom focus c cs s [] t = t ≡ nothing
+IsTallyFrom focus c cs s (l ∷ ls) t =
+    (first : Tally) × (rest : Tally) × IsLineTally focus cs (view_of s) (view_of (after_line c s l).0) (after_line c s l).1 first
+    × IsTallyFrom focus c cs (after_line c s l).0 ls rest × (t ≡ together first rest)
 
 -- n, or 2^64 - 1 where it is greater
 abbrev pub capped : ℕ → ℕ
@@ -70,14 +70,14 @@ capped n = min n (2 ^ 64 - 1)
 abbrev pub last_of : Frame → List ℕ → State
 last_of f log = after_lines (setting_of f) (at_start f.texts) (lines_of log)
 
--- the summary of a whole log: its numbers, each up to 2^64 - 1
-pub record IsSummary (f : Frame) (log : List ℕ) (s : Summary) : Type 0 where
+-- the summary of a whole log: its numbers, each up to 2^64 - 1; what lives, lives with the levels of events read or not
+pub record IsSummary (focus : Bool) (f : Frame) (log : List ℕ) (s : Summary) : Type 0 where
   pub lines : Tally
-  pub tallied : IsTallyFrom (setting_of f) f.models.chronicles (at_start f.texts) (lines_of log) lines
+  pub tallied : IsTallyFrom focus (setting_of f) f.models.chronicles (at_start f.texts) (lines_of log) lines
   pub first : ℕ
-  pub at_first : AllLive f.models.chronicles (view_of (at_start f.texts)) first
+  pub at_first : AllLive focus f.models.chronicles (view_of (at_start f.texts)) first
   pub last : ℕ
-  pub at_last : AllLive f.models.chronicles (view_of (last_of f log)) last
+  pub at_last : AllLive focus f.models.chronicles (view_of (last_of f log)) last
   pub entries : s.entries ≡ capped (length (last_of f log).accepted)
   pub refused : s.refused ≡ capped lines.refused
   pub recognitions : s.recognitions ≡ capped lines.recognitions
@@ -85,8 +85,8 @@ pub record IsSummary (f : Frame) (log : List ℕ) (s : Summary) : Type 0 where
   pub peak : s.peak ≡ capped (max first lines.peak)
 
 -- its line
-abbrev pub IsSummaryText : Frame → List ℕ → List ℕ → Type 0
-IsSummaryText f log text = (s : Summary) × IsSummary f log s × (text ≡ summary_line s)
+abbrev pub IsSummaryText : Bool → Frame → List ℕ → List ℕ → Type 0
+IsSummaryText focus f log text = (s : Summary) × IsSummary focus f log s × (text ≡ summary_line s)
 
 -- the counts are the numbers of the tally, each up to 2^64 - 1
 pub record AreCounts (c : Counts) (t : Tally) : Type 0 where
@@ -107,5 +107,5 @@ abbrev pub with_mark : Counts → ℕ → ℕ → Counts
 with_mark c n kept = record c { recognitions = capped (c.recognitions + n); peak = max c.peak kept }
 
 -- no fewer are counted as the peak than live now
-abbrev pub IsPeaked : List (Chronicle (List ℕ)) → View → ℕ → Type 0
-IsPeaked cs v peak = (n : ℕ) × AllLive cs v n × (capped n ≤ peak)
+abbrev pub IsPeaked : Bool → List (Chronicle (List ℕ)) → View → ℕ → Type 0
+IsPeaked focus cs v peak = (n : ℕ) × AllLive focus cs v n × (capped n ≤ peak)

@@ -33,7 +33,7 @@ fn run_calmly(alloc: Global, words: &[String], limits: Limits, desk: &mut CalmDe
     requires { calm_inputs desk.old < 2 ^ 31 }
     ensures { CompletesCommand (most_of limits) (calm_told desk.old) (command_of (map string_bytes words.now)) ⊥ result }
 {
-    run_with(alloc, words, limits, desk)
+    run_with(alloc, words, limits, desk, Vec::new(alloc))
 }
 
 #[test]

@@ -25,19 +25,26 @@ use std::alloc::{AllocError, Global};
 /// The most bytes of a made log that are taken at once.
 const PIECE: usize = 4096;
 
-/// Runs the models of drills over the log of so many lines that the seed gives, and writes the
-/// summary line.
-pub fn drill<D: Desk>(alloc: Global, desk: &mut D, seed: u32, lines: u32, limits: Limits) -> Status
+/// Runs the models of drills over the log of so many lines that the seed gives, with the levels of
+/// events read or not, and writes the summary line.
+pub fn drill<D: Desk>(
+    alloc: Global,
+    desk: &mut D,
+    focus: bool,
+    seed: u32,
+    lines: u32,
+    limits: Limits,
+) -> Status
     requires least { 1 ≤ seed }
     requires most { seed ≤ 2147483646 }
     requires lines { lines ≤ 1000000 }
     ensures inputs { D.inputs desk.new ≡ D.inputs desk.old }
     ensures words { result ≡ Status.Words → ⊥ }
     ensures causes { HasCauses (D.in_faults desk.old) (D.in_faults desk.new) (D.out_faults desk.old) (D.out_faults desk.new) result }
-    ensures told { D.tells ≡ true → Drills (most_of limits) seed lines (D.told desk.old) result (D.told desk.new) }
+    ensures told { D.tells ≡ true → Drills focus (most_of limits) seed lines (D.told desk.old) result (D.told desk.new) }
 {
     // nobody else chooses the symbols of a made log, so any seed will do
-    match prepare(alloc, drill_models(), limits, 0) {
+    match prepare(alloc, drill_models(), focus, limits, 0) {
         Ok(session) => sum_up(alloc, desk, session, seed, lines, limits.bytes),
         Err(refused) => refuse(alloc, desk, refused),
     }
@@ -61,7 +68,7 @@ fn sum_up<D: Desk>(
     ensures inputs { D.inputs desk.new ≡ D.inputs desk.old }
     ensures words { result ≡ Status.Words → ⊥ }
     ensures causes { HasCauses (D.in_faults desk.old) (D.in_faults desk.new) (D.out_faults desk.old) (D.out_faults desk.new) result }
-    ensures told { D.tells ≡ true → (f : Frame) → Represents f session (at_start f.texts) → SumsUp f limit (drill_text seed lines) (D.told desk.old) result (D.told desk.new) }
+    ensures told { D.tells ≡ true → (f : Frame) → Represents f session (at_start f.texts) → SumsUp session.engine.focus f limit (drill_text seed lines) (D.told desk.old) result (D.told desk.new) }
 {
     let Ok(log) = make_log(alloc, seed, lines) else {
         return Status::Memory;

@@ -10,6 +10,7 @@ mod listing;
 mod loading;
 mod log;
 mod models;
+mod output;
 mod printing;
 mod run;
 mod session;

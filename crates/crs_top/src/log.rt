@@ -1,33 +1,37 @@
 // A log, read in pieces.
-ghost use Rattle.std.specs.Prelude.{◌≡◌, ◌<◌, ◌+◌, ◌^◌, ◌++◌, ℕ, List as Items, true, false, length, IfOk, OnOk};
+ghost use Rattle.std.specs.Prelude.{◌≡◌, ◌<◌, ◌+◌, ◌^◌, ◌++◌, ℕ, List as Items, true, false, length, map, IfOk, OnOk};
+ghost use Rattle.std.specs.List.{AllByRecursion};
 ghost use Rattle.crs_desk.specs.Desk.{stream_at};
 ghost use Rattle.crs_log.specs.Run.{at_start};
-ghost use Rattle.crs_top.specs.Session.{IsReady, Represents, IsUncounted, IsUnfocused};
+ghost use Rattle.crs_report.specs.Listeners.{notice_of, members_after};
+ghost use Rattle.crs_top.specs.Session.{IsReady, Represents, IsUncounted};
 ghost use Rattle.crs_top.specs.Taking.{TakesLines};
 ghost use Rattle.crs_top.specs.Texts.{Frame};
-ghost use Rattle.crs_top.specs.Logs.{tail_of, summary_of, IsTailOf, HasReadLog, TakesPiece, TakesRest, TakesEnd, Finishes, ended_as};
+ghost use Rattle.crs_top.specs.Logs.{tail_of, summary_of, IsSummaryOf, IsTailOf, HasReadLog, TakesPiece, TellsPiece, TakesRest, TakesEnd, Finishes, ended_as};
 ghost use Rattle.crs_top.specs.Status.{HasCauses};
+ghost use Rattle.crs_top.specs.Written.{HasEntry};
 
 use crate::loading::write_text;
+use crate::output::Output;
 use crate::session::Session;
 use crate::status::Status;
 use crate::step::take_line;
 use crs_base::LINE_LIMIT;
 use crs_desk::{Desk, DeskError, write_all};
 use crs_log::Lines;
-use crs_report::{Summary, push_summary_line};
+use crs_report::{Listener, Summary, push_pages, push_summary_line, tell_each};
 use std::alloc::{AllocError, Global};
 
-/// Takes each line that is held whole, and adds what it brings to the text.
+/// Takes each line that is held whole, and adds what it brings to the output.
 fn take_lines(
     alloc: Global,
     session: &mut Session,
     lines: &mut Lines,
-    out: &mut Vec<u8>,
+    out: &mut Output,
 ) -> Result<(), AllocError>
     requires ready { IsReady session.old }
     requires limit { lines.old.limit ≡ 4096 }
-    ensures { OnOk result (TakesLines lines.old lines.new session.old session.new out.old.items out.new.items) }
+    ensures { OnOk result (TakesLines lines.old lines.new session.old session.new out.old out.new) }
 {
     let mut tokens = Vec::new(alloc);
     while let Some(line) = lines.next_line() {
@@ -36,38 +40,67 @@ fn take_lines(
     Ok(())
 }
 
-/// The text of the lines that a piece completes.
+/// What is written for the lines that a piece completes.
 pub fn take_piece(
     alloc: Global,
     session: &mut Session,
     lines: &mut Lines,
+    piece: &[u8],
+) -> Result<Output, AllocError>
+    requires ready { IsReady session.old }
+    requires limit { lines.old.limit ≡ 4096 }
+    requires open { lines.old.finished ≡ false }
+    requires room { lines.old.fed + length piece.now < 2 ^ 64 }
+    ensures { IfOk result (TakesPiece lines.old lines.new session.old session.new piece.now) }
+{
+    lines.feed(piece)?;
+    let mut output = Output::new(alloc);
+    take_lines(alloc, session, lines, &mut output)?;
+    Ok(output)
+}
+
+/// What is written for a last line that has no line feed.
+pub fn take_rest(
+    alloc: Global,
+    session: &mut Session,
+    lines: &mut Lines,
+) -> Result<Output, AllocError>
+    requires ready { IsReady session.old }
+    requires limit { lines.old.limit ≡ 4096 }
+    ensures { IfOk result (TakesRest lines.old session.old session.new) }
+{
+    lines.finish();
+    let mut output = Output::new(alloc);
+    take_lines(alloc, session, lines, &mut output)?;
+    Ok(output)
+}
+
+/// Tells the listeners of the recognitions of an output, and answers its text.
+fn tell(listeners: &mut Vec<Box<dyn Listener>>, output: Output) -> Result<Vec<u8>, AllocError>
+    requires { AllByRecursion HasEntry output.found }
+    ensures text { IfOk result (λ v. v.items ≡ output.text) }
+    ensures heard { OnOk result (map (λ b. (kind b, figures b)) listeners.new.items ≡ members_after (map notice_of output.found) (map (λ b. (kind b, figures b)) listeners.old.items)) }
+{
+    tell_each(listeners, output.found())?;
+    Ok(output.into_text())
+}
+
+/// The text of the lines that a piece completes. The listeners are told of the recognitions in it.
+fn tell_piece(
+    alloc: Global,
+    session: &mut Session,
+    lines: &mut Lines,
+    listeners: &mut Vec<Box<dyn Listener>>,
     piece: &[u8],
 ) -> Result<Vec<u8>, AllocError>
     requires ready { IsReady session.old }
     requires limit { lines.old.limit ≡ 4096 }
     requires open { lines.old.finished ≡ false }
     requires room { lines.old.fed + length piece.now < 2 ^ 64 }
-    ensures { IfOk result (λ v. TakesPiece lines.old lines.new session.old session.new piece.now v.items) }
+    ensures { IfOk result (λ v. TellsPiece lines.old lines.new session.old session.new (map (λ b. (kind b, figures b)) listeners.old.items) (map (λ b. (kind b, figures b)) listeners.new.items) piece.now v.items) }
 {
-    lines.feed(piece)?;
-    let mut text = Vec::new(alloc);
-    take_lines(alloc, session, lines, &mut text)?;
-    Ok(text)
-}
-
-/// The text of a last line that has no line feed.
-pub fn take_rest(
-    alloc: Global,
-    session: &mut Session,
-    lines: &mut Lines,
-) -> Result<Vec<u8>, AllocError>
-    requires ready { IsReady session.old }
-    requires limit { lines.old.limit ≡ 4096 }
-    ensures { IfOk result (λ v. TakesRest lines.old session.old session.new v.items) }
-{
-    lines.finish();
-    let mut text = Vec::new(alloc);
-    take_lines(alloc, session, lines, &mut text)?;
+    let output = take_piece(alloc, session, lines, piece)?;
+    let text = tell(listeners, output)?;
     Ok(text)
 }
 
@@ -84,8 +117,7 @@ pub fn end_status(refused: bool) -> Status
 
 /// The numbers of a run whose log was read to its end.
 pub fn summary_of(session: &Session) -> Summary
-    ensures numbers { result ≡ summary_of session.now }
-    ensures unfocused { IsUnfocused session.now.engine }
+    ensures { result ≡ summary_of session.now }
 {
     Summary {
         entries: session.engine.accepted() as u64,
@@ -96,15 +128,29 @@ pub fn summary_of(session: &Session) -> Summary
     }
 }
 
-/// Writes what stands behind the text of a log that was read to its end: the summary line, where
-/// it is asked for.
-fn push_tail(session: &Session, summary: bool, out: &mut Vec<u8>) -> Result<(), AllocError>
-    ensures { OnOk result ((tail : Items ℕ) × IsTailOf summary session.now tail × (out.new.items ≡ out.old.items ++ tail)) }
+/// Writes the summary line of a log that was read to its end, where it is asked for.
+fn push_summary(session: &Session, summary: bool, out: &mut Vec<u8>) -> Result<(), AllocError>
+    ensures { OnOk result ((line : Items ℕ) × IsSummaryOf summary session.now line × (out.new.items ≡ out.old.items ++ line)) }
 {
     if !summary {
         return Ok(());
     }
     push_summary_line(out, &summary_of(session))
+}
+
+/// Writes what stands behind the text of a log that was read to its end: the summary line, where
+/// it is asked for, and the listeners' pages.
+fn push_tail(
+    session: &Session,
+    summary: bool,
+    listeners: &[Box<dyn Listener>],
+    out: &mut Vec<u8>,
+) -> Result<(), AllocError>
+    ensures { OnOk result ((tail : Items ℕ) × IsTailOf summary (map (λ b. (kind b, figures b)) listeners.now) session.now tail × (out.new.items ≡ out.old.items ++ tail)) }
+{
+    push_summary(session, summary, out)?;
+    push_pages(out, listeners)?;
+    Ok(())
 }
 
 /// The text of a last line that has no line feed, and what stands behind it.
@@ -113,13 +159,15 @@ fn take_end(
     session: &mut Session,
     lines: &mut Lines,
     summary: bool,
+    listeners: &mut Vec<Box<dyn Listener>>,
 ) -> Result<Vec<u8>, AllocError>
     requires ready { IsReady session.old }
     requires limit { lines.old.limit ≡ 4096 }
-    ensures { IfOk result (λ v. TakesEnd summary lines.old session.old session.new v.items) }
+    ensures { IfOk result (λ v. TakesEnd summary (map (λ b. (kind b, figures b)) listeners.old.items) lines.old session.old session.new v.items) }
 {
-    let mut text = take_rest(alloc, session, lines)?;
-    push_tail(session, summary, &mut text)?;
+    let output = take_rest(alloc, session, lines)?;
+    let mut text = tell(listeners, output)?;
+    push_tail(session, summary, listeners.as_slice(), &mut text)?;
     Ok(text)
 }
 
@@ -130,15 +178,16 @@ fn finish<D: Desk>(
     mut session: Session,
     mut lines: Lines,
     summary: bool,
+    mut listeners: Vec<Box<dyn Listener>>,
 ) -> Status
     requires ready { IsReady session }
     requires limit { lines.limit ≡ 4096 }
     ensures inputs { D.inputs desk.new ≡ D.inputs desk.old }
     ensures words { result ≡ Status.Words → ⊥ }
     ensures causes { HasCauses (D.in_faults desk.old) (D.in_faults desk.new) (D.out_faults desk.old) (D.out_faults desk.new) result }
-    ensures told { D.tells ≡ true → Finishes summary (D.told desk.old) session lines result (D.told desk.new) }
+    ensures told { D.tells ≡ true → Finishes summary (map (λ b. (kind b, figures b)) listeners.items) (D.told desk.old) session lines result (D.told desk.new) }
 {
-    let Ok(text) = take_end(alloc, &mut session, &mut lines, summary) else {
+    let Ok(text) = take_end(alloc, &mut session, &mut lines, summary, &mut listeners) else {
         return Status::Memory;
     };
     let refused = session.counts.refused > 0;
@@ -146,7 +195,8 @@ fn finish<D: Desk>(
 }
 
 /// Reads a log that was just opened to its end, and writes the text of its lines before each next
-/// read; behind the last, where a summary is asked for, the summary line.
+/// read; behind the last, where a summary is asked for, the summary line, and then the pages of the
+/// listeners, who are told of each recognition that is printed.
 pub fn read_log<D: Desk>(
     alloc: Global,
     desk: &mut D,
@@ -154,6 +204,7 @@ pub fn read_log<D: Desk>(
     limit: u64,
     mut session: Session,
     summary: bool,
+    mut listeners: Vec<Box<dyn Listener>>,
 ) -> Status
     requires opened { log < D.inputs desk.old }
     requires fresh { D.tells ≡ true → (stream_at (D.told desk.old).left log).taken ≡ 0 }
@@ -162,7 +213,7 @@ pub fn read_log<D: Desk>(
     ensures inputs { D.inputs desk.new ≡ D.inputs desk.old }
     ensures words { result ≡ Status.Words → ⊥ }
     ensures causes { HasCauses (D.in_faults desk.old) (D.in_faults desk.new) (D.out_faults desk.old) (D.out_faults desk.new) result }
-    ensures told { D.tells ≡ true → (f : Frame) → Represents f session (at_start f.texts) → HasReadLog (tail_of summary) f (D.told desk.old) log limit result (D.told desk.new) }
+    ensures told { D.tells ≡ true → (f : Frame) → Represents f session (at_start f.texts) → HasReadLog (tail_of session.engine.focus summary (map (λ b. (kind b, figures b)) listeners.items)) f (D.told desk.old) log limit result (D.told desk.new) }
 {
     let Ok(mut lines) = Lines::new(alloc, LINE_LIMIT) else {
         return Status::Memory;
@@ -177,10 +228,16 @@ pub fn read_log<D: Desk>(
             Err(DeskError::Memory) => return Status::Memory,
         };
         if count == 0 {
-            return finish(alloc, desk, session, lines, summary);
+            return finish(alloc, desk, session, lines, summary, listeners);
         }
         taken += count as u64;
-        let Ok(text) = take_piece(alloc, &mut session, &mut lines, &buf[..count]) else {
+        let Ok(text) = tell_piece(
+            alloc,
+            &mut session,
+            &mut lines,
+            &mut listeners,
+            &buf[..count],
+        ) else {
             return Status::Memory;
         };
         match write_all(desk, text.as_slice()) {

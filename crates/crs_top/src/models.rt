@@ -11,20 +11,21 @@ use crs_engine::Engine;
 use crs_model::ModelRefused;
 use std::alloc::Global;
 
-/// A session at the start of a log, with the models that the text means. The table that the log's
-/// symbols will go into hashes them from the seed.
+/// A session at the start of a log, with the models that the text means. With focus the levels of
+/// events are read. The table that the log's symbols will go into hashes them from the seed.
 pub fn prepare(
     alloc: Global,
     text: &[u8],
+    focus: bool,
     limits: Limits,
     seed: u64,
 ) -> Result<Session, ModelRefused>
-    ensures ok { IfOk result (IsPrepared limits.symbols limits.entries text.now) }
+    ensures ok { IfOk result (IsPrepared focus limits.symbols limits.entries text.now) }
     ensures refused { IfErr result (IsFaultyText limits.symbols text.now) }
 {
     let (models, symbols) = read_text(alloc, text, limits.symbols, seed)?;
     let plans = compile(alloc, models)?;
-    let engine = Engine::new(alloc, plans, false, limits.entries)?;
+    let engine = Engine::new(alloc, plans, focus, limits.entries)?;
     let peak = engine.kept();
     Ok(Session {
         engine,

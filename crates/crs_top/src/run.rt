@@ -20,34 +20,49 @@ use crate::session::Session;
 use crate::status::Status;
 use crate::table::import_table;
 use crs_desk::{Desk, DeskError};
+use crs_report::{Listener, keep_kinds};
 use crs_words::{Command, read_words, usage_text};
 use std::alloc::Global;
 
 /// Runs the command that the words ask for, at the program's limits.
-pub fn run_program<D: Desk>(alloc: Global, words: &[String], desk: &mut D) -> Status
+///
+/// A run tells the listeners of each recognition that it prints, and writes the pages of those that
+/// stay last. First it drops those whose kind the words don't ask for.
+pub fn run_program<D: Desk>(
+    alloc: Global,
+    words: &[String],
+    desk: &mut D,
+    listeners: Vec<Box<dyn Listener>>,
+) -> Status
     requires { D.inputs desk.old < 2 ^ 31 }
     ensures words { result ≡ Status.Words → command_of (map string_bytes words.now) ≡ None }
     ensures no_command { command_of (map string_bytes words.now) ≡ None → (result ≡ Status.Words) ⊎ (result ≡ Status.WriteFault) ⊎ (result ≡ Status.Memory) }
     ensures causes { HasCauses (D.in_faults desk.old) (D.in_faults desk.new) (D.out_faults desk.old) (D.out_faults desk.new) result }
     ensures least { D.inputs desk.old ≤ D.inputs desk.new }
     ensures most { D.inputs desk.new ≤ D.inputs desk.old + 2 }
-    ensures told { D.tells ≡ true → Does (D.inputs desk.old) (D.inputs desk.new) standard (D.told desk.old) (command_of (map string_bytes words.now)) result (D.told desk.new) }
+    ensures told { D.tells ≡ true → Does (D.inputs desk.old) (D.inputs desk.new) standard (map (λ b. (kind b, figures b)) listeners.items) (D.told desk.old) (command_of (map string_bytes words.now)) result (D.told desk.new) }
     ensures complete { D.tells ≡ true → CompletesCommand standard (D.told desk.old) (command_of (map string_bytes words.now))
         (Rose (D.in_faults desk.old) (D.in_faults desk.new) ⊎ Rose (D.out_faults desk.old) (D.out_faults desk.new)) result }
     ensures unrefused { D.tells ≡ true → IsUnrefused (D.told desk.old) (command_of (map string_bytes words.now)) result (D.told desk.new) }
 {
-    run_with(alloc, words, STANDARD, desk)
+    run_with(alloc, words, STANDARD, desk, listeners)
 }
 
 /// Runs the command that the words ask for.
-pub fn run_with<D: Desk>(alloc: Global, words: &[String], limits: Limits, desk: &mut D) -> Status
+pub fn run_with<D: Desk>(
+    alloc: Global,
+    words: &[String],
+    limits: Limits,
+    desk: &mut D,
+    mut listeners: Vec<Box<dyn Listener>>,
+) -> Status
     requires { D.inputs desk.old < 2 ^ 31 }
     ensures words { result ≡ Status.Words → command_of (map string_bytes words.now) ≡ None }
     ensures no_command { command_of (map string_bytes words.now) ≡ None → (result ≡ Status.Words) ⊎ (result ≡ Status.WriteFault) ⊎ (result ≡ Status.Memory) }
     ensures causes { HasCauses (D.in_faults desk.old) (D.in_faults desk.new) (D.out_faults desk.old) (D.out_faults desk.new) result }
     ensures least { D.inputs desk.old ≤ D.inputs desk.new }
     ensures most { D.inputs desk.new ≤ D.inputs desk.old + 2 }
-    ensures told { D.tells ≡ true → Does (D.inputs desk.old) (D.inputs desk.new) (most_of limits) (D.told desk.old) (command_of (map string_bytes words.now)) result (D.told desk.new) }
+    ensures told { D.tells ≡ true → Does (D.inputs desk.old) (D.inputs desk.new) (most_of limits) (map (λ b. (kind b, figures b)) listeners.items) (D.told desk.old) (command_of (map string_bytes words.now)) result (D.told desk.new) }
     ensures complete { D.tells ≡ true → CompletesCommand (most_of limits) (D.told desk.old) (command_of (map string_bytes words.now))
         (Rose (D.in_faults desk.old) (D.in_faults desk.new) ⊎ Rose (D.out_faults desk.old) (D.out_faults desk.new)) result }
 {
@@ -57,42 +72,51 @@ pub fn run_with<D: Desk>(alloc: Global, words: &[String], limits: Limits, desk: 
         Ok(
             Some(
                 Command::Run {
+                    focus,
                     summary,
+                    tally,
                     models,
                     log,
                 },
             ),
-        ) => recognise(alloc, desk, models, log, limits, summary),
+        ) => {
+            keep_kinds(&mut listeners, &tally.kinds());
+            recognise(alloc, desk, models, log, limits, focus, summary, listeners)
+        }
         Ok(Some(Command::Print { listing, models })) => {
             print(alloc, desk, models, listing, limits.symbols)
         }
-        Ok(Some(Command::Drill { seed, lines })) => drill(alloc, desk, seed, lines, limits),
+        Ok(Some(Command::Drill { focus, seed, lines })) => {
+            drill(alloc, desk, focus, seed, lines, limits)
+        }
         Ok(Some(Command::Import { table })) => import_table(alloc, desk, table),
     }
 }
 
-/// Reads the models, and then the log.
+/// Reads the models, and then the log, with the levels of events read or not.
 fn recognise<D: Desk>(
     alloc: Global,
     desk: &mut D,
     models: &str,
     log: &str,
     limits: Limits,
+    focus: bool,
     summary: bool,
+    listeners: Vec<Box<dyn Listener>>,
 ) -> Status
     requires { D.inputs desk.old < 2 ^ 31 }
     ensures words { result ≡ Status.Words → ⊥ }
     ensures causes { HasCauses (D.in_faults desk.old) (D.in_faults desk.new) (D.out_faults desk.old) (D.out_faults desk.new) result }
     ensures least { D.inputs desk.old ≤ D.inputs desk.new }
     ensures most { D.inputs desk.new ≤ D.inputs desk.old + 2 }
-    ensures told { D.tells ≡ true → Runs (D.inputs desk.old) (D.inputs desk.new) (tail_of summary) (most_of limits) (D.told desk.old) models.now log.now result (D.told desk.new) }
+    ensures told { D.tells ≡ true → Runs (D.inputs desk.old) (D.inputs desk.new) (tail_of focus summary (map (λ b. (kind b, figures b)) listeners.items)) (most_of limits) (D.told desk.old) models.now log.now result (D.told desk.new) }
 {
     let text = match load(alloc, desk, models, MODELS_LIMIT, MODELS_TOO_LONG) {
         Ok(text) => text,
         Err(status) => return status,
     };
-    match prepare(alloc, text.as_slice(), limits, desk.seed()) {
-        Ok(session) => follow(alloc, desk, log, limits.bytes, session, summary),
+    match prepare(alloc, text.as_slice(), focus, limits, desk.seed()) {
+        Ok(session) => follow(alloc, desk, log, limits.bytes, session, summary, listeners),
         Err(refused) => refuse(alloc, desk, refused),
     }
 }
@@ -105,6 +129,7 @@ fn follow<D: Desk>(
     limit: u64,
     session: Session,
     summary: bool,
+    listeners: Vec<Box<dyn Listener>>,
 ) -> Status
     requires inputs { D.inputs desk.old < 2 ^ 32 - 1 }
     requires ready { IsReady session }
@@ -114,12 +139,12 @@ fn follow<D: Desk>(
     ensures least { D.inputs desk.old ≤ D.inputs desk.new }
     ensures most { D.inputs desk.new ≤ D.inputs desk.old + 1 }
     ensures told { D.tells ≡ true → (f : Frame) → Represents f session (at_start f.texts)
-        → Follows (D.inputs desk.old) (D.inputs desk.new) (tail_of summary) f limit (D.told desk.old) log.now result (D.told desk.new) }
+        → Follows (D.inputs desk.old) (D.inputs desk.new) (tail_of session.engine.focus summary (map (λ b. (kind b, figures b)) listeners.items)) f limit (D.told desk.old) log.now result (D.told desk.new) }
 {
     let input = match desk.open(log) {
         Ok(input) => input,
         Err(DeskError::Failed) => return Status::ReadFault,
         Err(DeskError::Memory) => return Status::Memory,
     };
-    read_log(alloc, desk, input, limit, session, summary)
+    read_log(alloc, desk, input, limit, session, summary, listeners)
 }

@@ -1,7 +1,6 @@
 // What is known between two lines of a log.
 ghost use Rattle.std.specs.Prelude.{◌≡◌};
 ghost use Rattle.crs_engine.specs.Engines.{kept_of};
-ghost use Rattle.crs_top.specs.Session.{IsUnfocused};
 ghost use Rattle.crs_top.specs.Tallies.{with_refused, with_mark};
 
 use crs_base::Symbols;
@@ -42,8 +41,7 @@ impl Session {
 
     /// Counts the recognitions of a mark that was just met, and what is held behind it.
     pub fn count_mark(&mut self, recognitions: usize)
-        ensures counted { self.new ≡ record self.old { counts = with_mark self.old.counts recognitions (kept_of self.old.engine) } }
-        ensures unfocused { IsUnfocused self.old.engine }
+        ensures { self.new ≡ record self.old { counts = with_mark self.old.counts recognitions (kept_of self.old.engine) } }
     {
         let kept = self.engine.kept();
         self.counts.recognitions = self.counts.recognitions.saturating_add(recognitions as u64);

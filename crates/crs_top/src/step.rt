@@ -1,5 +1,5 @@
 // One line of a log.
-ghost use Rattle.std.specs.Prelude.{◌≡◌, ◌≤◌, ◌<◌, ◌^◌, ◌||◌, ◌&&◌, ◌++◌, ℕ, List as Items, OnOk, flat_map, true};
+ghost use Rattle.std.specs.Prelude.{◌≡◌, ◌≤◌, ◌<◌, ◌^◌, ◌||◌, ◌&&◌, ℕ, List as Items, OnOk, true};
 ghost use Rattle.crs_log.specs.Given.{seen};
 ghost use Rattle.crs_log.specs.Items.{Clock, Finish as LogEnd, Happens, IsItem};
 ghost use Rattle.crs_log.specs.Known.{known_of};
@@ -9,18 +9,19 @@ ghost use Rattle.crs_log.specs.SeenNames.{name_seen, IsTextAt};
 ghost use Rattle.crs_log.specs.Known.{Named};
 ghost use Rattle.std.specs.Prelude.{map};
 ghost use Rattle.crs_log.specs.Run.{after_given, after_what};
-ghost use Rattle.crs_top.specs.Session.{IsReady, IsOpen, IsUnused, BringsAll, IsShort, ArePrintable, line_in, number_of, ordered_what, is_blank_what, is_delay_what};
+ghost use Rattle.crs_top.specs.Session.{IsReady, IsOpen, IsUnused, BringsAll, IsShort, number_of, ordered_what, is_blank_what, is_delay_what};
 ghost use Rattle.crs_top.specs.Tallies.{with_refused};
 ghost use Rattle.crs_top.specs.Texts.{setting_of};
+ghost use Rattle.crs_top.specs.Written.{with_text};
 ghost use Rattle.crs_report.specs.Lines.{refusal_line};
 
+use crate::output::Output;
 use crate::session::Session;
-use crs_base::{Steps, Sym, Symbols, Token};
+use crs_base::{Steps, Sym, Token};
 use crs_engine::Refused;
 use crs_log::naming::{NameRefused, known};
 use crs_log::{EntryRefused, Item, ItemRefused, Known, Line, Raw, make_named, read_item};
-use crs_model::{Plans, Recognition};
-use crs_report::{Fault, push_line_of, push_refusal_line};
+use crs_report::Fault;
 use std::alloc::{AllocError, Global};
 use std::marker::Brand;
 use std::sync::ledger::{Blank, Ledger};
@@ -30,12 +31,12 @@ fn refuse(
     session: &mut Session,
     number: u64,
     fault: Fault,
-    out: &mut Vec<u8>,
+    out: &mut Output,
 ) -> Result<(), AllocError>
-    ensures written { OnOk result (out.new.items ≡ out.old.items ++ refusal_line number fault) }
+    ensures written { OnOk result (out.new ≡ with_text out.old (refusal_line number fault)) }
     ensures noted { OnOk result (session.new ≡ record session.old { counts = with_refused session.old.counts }) }
 {
-    push_refusal_line(out, number, fault)?;
+    out.push_refusal(number, fault)?;
     session.count_refused();
     Ok(())
 }
@@ -46,7 +47,7 @@ fn take_clock<L: Ledger>(
     session: &mut Session,
     number: u64,
     t: u64,
-    out: &mut Vec<u8>,
+    out: &mut Output,
 ) -> Result<(), AllocError>
     requires ready { IsReady session.old }
     requires open { IsOpen session.old }
@@ -55,13 +56,12 @@ fn take_clock<L: Ledger>(
     requires name { blank.name ≡ L.name }
     requires parts { blank.parts ≡ L.parts }
     requires some { 0 < L.parts }
-    ensures { OnOk result (BringsAll session.old session.new number (λ f s. after_ordered (setting_of f) s (Clock t)) out.old.items out.new.items) }
+    ensures { OnOk result (BringsAll session.old session.new number (λ f s. after_ordered (setting_of f) s (Clock t)) out.old out.new) }
 {
     match session.engine.clock(t, &mut Steps::<L>::new(blank)) {
         Ok(answer) => {
-            let found = answer.as_slice();
-            session.count_mark(found.len());
-            push_answer(session.engine.plans(), &session.symbols, found, out)
+            session.count_mark(answer.len());
+            out.push_answer(session.engine.plans(), &session.symbols, answer)
         }
         Err(Refused::Back { t, last }) => refuse(session, number, Fault::Back { t, last }, out),
         Err(_) => Err(AllocError),
@@ -73,7 +73,7 @@ fn take_end<L: Ledger>(
     blank: Blank,
     session: &mut Session,
     number: u64,
-    out: &mut Vec<u8>,
+    out: &mut Output,
 ) -> Result<(), AllocError>
     requires ready { IsReady session.old }
     requires open { IsOpen session.old }
@@ -81,14 +81,13 @@ fn take_end<L: Ledger>(
     requires name { blank.name ≡ L.name }
     requires parts { blank.parts ≡ L.parts }
     requires some { 0 < L.parts }
-    ensures { OnOk result (BringsAll session.old session.new number (λ f s. after_ordered (setting_of f) s LogEnd) out.old.items out.new.items) }
+    ensures { OnOk result (BringsAll session.old session.new number (λ f s. after_ordered (setting_of f) s LogEnd) out.old out.new) }
 {
     match session.engine.finish(&mut Steps::<L>::new(blank)) {
         Ok(answer) => {
             session.ended = true;
-            let found = answer.as_slice();
-            session.count_mark(found.len());
-            push_answer(session.engine.plans(), &session.symbols, found, out)
+            session.count_mark(answer.len());
+            out.push_answer(session.engine.plans(), &session.symbols, answer)
         }
         Err(_) => Err(AllocError),
     }
@@ -103,7 +102,7 @@ fn accept_event(
     line: &[u8],
     raw: &Raw,
     name: Sym,
-    out: &mut Vec<u8>,
+    out: &mut Output,
 ) -> Result<(), AllocError>
     requires ready { IsReady session.old }
     requires met { session.old.met ≡ true }
@@ -112,7 +111,7 @@ fn accept_event(
     requires due { session.old.engine.horizon ≤ raw.now.date }
     requires name { IsTextAt session.old.symbols.texts (text_of line.now raw.now.name) name }
     requires named { (place : ℕ) × (known_of (map (name_seen session.old.symbols.texts) session.old.engine.plans.names) (event_seen line.now raw.now) ≡ Named place) }
-    ensures { OnOk result (BringsAll session.old session.new number (λ f s. after_named (setting_of f) s (event_seen line.now raw.now)) out.old.items out.new.items) }
+    ensures { OnOk result (BringsAll session.old session.new number (λ f s. after_named (setting_of f) s (event_seen line.now raw.now)) out.old out.new) }
 {
     if session.engine.is_full() {
         let limit = session.entries;
@@ -139,13 +138,13 @@ fn take_event(
     number: u64,
     line: &[u8],
     raw: &Raw,
-    out: &mut Vec<u8>,
+    out: &mut Output,
 ) -> Result<(), AllocError>
     requires ready { IsReady session.old }
     requires met { session.old.met ≡ true }
     requires item { IsItem line.now (Happens (event_seen line.now raw.now)) }
     requires date { raw.now.date < 2 ^ 40 }
-    ensures { OnOk result (BringsAll session.old session.new number (λ f s. after_ordered (setting_of f) s (Happens (event_seen line.now raw.now))) out.old.items out.new.items) }
+    ensures { OnOk result (BringsAll session.old session.new number (λ f s. after_ordered (setting_of f) s (Happens (event_seen line.now raw.now))) out.old out.new) }
 {
     match session.engine.test_date(raw.date) {
         Ok(()) => {}
@@ -190,7 +189,7 @@ fn take_ordered(
     number: u64,
     line: &[u8],
     item: Item,
-    out: &mut Vec<u8>,
+    out: &mut Output,
 ) -> Result<(), AllocError>
     requires ready { IsReady session.old }
     requires open { IsOpen session.old }
@@ -198,7 +197,7 @@ fn take_ordered(
     requires range { IsInRange item }
     requires read { IsRead line.now item }
     requires fresh { is_delay_what (what_seen line.now item) ≡ true → IsUnused session.old.engine }
-    ensures { OnOk result (BringsAll session.old session.new number (λ f s. ordered_what (setting_of f) s (what_seen line.now item)) out.old.items out.new.items) }
+    ensures { OnOk result (BringsAll session.old session.new number (λ f s. ordered_what (setting_of f) s (what_seen line.now item)) out.old out.new) }
 {
     match item {
         Item::Blank => Ok(()),
@@ -219,12 +218,12 @@ fn take_item(
     number: u64,
     line: &[u8],
     item: Item,
-    out: &mut Vec<u8>,
+    out: &mut Output,
 ) -> Result<(), AllocError>
     requires ready { IsReady session.old }
     requires range { IsInRange item }
     requires read { IsRead line.now item }
-    ensures { OnOk result (BringsAll session.old session.new number (λ f s. after_what (setting_of f) s (what_seen line.now item)) out.old.items out.new.items) }
+    ensures { OnOk result (BringsAll session.old session.new number (λ f s. after_what (setting_of f) s (what_seen line.now item)) out.old out.new) }
 {
     if is_blank(&item) {
         return Ok(());
@@ -243,11 +242,11 @@ pub fn take_line(
     session: &mut Session,
     line: Line<'_>,
     tokens: &mut Vec<Token>,
-    out: &mut Vec<u8>,
+    out: &mut Output,
 ) -> Result<(), AllocError>
     requires ready { IsReady session.old }
     requires short { IsShort (seen line) }
-    ensures { OnOk result (BringsAll session.old session.new (number_of (seen line.entry)) (λ f s. after_given (setting_of f) s (seen line.entry)) out.old.items out.new.items) }
+    ensures { OnOk result (BringsAll session.old session.new (number_of (seen line.entry)) (λ f s. after_given (setting_of f) s (seen line.entry)) out.old out.new) }
 {
     match line {
         Line::Long { number } => refuse(session, number, Fault::Long, out),
@@ -257,20 +256,4 @@ pub fn take_line(
             Err(ItemRefused::Memory) => Err(AllocError),
         },
     }
-}
-
-/// Writes the lines of recognitions, in order.
-fn push_answer(
-    plans: &Plans,
-    symbols: &Symbols,
-    answer: &[Recognition],
-    out: &mut Vec<u8>,
-) -> Result<(), AllocError>
-    requires { ArePrintable plans.now symbols.now.texts answer.now }
-    ensures { OnOk result (out.new.items ≡ out.old.items ++ flat_map (line_in plans.now symbols.now.texts) answer.now) }
-{
-    for r in answer {
-        push_line_of(out, plans, symbols, r)?;
-    }
-    Ok(())
 }

@@ -3,6 +3,7 @@ ghost use Rattle.crs_desk.specs.Memory.{memory_inputs};
 
 use crate::{Limits, STANDARD, Status, run_with};
 use crs_desk::MemoryDesk;
+use crs_report::{CountByModel, FirstLast, FirstN, Listener, LongestSpan};
 use std::alloc::{AllocError, Global};
 use std::test::Fail;
 
@@ -10,7 +11,7 @@ const MODELS: &str =
     "message a 0\nmessage b 0\nchronicle c {\n  event(a, t1)\n  event(b, t2)\n  t2 - t1 in [1, 5]\n}\n";
 
 const USAGE: &str =
-    "usage: crs run [--summary] MODELS LOG\n       crs model [--minimal] MODELS\n       crs drill SEED N\n       crs import CSV\n";
+    "usage: crs run [--focus] [--summary] [--tally KINDS] MODELS LOG\n       crs model [--minimal] MODELS\n       crs drill [--focus] SEED N\n       crs import CSV\n";
 
 fn words_in(alloc: Global, line: &str) -> Result<Vec<String>, AllocError> {
     let mut words = Vec::new(alloc);
@@ -128,7 +129,13 @@ fn worked_logs(rt: HostRuntime) -> Result<(), Fail> {
             let mut desk = desk_of(alloc, models, log)?;
             desk.set_piece(piece);
             assert_eq!(rt;
-                run_with(alloc, words.as_slice(), STANDARD, &mut desk),
+                run_with(
+                    alloc,
+                    words.as_slice(),
+                    STANDARD,
+                    &mut desk,
+                    Vec::new(alloc)
+                ),
                 status
             );
             assert!(rt; desk.written() == output.as_bytes(), "in pieces of {piece}");
@@ -147,7 +154,13 @@ fn long_line(rt: HostRuntime) -> Result<(), Fail> {
     desk.add_file("m", MODELS.as_bytes())?;
     desk.add_file("l", &log)?;
     assert_eq!(rt;
-        run_with(alloc, words.as_slice(), STANDARD, &mut desk),
+        run_with(
+            alloc,
+            words.as_slice(),
+            STANDARD,
+            &mut desk,
+            Vec::new(alloc)
+        ),
         Status::Refusals
     );
     assert!(rt; desk.written() == "line 1 long\nline 3 arity\nc at 7 t1=5 t2=6\n".as_bytes());
@@ -214,7 +227,7 @@ fn small_limits(rt: HostRuntime) -> Result<(), Fail> {
         };
         let mut desk = desk_of(alloc, models, log)?;
         assert_eq!(rt;
-            run_with(alloc, words.as_slice(), limits, &mut desk),
+            run_with(alloc, words.as_slice(), limits, &mut desk, Vec::new(alloc)),
             status
         );
         assert!(rt; desk.written() == output.as_bytes());
@@ -241,18 +254,30 @@ fn failing_calls(rt: HostRuntime) -> Result<(), Fail> {
         desk.fail_read("l", read)?;
         desk.fail_write(write)?;
         assert_eq!(rt;
-            run_with(alloc, words.as_slice(), STANDARD, &mut desk),
+            run_with(
+                alloc,
+                words.as_slice(),
+                STANDARD,
+                &mut desk,
+                Vec::new(alloc)
+            ),
             status
         );
         assert!(rt; desk.written() == lines.as_bytes());
     }
     let mut desk = MemoryDesk::new(alloc);
     assert_eq!(rt;
-        run_with(alloc, words.as_slice(), STANDARD, &mut desk),
+        run_with(
+            alloc,
+            words.as_slice(),
+            STANDARD,
+            &mut desk,
+            Vec::new(alloc)
+        ),
         Status::ReadFault
     );
     assert_eq!(rt;
-        run_with(alloc, &words[..2], STANDARD, &mut desk),
+        run_with(alloc, &words[..2], STANDARD, &mut desk, Vec::new(alloc)),
         Status::Words
     );
     assert!(rt; desk.written() == USAGE.as_bytes());
@@ -325,7 +350,13 @@ fn printed_models(rt: HostRuntime) -> Result<(), Fail> {
         let mut desk = MemoryDesk::new(alloc);
         desk.add_file("m", models.as_bytes())?;
         assert_eq!(rt;
-            run_with(alloc, words.as_slice(), STANDARD, &mut desk),
+            run_with(
+                alloc,
+                words.as_slice(),
+                STANDARD,
+                &mut desk,
+                Vec::new(alloc)
+            ),
             status
         );
         assert!(rt; desk.written() == output.as_bytes());
@@ -356,10 +387,145 @@ fn summaries(rt: HostRuntime) -> Result<(), Fail> {
     ] {
         let mut desk = desk_of(alloc, MODELS, log)?;
         assert_eq!(rt;
-            run_with(alloc, words.as_slice(), STANDARD, &mut desk),
+            run_with(
+                alloc,
+                words.as_slice(),
+                STANDARD,
+                &mut desk,
+                Vec::new(alloc)
+            ),
             status
         );
         assert!(rt; desk.written() == output.as_bytes());
+    }
+    Ok(())
+}
+
+#[test]
+fn levels(rt: HostRuntime) -> Result<(), Fail> {
+    let alloc = rt.alloc();
+    let models =
+        "message often 0\nmessage mid 0\nmessage rare 0\nchronicle lv {\nevent(often, t1) level 2\nevent(mid, t2) level 1\nevent(rare, t3)\nt3 - t1 in [0, 10]\nt2 - t3 in [0, 90]\n}\n";
+    let apart = "5 often\n8 often\n12 rare\nclock 13\n102 mid\nclock 103\n";
+    let late = "12 rare\n12 often\nclock 13\n12 mid\n";
+    let one_date = "12 mid\n12 often\n12 rare\nclock 13\n";
+    // no levels stand in these models
+    let battery =
+        "message heater_on 1\nmessage heater_off 1\nmessage low_volt 2\nattribute charge 1 in (full, part, low)\nchronicle drain {\n  event(heater_on[?b], t1)\n  event(charge[?b]: (part, low), t2)\n  t2 - t1 in [1, 60]\n  noevent(heater_off[?b], (t1, t2))\n}\nchronicle undervolt {\n  event(low_volt[?b, ?p], t1)\n  event(low_volt[?b, ?p], t2)\n  t2 - t1 in [10, 30]\n  hold(charge[?b]: low, (t1, t2 + 5))\n}\n";
+    let day =
+        "# battery unit, day 112\ndelay 5\n100 charge[b1]: (full, part)\n100 charge[b2]: (full, part)\n110 heater_on[b1]\n112 heater_on[b2]\nclock 115\n120 heater_off[b2]\n131 charge[b1]: (part, low)\n129 telemetry[frame7]\nclock 135\n140 charge[b2]: (part, low)\n142 low_volt[b1,p1]\n138 low_volt[b1,p2]\nclock 145\n139 low_volt[b1,p1]\n\n150 heater_on[b1]\n152 low_volt[b1,p1]\n155 low_volt[b1,p2]\nclock 160\n160 charge[b1]: (low, part)\n161 low_volt[b1,p1]\nclock 166\n170 charge[b1]: (part, low)\n171 charge[b1]: (broken)\n172 charge[b1]: (low, empty)\nclock 180\n200 heater_off[b1]\nend\n";
+    let told =
+        "drain at 145 t1=110 t2=131 ?b=b1\nline 16 late 139 140\nundervolt at 166 t1=138 t2=155 ?b=b1 ?p=p2\nundervolt at 166 t1=142 t2=152 ?b=b1 ?p=p1\nline 26 form\nline 27 value\ndrain at 180 t1=110 t2=170 ?b=b1\ndrain at 180 t1=150 t2=170 ?b=b1\nsummary entries 16 refused 3 recognitions 5 kept 2 peak 9\n";
+    for (words, models, log, status, output) in [
+        (
+            "run --summary m l",
+            models,
+            apart,
+            Status::Done,
+            "lv at 103 t1=5 t2=102 t3=12\nlv at 103 t1=8 t2=102 t3=12\nsummary entries 4 refused 0 recognitions 2 kept 1 peak 5\n",
+        ),
+        (
+            "run --focus --summary m l",
+            models,
+            apart,
+            Status::Done,
+            "lv at 103 t1=5 t2=102 t3=12\nlv at 103 t1=8 t2=102 t3=12\nsummary entries 4 refused 0 recognitions 2 kept 1 peak 2\n",
+        ),
+        (
+            "run --focus m l",
+            models,
+            late,
+            Status::Refusals,
+            "line 4 late 12 13\n",
+        ),
+        (
+            "run --focus --summary m l",
+            models,
+            late,
+            Status::Refusals,
+            "line 4 late 12 13\nsummary entries 2 refused 1 recognitions 0 kept 2 peak 2\n",
+        ),
+        (
+            "run --focus m l",
+            models,
+            one_date,
+            Status::Done,
+            "lv at 13 t1=12 t2=12 t3=12\n",
+        ),
+        ("run --summary m l", battery, day, Status::Refusals, told),
+        (
+            "run m l --summary --focus",
+            battery,
+            day,
+            Status::Refusals,
+            told,
+        ),
+    ] {
+        let words = words_in(alloc, words)?;
+        let mut desk = desk_of(alloc, models, log)?;
+        assert_eq!(rt;
+            run_with(
+                alloc,
+                words.as_slice(),
+                STANDARD,
+                &mut desk,
+                Vec::new(alloc)
+            ),
+            status
+        );
+        assert!(rt; desk.written() == output.as_bytes(), "{output}");
+    }
+    Ok(())
+}
+
+/// A listener in a box.
+fn boxed<L: Listener>(
+    alloc: Global,
+    listener: Result<L, AllocError>,
+) -> Result<Box<L>, AllocError> {
+    Ok(Box::new(alloc, listener?)?)
+}
+
+#[test]
+fn pages(rt: HostRuntime) -> Result<(), Fail> {
+    let alloc = rt.alloc();
+    let one = "delay 2\n10 a\n12 b\nclock 14\nclock 15\n";
+    let four = "1 a\n2 a\n4 b\nclock 5\n6 b\nclock 7\n";
+    for (words, log, pages) in [
+        (
+            "run --tally fewer m l",
+            "",
+            "tally fewer 0\ntally fewer 10\n",
+        ),
+        (
+            "run --tally count,span,longest m l",
+            "",
+            "tally count\ntally span\ntally longest\n",
+        ),
+        ("run m l", one, "c at 15 t1=10 t2=12\n"),
+        (
+            "run m --tally=fewer,count l --summary",
+            one,
+            "c at 15 t1=10 t2=12\nsummary entries 2 refused 0 recognitions 1 kept 2 peak 2\ntally count 1\ntally fewer 9\n",
+        ),
+        (
+            "run --tally count,span,longest,fewer m l",
+            four,
+            "c at 5 t1=1 t2=4\nc at 5 t1=2 t2=4\nc at 7 t1=1 t2=6\nc at 7 t1=2 t2=6\ntally count 4\ntally span 1 6\ntally longest 5 0 1\ntally fewer 6\n",
+        ),
+        ("run --tally odd m l", one, USAGE),
+    ] {
+        let words = words_in(alloc, words)?;
+        let mut listeners: Vec<Box<dyn Listener>> = Vec::new(alloc);
+        listeners.push(boxed(alloc, FirstN::new(alloc, 0))?)?;
+        listeners.push(boxed(alloc, CountByModel::new(alloc))?)?;
+        listeners.push(boxed(alloc, FirstLast::new(alloc))?)?;
+        listeners.push(boxed(alloc, LongestSpan::new(alloc))?)?;
+        listeners.push(boxed(alloc, FirstN::new(alloc, 10))?)?;
+        let mut desk = desk_of(alloc, MODELS, log)?;
+        desk.set_piece(7);
+        let _ = run_with(alloc, words.as_slice(), STANDARD, &mut desk, listeners);
+        assert!(rt; desk.written() == pages.as_bytes(), "{pages}");
     }
     Ok(())
 }
@@ -386,6 +552,27 @@ fn drills(rt: HostRuntime) -> Result<(), Fail> {
             99,
             Status::Done,
             "summary entries 0 refused 0 recognitions 0 kept 2 peak 2\n",
+        ),
+        (
+            "drill --focus 7 2",
+            STANDARD,
+            99,
+            Status::Done,
+            "summary entries 2 refused 0 recognitions 0 kept 2 peak 2\n",
+        ),
+        (
+            "drill 7 2000",
+            STANDARD,
+            99,
+            Status::Done,
+            "summary entries 2000 refused 0 recognitions 168 kept 2 peak 94\n",
+        ),
+        (
+            "drill --focus 7 2000",
+            STANDARD,
+            99,
+            Status::Done,
+            "summary entries 2000 refused 0 recognitions 168 kept 2 peak 15\n",
         ),
         ("drill 7 2", small, 99, Status::TooLong, ""),
         (
@@ -417,7 +604,7 @@ fn drills(rt: HostRuntime) -> Result<(), Fail> {
         desk.set_piece(10);
         desk.fail_write(write)?;
         assert_eq!(rt;
-            run_with(alloc, words.as_slice(), limits, &mut desk),
+            run_with(alloc, words.as_slice(), limits, &mut desk, Vec::new(alloc)),
             status
         );
         assert!(rt; desk.written() == output.as_bytes());

@@ -6,6 +6,8 @@ use Rattle.std.specs.Str.{bytes_eq}
 use Rattle.clap.specs.Words.{Row, first_of}
 use Rattle.crs_base.specs.Numbers.{number_of}
 use Rattle.crs_words.specs.declared.command.Listing.{Listing}
+use Rattle.crs_words.specs.declared.command.Tally.{Tally}
+use Rattle.crs_words.specs.Kinds.{tally_of}
 use Rattle.crs_words.specs.Apps.{run_app, model_app, drill_app, import_app}
 use Rattle.crs_words.specs.Commands.{Command, Run, Print, Drill, Import, in_bounds, number_within, rows_in, is_given, listing_of}
 use Rattle.crs_words.specs.Commands.{run_of, run_in, print_of, model_in, drill_of, drill_in, import_of, import_in, command_of}
@@ -37,27 +39,29 @@ word_bounded low high k (Some w) e = number_bounded low high k (number_of w) e
 -- a drill's numbers are within their bounds
 abbrev IsFine : Option Command → Type 0
 IsFine None = Unit {0}
-IsFine (Some (Run summary models log)) = Unit {0}
+IsFine (Some (Run focus summary tally models log)) = Unit {0}
 IsFine (Some (Print listing models)) = Unit {0}
-IsFine (Some (Drill seed lines)) = IsDrill seed lines
+IsFine (Some (Drill focus seed lines)) = IsDrill seed lines
 IsFine (Some (Import table)) = Unit {0}
 
-run_fine : (summary : Bool) (o p : Option (List ℕ)) → IsFine (run_of summary o p)
-run_fine summary (Some m) (Some l) = tt
-run_fine summary (Some m) None = tt
-run_fine summary None p = tt
+run_fine : (focus summary : Bool) (tally : Option Tally) (o p : Option (List ℕ)) → IsFine (run_of focus summary tally o p)
+run_fine focus summary (Some t) (Some m) (Some l) = tt
+run_fine focus summary (Some t) (Some m) None = tt
+run_fine focus summary (Some t) None p = tt
+run_fine focus summary None o p = tt
 
 print_fine : (listing : Listing) (o : Option (List ℕ)) → IsFine (print_of listing o)
 print_fine listing (Some m) = tt
 print_fine listing None = tt
 
-drill_fine : (o p : Option ℕ) → ((k : ℕ) → o ≡ Some k → AreWithin 1 2147483646 k) → ((k : ℕ) → p ≡ Some k → AreWithin 0 1000000 k)
-    → IsFine (drill_of o p)
-drill_fine (Some seed) (Some lines) h k =
+drill_fine : (focus : Bool) (o p : Option ℕ) → ((k : ℕ) → o ≡ Some k → AreWithin 1 2147483646 k)
+    → ((k : ℕ) → p ≡ Some k → AreWithin 0 1000000 k)
+    → IsFine (drill_of focus o p)
+drill_fine focus (Some seed) (Some lines) h k =
     let a = h seed refl in
     record { least = a.0; most = a.1; few = (k lines refl).1 }
-drill_fine (Some seed) None h k = tt
-drill_fine None p h k = tt
+drill_fine focus (Some seed) None h k = tt
+drill_fine focus None p h k = tt
 
 import_fine : (o : Option (List ℕ)) → IsFine (import_of o)
 import_fine (Some t) = tt
@@ -76,17 +80,19 @@ command_fine [] = tt
 command_fine (name ∷ rest) =
     either_fine (bytes_eq name (codes "run")) _ _
     (read_fine run_in (rows_in run_app (name ∷ rest))
-    (λ rows. run_fine (is_given (codes "summary") rows) (first_of (codes "models") rows) (first_of (codes "log") rows)))
+    (λ rows. run_fine (is_given (codes "focus") rows) (is_given (codes "summary") rows) (tally_of (first_of (codes "tally") rows))
+    (first_of (codes "models") rows) (first_of (codes "log") rows)))
     (either_fine (bytes_eq name (codes "model")) _ _
     (read_fine model_in (rows_in model_app (name ∷ rest))
     (λ rows. print_fine (listing_of (is_given (codes "minimal") rows)) (first_of (codes "models") rows)))
     (either_fine (bytes_eq name (codes "drill")) _ _
     (read_fine drill_in (rows_in drill_app (name ∷ rest))
-    (λ rows. drill_fine _ _ (λ k e. word_bounded 1 2147483646 k (first_of (codes "seed") rows) e)
+    (λ rows. drill_fine (is_given (codes "focus") rows) _ _ (λ k e. word_bounded 1 2147483646 k (first_of (codes "seed") rows) e)
     (λ k e. word_bounded 0 1000000 k (first_of (codes "lines") rows) e)))
     (either_fine (bytes_eq name (codes "import")) _ _
     (read_fine import_in (rows_in import_app (name ∷ rest)) (λ rows. import_fine (first_of (codes "table") rows)))
     tt)))
 
-pub drill_bounds : (words : List (List ℕ)) (seed lines : ℕ) → command_of words ≡ Some (Drill seed lines) → IsDrill seed lines
-drill_bounds words seed lines e = subst IsFine e (command_fine words)
+pub drill_bounds : (words : List (List ℕ)) (focus : Bool) (seed lines : ℕ) → command_of words ≡ Some (Drill focus seed lines)
+    → IsDrill seed lines
+drill_bounds words focus seed lines e = subst IsFine e (command_fine words)

@@ -7,6 +7,10 @@ use Rattle.clap.specs.declared.builder.action.ArgAction.TheVariants.{Set, SetTru
 abbrev pub flag : List ℕ → Rule
 flag id = record (new_rule id) { long = Some id; action = Some SetTrue }
 
+-- an option that takes a value
+abbrev pub valued : List ℕ → Rule
+valued id = record (new_rule id) { long = Some id; action = Some Set }
+
 -- a position that must be there
 abbrev pub position : List ℕ → Rule
 position id = record (new_rule id) { required = true; action = Some Set }
@@ -16,19 +20,25 @@ plain_app name =
     let a = new_app name in
     record a { top = record a.top { disable_help_flag = true; disable_version_flag = true } }
 
--- `run [--summary] MODELS LOG`
+-- `run [--focus] [--summary] [--tally KINDS]`
+abbrev pub run_options : App
+run_options =
+    let flags = with_rule (with_rule (plain_app (codes "run")) (flag (codes "focus"))) (flag (codes "summary")) in
+    with_rule flags (valued (codes "tally"))
+
+-- `run [--focus] [--summary] [--tally KINDS] MODELS LOG`
 abbrev pub run_app : App
-run_app =
-    let flagged = with_rule (plain_app (codes "run")) (flag (codes "summary")) in
-    with_rule (with_rule flagged (position (codes "models"))) (position (codes "log"))
+run_app = with_rule (with_rule run_options (position (codes "models"))) (position (codes "log"))
 
 -- `model [--minimal] MODELS`
 abbrev pub model_app : App
 model_app = with_rule (with_rule (plain_app (codes "model")) (flag (codes "minimal"))) (position (codes "models"))
 
--- `drill SEED N`
+-- `drill [--focus] SEED N`
 abbrev pub drill_app : App
-drill_app = with_rule (with_rule (plain_app (codes "drill")) (position (codes "seed"))) (position (codes "lines"))
+drill_app =
+    let optional = with_rule (plain_app (codes "drill")) (flag (codes "focus")) in
+    with_rule (with_rule optional (position (codes "seed"))) (position (codes "lines"))
 
 -- `import CSV`
 abbrev pub import_app : App

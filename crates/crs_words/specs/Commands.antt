@@ -6,24 +6,27 @@ use Rattle.clap.specs.Walk.{is_empty}
 use Rattle.clap.specs.Words.{App, Row, first_of, fault_of, matches_of}
 use Rattle.crs_base.specs.Numbers.{number_of}
 use Rattle.crs_words.specs.Apps.{run_app, model_app, drill_app, import_app}
+use Rattle.crs_words.specs.Kinds.{tally_of}
+use Rattle.crs_words.specs.declared.command.Tally.{Tally}
 use Rattle.crs_words.specs.declared.command.Listing.{Listing}
 use Rattle.crs_words.specs.declared.command.Listing.TheVariants.{Canonical, Minimal}
 use Rattle.crs_words.specs.declared.command.Command.{Command as CodeCommand}
 use Rattle.crs_words.specs.declared.command.Command.TheVariants as code
 
--- to recognise the models of the first name in the log of the second, with the numbers of the run behind it or without; to print the models of a
--- name; to write the numbers of a run over the made log of so many lines that a seed gives; to write the table of a name as a log
+-- to recognise the models of the first name in the log of the second, with the levels of events read or not, with the numbers of the run
+-- behind it or without, and with the pages of listeners; to print the models of a name; to write the numbers of a run over the made log of
+-- so many lines that a seed gives, with the levels of events read or not; to write the table of a name as a log
 pub data Command : Type 0 where
-  Run : (summary : Bool) → (models log : List ℕ) → Command
+  Run : (focus summary : Bool) → (tally : Tally) → (models log : List ℕ) → Command
   Print : (listing : Listing) → (models : List ℕ) → Command
-  Drill : (seed lines : ℕ) → Command
+  Drill : (focus : Bool) → (seed lines : ℕ) → Command
   Import : (table : List ℕ) → Command
 
 -- a command of the program
 abbrev pub command_seen : CodeCommand → Command
-command_seen (code.Run summary models log) = Run summary models.now log.now
+command_seen (code.Run focus summary tally models log) = Run focus summary tally models.now log.now
 command_seen (code.Print listing models) = Print listing models.now
-command_seen (code.Drill seed lines) = Drill seed lines
+command_seen (code.Drill focus seed lines) = Drill focus seed lines
 command_seen (code.Import table) = Import table.now
 
 abbrev pub is_true : Option (List ℕ) → Bool
@@ -41,13 +44,16 @@ rows_in app words = if is_empty (fault_of app words) then Some (matches_of app w
 abbrev pub read_by : App → (List Row → Option Command) → List (List ℕ) → Option Command
 read_by app command words = option_and_then command (rows_in app words)
 
-abbrev pub run_of : Bool → Option (List ℕ) → Option (List ℕ) → Option Command
-run_of summary (Some models) (Some log) = Some (Run summary models log)
-run_of summary (Some models) None = None
-run_of summary None log = None
+abbrev pub run_of : (focus summary : Bool) → Option Tally → Option (List ℕ) → Option (List ℕ) → Option Command
+run_of focus summary (Some tally) (Some models) (Some log) = Some (Run focus summary tally models log)
+run_of focus summary (Some tally) (Some models) None = None
+run_of focus summary (Some tally) None log = None
+run_of focus summary None models log = None
 
 abbrev pub run_in : List Row → Option Command
-run_in rows = run_of (is_given (codes "summary") rows) (first_of (codes "models") rows) (first_of (codes "log") rows)
+run_in rows =
+    run_of (is_given (codes "focus") rows) (is_given (codes "summary") rows) (tally_of (first_of (codes "tally") rows))
+    (first_of (codes "models") rows) (first_of (codes "log") rows)
 
 abbrev pub listing_of : Bool → Listing
 listing_of minimal = if minimal then Minimal else Canonical
@@ -66,15 +72,15 @@ in_bounds low high n = if nat_le low n && nat_le n high then Some n else None
 abbrev pub number_within : ℕ → ℕ → List ℕ → Option ℕ
 number_within low high word = option_and_then (in_bounds low high) (number_of word)
 
-abbrev pub drill_of : Option ℕ → Option ℕ → Option Command
-drill_of (Some seed) (Some lines) = Some (Drill seed lines)
-drill_of (Some seed) None = None
-drill_of None lines = None
+abbrev pub drill_of : Bool → Option ℕ → Option ℕ → Option Command
+drill_of focus (Some seed) (Some lines) = Some (Drill focus seed lines)
+drill_of focus (Some seed) None = None
+drill_of focus None lines = None
 
 -- a seed is 1 to 2147483646, and there are at most 1000000 lines
 abbrev pub drill_in : List Row → Option Command
 drill_in rows =
-    drill_of (option_and_then (number_within 1 2147483646) (first_of (codes "seed") rows))
+    drill_of (is_given (codes "focus") rows) (option_and_then (number_within 1 2147483646) (first_of (codes "seed") rows))
     (option_and_then (number_within 0 1000000) (first_of (codes "lines") rows))
 
 abbrev pub import_of : Option (List ℕ) → Option Command
@@ -97,5 +103,5 @@ command_of (name ∷ rest) =
 -- what is written where the words are no command
 abbrev pub usage_text : List ℕ
 usage_text =
-    codes "usage: crs run [--summary] MODELS LOG\n" ++ codes "       crs model [--minimal] MODELS\n" ++ codes "       crs drill SEED N\n"
-    ++ codes "       crs import CSV\n"
+    codes "usage: crs run [--focus] [--summary] [--tally KINDS] MODELS LOG\n" ++ codes "       crs model [--minimal] MODELS\n"
+    ++ codes "       crs drill [--focus] SEED N\n" ++ codes "       crs import CSV\n"

@@ -1,7 +1,7 @@
 // The commands as clap is told of them.
 ghost use Rattle.std.specs.Prelude.{◌≡◌, IfOk, false};
 ghost use Rattle.clap.specs.Words.{app_of, rule_of};
-ghost use Rattle.crs_words.specs.Apps.{plain_app, flag, position, run_app, model_app, drill_app, import_app};
+ghost use Rattle.crs_words.specs.Apps.{plain_app, flag, valued, position, run_options, run_app, model_app, drill_app, import_app};
 
 use clap::{Arg, ArgAction, Command};
 use std::alloc::{AllocError, Global};
@@ -12,6 +12,14 @@ fn flag_of<'a>(alloc: Global, id: &'a str) -> Arg<'a>
     ensures local { result.global ≡ false }
 {
     Arg::new(alloc, id).long(id).action(ArgAction::SetTrue)
+}
+
+/// An option that takes a value.
+fn valued_of<'a>(alloc: Global, id: &'a str) -> Arg<'a>
+    ensures rule { rule_of result ≡ valued id.entry.now }
+    ensures local { result.global ≡ false }
+{
+    Arg::new(alloc, id).long(id).action(ArgAction::Set)
 }
 
 /// A position that must be there.
@@ -31,12 +39,22 @@ fn plain_command<'a>(alloc: Global, name: &'a str) -> Command<'a>
         .disable_version_flag(true)
 }
 
-/// `run [--summary] MODELS LOG`
+/// `run [--focus] [--summary] [--tally KINDS]`
+fn run_options<'a>(alloc: Global) -> Result<Command<'a>, AllocError>
+    ensures { IfOk result (λ c. app_of c ≡ run_options) }
+{
+    let command = plain_command(alloc, "run")
+        .arg(flag_of(alloc, "focus"))?
+        .arg(flag_of(alloc, "summary"))?
+        .arg(valued_of(alloc, "tally"))?;
+    Ok(command)
+}
+
+/// `run [--focus] [--summary] [--tally KINDS] MODELS LOG`
 pub(crate) fn run_command<'a>(alloc: Global) -> Result<Command<'a>, AllocError>
     ensures { IfOk result (λ c. app_of c ≡ run_app) }
 {
-    let command = plain_command(alloc, "run")
-        .arg(flag_of(alloc, "summary"))?
+    let command = run_options(alloc)?
         .arg(position_of(alloc, "models"))?
         .arg(position_of(alloc, "log"))?;
     Ok(command)
@@ -52,11 +70,12 @@ pub(crate) fn model_command<'a>(alloc: Global) -> Result<Command<'a>, AllocError
     Ok(command)
 }
 
-/// `drill SEED N`
+/// `drill [--focus] SEED N`
 pub(crate) fn drill_command<'a>(alloc: Global) -> Result<Command<'a>, AllocError>
     ensures { IfOk result (λ c. app_of c ≡ drill_app) }
 {
     let command = plain_command(alloc, "drill")
+        .arg(flag_of(alloc, "focus"))?
         .arg(position_of(alloc, "seed"))?
         .arg(position_of(alloc, "lines"))?;
     Ok(command)

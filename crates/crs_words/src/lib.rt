@@ -3,12 +3,13 @@
 
 mod apps;
 mod command;
+mod kinds;
 mod numbers;
 mod reading;
 #[cfg(test)]
 mod tests;
 mod usage;
 
-pub use command::{Command, Listing};
+pub use command::{Command, Listing, Tally};
 pub use reading::read_words;
 pub use usage::usage_text;

@@ -1,11 +1,13 @@
 // What words ask for.
-ghost use Rattle.std.specs.Prelude.{◌≡◌, IfOk, true, map, option_map, option_and_then, string_bytes};
+ghost use Rattle.std.specs.Prelude.{◌≡◌, IfOk, true, map, option_map, option_and_then, string_bytes, codes};
 ghost use Rattle.clap.specs.Words.{app_of, found_of, rows_of, first_of, is_simple_and_free};
 ghost use Rattle.crs_words.specs.Apps.{run_app, model_app, drill_app, import_app};
+ghost use Rattle.crs_words.specs.Kinds.{tally_of};
 ghost use Rattle.crs_words.specs.Commands.{command_of, command_seen, rows_in, read_by, run_in, model_in, drill_in, import_in, is_given, number_within};
 
 use crate::apps::{drill_command, import_command, model_command, run_command};
-use crate::command::{Command, Listing};
+use crate::command::{Command, Listing, Tally};
+use crate::kinds::tally_of;
 use crate::numbers::number_within;
 use clap::ArgMatches;
 use clap::error::ErrorKind;
@@ -71,18 +73,24 @@ fn read_run<'a>(alloc: Global, words: &'a [String]) -> Result<Option<Command<'a>
     let Some(matches) = matches_of(command, words)? else {
         return Ok(None);
     };
-    Ok(run_of(&matches))
+    let tally = tally_of(alloc, word_of(&matches, "tally"))?;
+    Ok(run_of(&matches, tally))
 }
 
-/// What is asked of `run`.
-fn run_of<'a>(matches: &ArgMatches<'a>) -> Option<Command<'a>>
+/// What is asked of `run`, with the pages of these listeners. None where their kinds are no kinds.
+fn run_of<'a>(matches: &ArgMatches<'a>, tally: Option<Tally>) -> Option<Command<'a>>
+    requires { tally ≡ tally_of (first_of (codes "tally") (rows_of (found_of matches.now))) }
     ensures { option_map command_seen result ≡ run_in (rows_of (found_of matches.now)) }
 {
+    let focus = is_given(matches, "focus");
     let summary = is_given(matches, "summary");
+    let tally = tally?;
     let models = word_of(matches, "models")?;
     let log = word_of(matches, "log")?;
     Some(Command::Run {
+        focus,
         summary,
+        tally,
         models,
         log,
     })
@@ -127,9 +135,10 @@ fn read_drill<'a>(alloc: Global, words: &'a [String]) -> Result<Option<Command<'
 fn drill_of<'a>(matches: &ArgMatches<'_>) -> Option<Command<'a>>
     ensures { option_map command_seen result ≡ drill_in (rows_of (found_of matches.now)) }
 {
+    let focus = is_given(matches, "focus");
     let seed = number_of(matches, "seed", 1, 2147483646)?;
     let lines = number_of(matches, "lines", 0, 1000000)?;
-    Some(Command::Drill { seed, lines })
+    Some(Command::Drill { focus, seed, lines })
 }
 
 /// The number of a position's word, where it is between these, both included.

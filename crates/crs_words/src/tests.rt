@@ -12,16 +12,30 @@ fn shown(alloc: Global, text: &str) -> Result<String, AllocError> {
         None => String::from_str(alloc, "none"),
         Some(
             Command::Run {
+                focus,
                 summary,
+                tally,
                 models,
                 log,
             },
         ) => {
-            let word = if summary { "summary" } else { "run" };
-            format!(in alloc; "{word} {models} {log}")
+            let word = match (focus, summary) {
+                (false, false) => "run",
+                (false, true) => "summary",
+                (true, false) => "focus",
+                (true, true) => "focus summary",
+            };
+            let kinds = tally.kinds();
+            match kinds.contains(&true) {
+                true => format!(in alloc; "{word} {kinds:?} {models} {log}"),
+                false => format!(in alloc; "{word} {models} {log}"),
+            }
         }
         Some(Command::Print { listing, models }) => format!(in alloc; "{listing:?} {models}"),
-        Some(Command::Drill { seed, lines }) => format!(in alloc; "drill {seed} {lines}"),
+        Some(Command::Drill { focus, seed, lines }) => {
+            let word = if focus { "focus" } else { "drill" };
+            format!(in alloc; "{word} {seed} {lines}")
+        }
         Some(Command::Import { table }) => format!(in alloc; "import {table}"),
     }
 }
@@ -49,6 +63,40 @@ fn words_are_commands(rt: HostRuntime) -> Result<(), Fail> {
         ("run --summary=x m l", "none"),
         ("run --summary m", "none"),
         ("run -- --summary l", "run --summary l"),
+        ("run --focus m l", "focus m l"),
+        ("run m --focus l", "focus m l"),
+        ("run m --summary l --focus", "focus summary m l"),
+        ("run --focus m --focus l", "none"),
+        ("run --focus=x m l", "none"),
+        ("run --focus m", "none"),
+        ("run -- --focus l", "run --focus l"),
+        (
+            "run --tally count m l",
+            "run [true, false, false, false] m l",
+        ),
+        (
+            "run m --tally=fewer,span l --summary",
+            "summary [false, true, false, true] m l",
+        ),
+        (
+            "run m l --tally longest,count,fewer,span",
+            "run [true, true, true, true] m l",
+        ),
+        ("run --tally m l", "none"),
+        ("run m l --tally", "none"),
+        ("run m l --tally=", "none"),
+        ("run --tally  m l", "none"),
+        ("run --tally - m l", "none"),
+        ("run --tally -- m l", "none"),
+        ("run --tally --summary m l", "none"),
+        ("run --tally odd m l", "none"),
+        ("run --tally Count m l", "none"),
+        ("run --tally count, m l", "none"),
+        ("run --tally ,count m l", "none"),
+        ("run --tally count,,span m l", "none"),
+        ("run --tally count,span,count m l", "none"),
+        ("run --tally count --tally span m l", "none"),
+        ("model --tally count m", "none"),
         ("run --help", "none"),
         ("run --version m l", "none"),
         ("Run m l", "none"),
@@ -78,7 +126,17 @@ fn words_are_commands(rt: HostRuntime) -> Result<(), Fail> {
         ("drill  1", "none"),
         ("drill 00000000000000000001 1", "none"),
         ("drill x 1", "none"),
-        ("drill --focus 1 1", "none"),
+        ("drill --focus 1 1", "focus 1 1"),
+        ("drill 1 --focus 1", "focus 1 1"),
+        ("drill 1 1 --focus", "focus 1 1"),
+        ("drill --focus 1 1 --focus", "none"),
+        ("drill --focus=x 1 1", "none"),
+        ("drill --focus 1", "none"),
+        ("drill -- --focus 1", "none"),
+        ("drill --summary 1 1", "none"),
+        ("model --focus m", "none"),
+        ("import --focus t", "none"),
+        ("--focus run m l", "none"),
         ("import t", "import t"),
         ("import", "none"),
         ("import a b", "none"),
@@ -93,9 +151,9 @@ fn words_are_commands(rt: HostRuntime) -> Result<(), Fail> {
 
 #[test]
 fn the_usage_text_has_a_line_for_each_command(rt: HostRuntime) {
-    let text = b"usage: crs run [--summary] MODELS LOG\n\
+    let text = b"usage: crs run [--focus] [--summary] [--tally KINDS] MODELS LOG\n\
         \x20      crs model [--minimal] MODELS\n\
-        \x20      crs drill SEED N\n\
+        \x20      crs drill [--focus] SEED N\n\
         \x20      crs import CSV\n\
         ";
     assert!(rt; usage_text() == text.as_slice());

@@ -1,8 +1,8 @@
 use Rattle.std.proofs.Common.{List, subst, sym}
-use Rattle.std.specs.Prelude.{Option, IsTrue, ◌↔◌}
+use Rattle.std.specs.Prelude.{Option}
 use Rattle.crs_base.specs.declared.symbols.Sym.{Sym}
 use Rattle.crs_base.specs.Seen.{entry_of}
-use Rattle.crs_model.specs.Bindings.{look_of, IsMatch}
+use Rattle.crs_model.specs.Bindings.{look_of, IsMet}
 use Rattle.crs_model.specs.Matching.{PatternIs}
 use Rattle.crs_model.specs.Seen.{pattern_of}
 use Rattle.crs_model.specs.Verdicts.{PatternIsBound}
@@ -11,12 +11,9 @@ use Rattle.crs_model.proofs.matching.accepts.Goals as goal
 
 pub match_pattern-requires : goal.match_pattern-requires
 match_pattern-requires c =
-    pattern_below c.copy.result (pattern_of c.args.pattern.now) (subst (λ (b : List (Option Sym)). PatternIsBound (look_of b) (pattern_of c.args.pattern.now)) (sym c.copy.ensures) c.requires)
+    pattern_below c.copy-next.result (pattern_of c.args.pattern.now) (subst (λ (b : List (Option Sym)). PatternIsBound (look_of b) (pattern_of c.args.pattern.now)) (sym c.copy-next.ensures) c.requires)
 
 pub returns : goal.returns
 returns c =
-    let p = pattern_of c.args.pattern.now in
-    let e = entry_of c.args.entry.now in
-    let h : IsMatch (λ look. PatternIs look p e) c.args.binding.now c.match_pattern.result =
-    subst (λ (b : List (Option Sym)). IsMatch (λ look. PatternIs look p e) b c.match_pattern.result) c.copy.ensures c.match_pattern.ensures in
-    subst (λ t. IsTrue t ↔ PatternIs (look_of c.args.binding.now) p e) (sym c.is_some.ensures) (accepts_says p c.args.binding.now e c.match_pattern.result c.requires h)
+    accepts_says (pattern_of c.args.pattern.now) c.args.binding.now (entry_of c.args.entry.now) c.match_pattern.new.binding c.match_pattern.result c.requires
+    (subst (λ (b : List (Option Sym)). IsMet (λ look. PatternIs look (pattern_of c.args.pattern.now) (entry_of c.args.entry.now)) b c.match_pattern.new.binding c.match_pattern.result) c.copy-next.ensures c.match_pattern.ensures)

@@ -1,15 +1,22 @@
-use Rattle.crs_instance.specs.Instances.{IsOf}
-use Rattle.crs_store.specs.Windows.{IsPassed}
-use Rattle.crs_store.specs.Sweeps.{CanWait}
-use Rattle.crs_store.proofs.Leaving.{leaves_each}
-use Rattle.crs_store.proofs.Standing.{zip_of}
+use Rattle.std.proofs.Common.{List, sym, subst}
+use Rattle.crs_model.specs.declared.recognition.Recognition.{Recognition}
+use Rattle.crs_store.specs.Answers.{AreFoundInOrder}
+use Rattle.crs_store.specs.Slots.{members}
+use Rattle.crs_store.proofs.Assembled.{tidy_all, left_tidy}
+use Rattle.crs_store.proofs.Moved.{moves_on}
+use Rattle.crs_store.proofs.Ripened.{left_sifts}
 use Rattle.crs_store.proofs.store.move_on.Goals as goal
 
-pub returns-in_err-found-clause-of : goal.returns-in_err-found-clause-of
-returns-in_err-found-clause-of c = (zip_of c.args.plan.now (IsPassed c.args.plan.now c.args.history.now c.args.since c.args.h) (λ a b r. r.same) c.args.held.now.items c.pass_all.new.held.items c.pass_all.ensures c.requires.of)
+pub take_ripe-requires-clause-ripe : goal.take_ripe-requires-clause-ripe
+take_ripe-requires-clause-ripe c = λ p i is done. (((c.in_ok-pass.ensures {u = tt}).tidy).known p i is).done done
 
-pub keep_waiting-requires-clause-of : goal.keep_waiting-requires-clause-of
-keep_waiting-requires-clause-of c = (zip_of c.args.plan.now (IsPassed c.args.plan.now c.args.history.now c.args.since c.args.h) (λ a b r. r.same) c.args.held.now.items c.pass_all.new.held.items c.pass_all.ensures c.requires.of)
+pub returns-clause-tidy : goal.returns-clause-tidy
+returns-clause-tidy c = left_tidy c.args.plan.now c.args.focus c.args.hooks.now c.pass.new.holding c.args.h ((c.in_ok-pass.ensures {u = tt}).tidy) c.take_ripe.new.slots c.take_ripe.new.ripe.items ((c.in_ok-found.ensures {u = tt}).left)
 
-pub returns-clause-of : goal.returns-clause-of
-returns-clause-of c = leaves_each (CanWait c.args.plan.now c.args.h) (IsOf c.args.plan.now) c.pass_all.new.held.items c.keep_waiting.new.held.items (zip_of c.args.plan.now (IsPassed c.args.plan.now c.args.history.now c.args.since c.args.h) (λ a b r. r.same) c.args.held.now.items c.pass_all.new.held.items c.pass_all.ensures c.requires.of) c.keep_waiting.ensures
+pub returns-clause-moved : goal.returns-clause-moved
+returns-clause-moved c =
+    let left = (c.in_ok-found.ensures {u = tt}).left in
+    moves_on c.args.plan.now c.args.focus c.args.history.now c.args.since c.args.h c.args.number c.args.mark (members c.args.holding.now.slots.slots) (members c.pass.new.holding.slots.slots) (members c.take_ripe.new.slots.slots) c.in_ok-listed.listed (tidy_all c.args.plan.now c.args.focus c.args.hooks.now c.args.holding.now c.args.since c.requires.tidy) ((c.in_ok-pass.ensures {u = tt}).renews)
+    (subst (λ (a : List Recognition). AreFoundInOrder c.args.plan.now c.args.h c.args.number c.args.mark (members c.pass.new.holding.slots.slots) a) (sym (c.in_ok-listed.ensures {u = tt}))
+    (record { found = c.in_ok-found.found.items; are = (c.in_ok-found.ensures {u = tt}).found; moved = c.put_in_order.ensures.moved; sorted = c.put_in_order.ensures.sorted }))
+    (left_sifts c.args.plan.now c.args.h c.pass.new.holding.slots.slots c.take_ripe.new.slots.slots left.places left.each)

@@ -1,50 +1,47 @@
-use Rattle.std.proofs.Common.{◌*◌, List, length, sym, subst}
-use Rattle.std.specs.List.{AllZip}
+use Rattle.std.proofs.Common.{◌∙◌, length, sym, subst}
 use Rattle.crs_base.specs.declared.entry.Entry.{Entry as CodeEntry}
 use Rattle.crs_base.specs.Seen.{entry_of}
-use Rattle.crs_base.specs.Sifted.{Sifts}
-use Rattle.crs_instance.specs.Instances.{InstanceState, IsOf}
-use Rattle.crs_store.specs.Stores.{AllOf}
-use Rattle.crs_store.specs.Windows.{IsAble, IsFollowed}
-use Rattle.crs_store.specs.Sweeps.{AreForksOfFirst}
-use Rattle.crs_store.proofs.Costs.{cost_same}
-use Rattle.crs_store.proofs.Firsts.{zip_length}
-use Rattle.crs_store.proofs.Leaving.{leaves_each}
-use Rattle.crs_store.proofs.Standing.{zip_of, taken, taken_each}
+use Rattle.crs_store.specs.Joins.{Renews}
+use Rattle.crs_store.specs.Slots.{members}
+use Rattle.crs_store.specs.Tidy.{IsTidy}
+use Rattle.crs_store.specs.Windows.{IsAble, IsFollowed, IsPassed}
+use Rattle.crs_store.proofs.Assembled.{tidy_all, tidy_standing, few_ticks}
+use Rattle.crs_store.proofs.Taken.{taken_anew}
 use Rattle.crs_store.proofs.store.take_in.Goals as goal
 
-pub all_forks-requires-clause-of : goal.all_forks-requires-clause-of
-all_forks-requires-clause-of g c = subst (AllOf c.args.plan.now) (sym c.as_slice.ensures.value) (zip_of c.args.plan.now (IsFollowed c.args.plan.now c.args.history.now (entry_of c.deref.result.now) c.args.since) (λ a b r. r.same) c.args.held.now.items c.follow_all.new.held.items c.follow_all.ensures c.requires.of)
+pub forks-requires-clause-of : goal.forks-requires-clause-of
+forks-requires-clause-of g c = tidy_all c.args.plan.now c.args.focus c.args.hooks.now c.follow.new.holding c.deref.result.now.date ((c.in_ok-follow.ensures {u = tt}).tidy)
 
-pub returns-in_err-more-clause-of : goal.returns-in_err-more-clause-of
-returns-in_err-more-clause-of g c = (zip_of c.args.plan.now (IsFollowed c.args.plan.now c.args.history.now (entry_of c.deref.result.now) c.args.since) (λ a b r. r.same) c.args.held.now.items c.follow_all.new.held.items c.follow_all.ensures c.requires.of)
+pub returns-in_err-born-clause-cost : goal.returns-in_err-born-clause-cost
+returns-in_err-born-clause-cost g c = λ flat.
+    few_ticks (IsFollowed c.args.plan.now c.args.history.now (entry_of c.deref.result.now) c.args.since) (IsAble c.args.plan.now c.args.focus c.deref.result.now.date) (length c.args.plan.now.chronicle.events) c.args.steps.now c.forks.new.steps (members c.args.holding.now.slots.slots) (members c.follow.new.holding.slots.slots) ((c.in_ok-follow.ensures {u = tt}).renews) (c.forks.ensures.cost flat)
 
-pub returns-in_err-more-clause-cost : goal.returns-in_err-more-clause-cost
-returns-in_err-more-clause-cost g c = cost_same (2 * length c.args.plan.now.chronicle.events) c.args.steps.now c.all_forks.new.steps c.args.held.now.items c.follow_all.new.held.items c.as_slice.result.now c.as_slice.ensures.value (zip_length (IsFollowed c.args.plan.now c.args.history.now (entry_of c.deref.result.now) c.args.since) c.args.held.now.items c.follow_all.new.held.items c.follow_all.ensures) c.all_forks.ensures.cost
+pub pass-requires-clause-tidy : goal.pass-requires-clause-tidy
+pass-requires-clause-tidy g c =
+    subst (λ (e : CodeEntry). IsTidy c.args.plan.now c.args.focus c.args.hooks.now.events.items c.args.hooks.now.windows.items c.follow.new.holding.slots c.forks.new.waiting c.follow.new.holding.dues c.follow.new.holding.ripe.items e.date) (c.deref.ensures ∙ sym c.deref-2.ensures)
+    (tidy_standing c.args.plan.now c.args.focus c.args.hooks.now c.follow.new.holding c.deref.result.now.date ((c.in_ok-follow.ensures {u = tt}).tidy) c.forks.new.waiting c.forks.ensures.standing)
 
-pub keep_able-requires-clause-of : goal.keep_able-requires-clause-of
-keep_able-requires-clause-of g c = (zip_of c.args.plan.now (IsFollowed c.args.plan.now c.args.history.now (entry_of c.deref.result.now) c.args.since) (λ a b r. r.same) c.args.held.now.items c.follow_all.new.held.items c.follow_all.ensures c.requires.of)
+pub returns-in_err-pass-clause-cost : goal.returns-in_err-pass-clause-cost
+returns-in_err-pass-clause-cost g c = λ flat.
+    few_ticks (IsFollowed c.args.plan.now c.args.history.now (entry_of c.deref.result.now) c.args.since) (IsAble c.args.plan.now c.args.focus c.deref.result.now.date) (length c.args.plan.now.chronicle.events) c.args.steps.now c.forks.new.steps (members c.args.holding.now.slots.slots) (members c.follow.new.holding.slots.slots) ((c.in_ok-follow.ensures {u = tt}).renews) (c.forks.ensures.cost flat)
 
-pub returns-in_err-append-clause-of : goal.returns-in_err-append-clause-of
-returns-in_err-append-clause-of g c =
-    subst (λ (t : List InstanceState). AllOf c.args.plan.now t) (sym ((c.in_err-append.ensures {u = tt}).items))
-    (leaves_each _ (IsOf c.args.plan.now) c.follow_all.new.held.items c.keep_able.new.held.items (zip_of c.args.plan.now (IsFollowed c.args.plan.now c.args.history.now (entry_of c.deref.result.now) c.args.since) (λ a b r. r.same) c.args.held.now.items c.follow_all.new.held.items c.follow_all.ensures c.requires.of) c.keep_able.ensures)
-
-pub returns-in_err-append-clause-cost : goal.returns-in_err-append-clause-cost
-returns-in_err-append-clause-cost g c = cost_same (2 * length c.args.plan.now.chronicle.events) c.args.steps.now c.all_forks.new.steps c.args.held.now.items c.follow_all.new.held.items c.as_slice.result.now c.as_slice.ensures.value (zip_length (IsFollowed c.args.plan.now c.args.history.now (entry_of c.deref.result.now) c.args.since) c.args.held.now.items c.follow_all.new.held.items c.follow_all.ensures) c.all_forks.ensures.cost
-
-pub returns-clause-cost : goal.returns-clause-cost
-returns-clause-cost g c = cost_same (2 * length c.args.plan.now.chronicle.events) c.args.steps.now c.all_forks.new.steps c.args.held.now.items c.follow_all.new.held.items c.as_slice.result.now c.as_slice.ensures.value (zip_length (IsFollowed c.args.plan.now c.args.history.now (entry_of c.deref.result.now) c.args.since) c.args.held.now.items c.follow_all.new.held.items c.follow_all.ensures) c.all_forks.ensures.cost
-
-pub returns-clause-of : goal.returns-clause-of
-returns-clause-of g c =
-    taken_each c.args.plan.now _ c.follow_all.new.held.items c.keep_able.new.held.items c.in_ok-more.more.items c.append.new.self.items (zip_of c.args.plan.now (IsFollowed c.args.plan.now c.args.history.now (entry_of c.deref.result.now) c.args.since) (λ a b r. r.same) c.args.held.now.items c.follow_all.new.held.items c.follow_all.ensures c.requires.of) c.in_ok-more.ensures.of
-    c.keep_able.ensures ((c.in_ok-append.ensures {u = tt}).items)
+pub returns-in_err-hold_all-clause-cost : goal.returns-in_err-hold_all-clause-cost
+returns-in_err-hold_all-clause-cost g c = λ flat.
+    few_ticks (IsFollowed c.args.plan.now c.args.history.now (entry_of c.deref.result.now) c.args.since) (IsAble c.args.plan.now c.args.focus c.deref.result.now.date) (length c.args.plan.now.chronicle.events) c.args.steps.now c.forks.new.steps (members c.args.holding.now.slots.slots) (members c.follow.new.holding.slots.slots) ((c.in_ok-follow.ensures {u = tt}).renews) (c.forks.ensures.cost flat)
 
 pub returns-clause-taken : goal.returns-clause-taken
 returns-clause-taken g c =
-    taken c.args.plan.now c.requires.proper c.args.history.now (entry_of c.args.entry.now.value) c.args.since c.args.held.now.items c.follow_all.new.held.items c.keep_able.new.held.items c.in_ok-more.more.items c.append.new.self.items c.requires.of
-    (subst (λ (en : CodeEntry). AllZip (IsFollowed c.args.plan.now c.args.history.now (entry_of en) c.args.since) c.args.held.now.items c.follow_all.new.held.items) c.deref.ensures c.follow_all.ensures)
-    (subst (λ (t : List InstanceState). AreForksOfFirst c.args.plan.now c.args.history.now (entry_of c.args.entry.now.value) t t c.in_ok-more.more.items) c.as_slice.ensures.value c.in_ok-more.ensures.image)
-    (subst (λ (en : CodeEntry). Sifts (IsAble c.args.plan.now en.date) c.follow_all.new.held.items c.keep_able.new.held.items) c.deref-2.ensures c.keep_able.ensures)
-    ((c.in_ok-append.ensures {u = tt}).items)
+    let plan = c.args.plan.now in
+    let focus = c.args.focus in
+    let history = c.args.history.now in
+    let x = c.args.entry.now.value in
+    let held = members c.args.holding.now.slots.slots in
+    let kept = members c.follow.new.holding.slots.slots in
+    let stay = members c.pass.new.holding.slots.slots in
+    let renews = subst (λ (e : CodeEntry). Renews (IsFollowed plan history (entry_of e) c.args.since) (IsAble plan focus e.date) held kept) c.deref.ensures ((c.in_ok-follow.ensures {u = tt}).renews) in
+    let passes = subst (λ (e : CodeEntry). Renews (IsPassed plan history e.date c.args.until) (IsAble plan focus c.args.until) kept stay) c.deref-2.ensures ((c.in_ok-pass.ensures {u = tt}).renews) in
+    taken_anew plan focus c.requires.proper history (entry_of x) c.args.until c.args.since held kept c.in_ok-born.born.items stay (members c.hold_all.new.holding.slots.slots) (tidy_all plan focus c.args.hooks.now c.args.holding.now c.args.since c.requires.tidy) renews ((c.in_ok-born.ensures {u = tt}).image) passes ((c.in_ok-hold_all.ensures {u = tt}).joins)
+
+pub returns-clause-cost : goal.returns-clause-cost
+returns-clause-cost g c = λ flat.
+    few_ticks (IsFollowed c.args.plan.now c.args.history.now (entry_of c.deref.result.now) c.args.since) (IsAble c.args.plan.now c.args.focus c.deref.result.now.date) (length c.args.plan.now.chronicle.events) c.args.steps.now c.forks.new.steps (members c.args.holding.now.slots.slots) (members c.follow.new.holding.slots.slots) ((c.in_ok-follow.ensures {u = tt}).renews) (c.forks.ensures.cost flat)

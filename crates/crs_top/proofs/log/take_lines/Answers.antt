@@ -23,7 +23,7 @@ loop-line-preserved c =
       finished = m.finished ∙ i.finished;
       fed = m.fed ∙ i.fed;
       ahead_is = λ n h. i.ahead_is n h ∙ ap (λ (gs : List Given). i.told ++ gs) (m.ahead n (λ q. h (sym i.finished ∙ q))) ∙ sym (append_assoc i.told (g ∷ []) (ahead c.next_line.follows.lender-at-none n));
-      takes = λ f s r. takes_more f _ c.loop-line.session c.take_line.new.session s i.told g _ c.loop-line.out.items c.take_line.new.out.items (i.takes f s r) c.in_ok-take_line.ensures;
+      takes = λ f s r. takes_more f _ _ c.loop-line.session c.take_line.new.session s i.told g _ c.loop-line.out c.take_line.new.out (i.takes f s r) c.in_ok-take_line.ensures;
     }
 
 pub loop-line-init : goal.loop-line-init
@@ -34,5 +34,5 @@ loop-line-init c = record {
   finished = refl;
   fed = refl;
   ahead_is = λ m h. refl;
-  takes = λ f s r. takes_none f c.args.session.now s c.args.out.now.items r;
+  takes = λ f s r. takes_none f c.args.session.now s c.args.out.now r;
 }

@@ -14,7 +14,8 @@ invariant-loop-line l = record {
   finished : l.lines.finished ≡ l.fn.lines.finished;
   fed : l.lines.fed ≡ l.fn.lines.fed;
   ahead_is : (m : List ℕ) → (l.fn.lines.finished ≡ true → m ≡ []) → ahead l.fn.lines m ≡ told ++ ahead l.lines m;
-  takes : (f : Frame) (s : State) → Represents f l.fn.session s → Takes f l.fn.session.counts l.session s told l.fn.out.items l.out.items;
+  takes : (f : Frame) (s : State) → Represents f l.fn.session s
+      → Takes f l.fn.session.engine.focus l.fn.session.counts l.session s told l.fn.out l.out;
 }
 
 abbrev pub decreases-loop-line : goal.decreases-loop-line

@@ -1,5 +1,6 @@
-use Rattle.std.proofs.Common.{◌∙◌, ap, sym, subst, true≢false, List, ℕ}
+use Rattle.std.proofs.Common.{◌∙◌, ap, sym, subst, true≢false}
 use Rattle.crs_top.specs.Taking.{Takes}
+use Rattle.crs_top.specs.Written.{Written}
 use Rattle.crs_top.proofs.log.take_piece.Goals as goal
 
 pub returns : goal.returns
@@ -14,5 +15,5 @@ returns c =
       fed = t.fed ∙ ap (λ r. r.fed) k;
       none = t.none;
       ahead_is = λ m. sym (c.in_ok-feed.ensures.ahead m) ∙ t.ahead_is m (λ q. absurd (true≢false (sym q ∙ open_)));
-      takes = λ f s r. subst (λ (out : List ℕ). Takes f c.args.session.now.counts c.take_lines.new.session s t.told out c.take_lines.new.out.items) c.new-text.ensures.items (t.takes f s r);
+      takes = λ f s r. subst (λ (out : Written). Takes f c.args.session.now.engine.focus c.args.session.now.counts c.take_lines.new.session s t.told out c.take_lines.new.out) c.new-output.ensures (t.takes f s r);
     }

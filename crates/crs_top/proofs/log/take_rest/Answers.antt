@@ -1,5 +1,6 @@
-use Rattle.std.proofs.Common.{subst, List, ℕ, [], refl}
+use Rattle.std.proofs.Common.{subst, [], refl}
 use Rattle.crs_top.specs.Taking.{Takes}
+use Rattle.crs_top.specs.Written.{Written}
 use Rattle.crs_top.proofs.Taken.{all_given}
 use Rattle.crs_top.proofs.log.take_rest.Goals as goal
 
@@ -9,5 +10,5 @@ returns c =
     record {
       told = t.told;
       ahead_is = all_given c.args.lines.now c.finish.new.self c.take_lines.new.lines t.told c.finish.ensures t.finished t.none (t.ahead_is [] (λ q. refl));
-      takes = λ f s r. subst (λ (out : List ℕ). Takes f c.args.session.now.counts c.take_lines.new.session s t.told out c.take_lines.new.out.items) c.new-text.ensures.items (t.takes f s r);
+      takes = λ f s r. subst (λ (out : Written). Takes f c.args.session.now.engine.focus c.args.session.now.counts c.take_lines.new.session s t.told out c.take_lines.new.out) c.new-output.ensures (t.takes f s r);
     }

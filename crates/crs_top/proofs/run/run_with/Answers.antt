@@ -1,9 +1,10 @@
-use Rattle.std.proofs.Common.{◌⊎◌, sym, inl, inr, map, string_bytes}
+use Rattle.std.proofs.Common.{◌⊎◌, ◌∙◌, ap, sym, subst, inl, inr, Bool, List, map, string_bytes}
 use Rattle.crs_desk.specs.Desk.{Rose}
 use Rattle.crs_words.proofs.Bounds.{drill_bounds}
 use Rattle.crs_words.specs.Commands.{command_of}
+use Rattle.crs_report.specs.Listeners.{Member, keep_members}
 use Rattle.crs_top.specs.Logs.{tail_of}
-use Rattle.crs_top.specs.Run.{most_of}
+use Rattle.crs_top.specs.Run.{most_of, Runs}
 use Rattle.crs_top.proofs.Completes.{completes, completes_print, completes_import}
 use Rattle.crs_top.proofs.Drilled.{completes_drill}
 use Rattle.crs_top.proofs.Wanting.{wants}
@@ -11,17 +12,27 @@ use Rattle.crs_top.proofs.run.run_with.Goals as goal
 
 pub returns-in-Err-clause-told : goal.returns-in-Err-clause-told
 returns-in-Err-clause-told g c = λ t.
-    wants (g.D.Desk.inputs c.args.desk.now) (most_of c.args.limits) (g.D.Desk.told c.args.desk.now) (command_of (map string_bytes c.args.words.now))
+    wants (g.D.Desk.inputs c.args.desk.now) (most_of c.args.limits)
+    (map (λ b. ((goal.Listener-dyn g (b.vtable, b.value)).kind b.value, (goal.Listener-dyn g (b.vtable, b.value)).figures b.value)) c.args.listeners.items)
+    (g.D.Desk.told c.args.desk.now) (command_of (map string_bytes c.args.words.now))
 
 pub returns-in-Ok-None-clause-told : goal.returns-in-Ok-None-clause-told
 returns-in-Ok-None-clause-told g c = λ t.
     let asked = rw c.in-Ok-None.field-0-is at c.in-Ok-None.ensures in
     rw (sym asked) (rw c.usage_text.ensures at (c.write_text.ensures.told t), c.write_text.ensures.inputs)
 
+pub returns-in-Ok-Some-Run-clause-told : goal.returns-in-Ok-Some-Run-clause-told
+returns-in-Ok-Some-Run-clause-told g c = λ t.
+    let asked = rw (c.in-Ok-Some-Run.field-0-is, c.in-Ok-Some-Run.field-0-0-is) at c.in-Ok-Some-Run.ensures in
+    let kept = c.keep_kinds.ensures ∙ ap (λ (chosen : List Bool). keep_members chosen (map (λ b. ((goal.Listener-dyn g (b.vtable, b.value)).kind b.value, (goal.Listener-dyn g (b.vtable, b.value)).figures b.value)) c.args.listeners.items)) c.kinds.ensures in
+    rw (sym asked) (subst (λ (members : List Member). Runs (g.D.Desk.inputs c.args.desk.now) (g.D.Desk.inputs c.recognise.new.desk)
+    (tail_of c.in-Ok-Some-Run.focus c.in-Ok-Some-Run.summary members) (most_of c.args.limits) (g.D.Desk.told c.args.desk.now) c.in-Ok-Some-Run.models.now
+    c.in-Ok-Some-Run.log.now c.recognise.result (g.D.Desk.told c.recognise.new.desk)) kept (c.recognise.ensures.told t))
+
 pub returns-in-Ok-Some-Run-clause-complete : goal.returns-in-Ok-Some-Run-clause-complete
 returns-in-Ok-Some-Run-clause-complete g c = λ t.
     let asked = rw (c.in-Ok-Some-Run.field-0-is, c.in-Ok-Some-Run.field-0-0-is) at c.in-Ok-Some-Run.ensures in
-    rw (sym asked) (completes (g.D.Desk.inputs c.args.desk.now) (g.D.Desk.inputs c.recognise.new.desk) (tail_of c.in-Ok-Some-Run.summary)
+    rw (sym asked) (completes (g.D.Desk.inputs c.args.desk.now) (g.D.Desk.inputs c.recognise.new.desk) _
     (most_of c.args.limits)
     (g.D.Desk.told c.args.desk.now) (g.D.Desk.told c.recognise.new.desk) c.in-Ok-Some-Run.models.now c.in-Ok-Some-Run.log.now
     (Rose (g.D.Desk.in_faults c.args.desk.now) (g.D.Desk.in_faults c.recognise.new.desk)
@@ -40,7 +51,7 @@ returns-in-Ok-Some-Print-clause-complete g c = λ t.
 pub drill-requires : goal.drill-requires
 drill-requires g c =
     let asked = rw (c.in-Ok-Some-Drill.field-0-is, c.in-Ok-Some-Drill.field-0-0-is) at c.in-Ok-Some-Drill.ensures in
-    let b = drill_bounds (map string_bytes c.args.words.now) c.in-Ok-Some-Drill.seed c.in-Ok-Some-Drill.lines (sym asked) in
+    let b = drill_bounds (map string_bytes c.args.words.now) c.in-Ok-Some-Drill.focus c.in-Ok-Some-Drill.seed c.in-Ok-Some-Drill.lines (sym asked) in
     record { least = b.least; most = b.most; lines = b.few }
 
 pub returns-in-Ok-Some-Drill-clause-told : goal.returns-in-Ok-Some-Drill-clause-told
@@ -51,7 +62,7 @@ returns-in-Ok-Some-Drill-clause-told g c = λ t.
 pub returns-in-Ok-Some-Drill-clause-complete : goal.returns-in-Ok-Some-Drill-clause-complete
 returns-in-Ok-Some-Drill-clause-complete g c = λ t.
     let asked = rw (c.in-Ok-Some-Drill.field-0-is, c.in-Ok-Some-Drill.field-0-0-is) at c.in-Ok-Some-Drill.ensures in
-    rw (sym asked) (completes_drill (most_of c.args.limits) c.in-Ok-Some-Drill.seed c.in-Ok-Some-Drill.lines (g.D.Desk.told c.args.desk.now)
+    rw (sym asked) (completes_drill c.in-Ok-Some-Drill.focus (most_of c.args.limits) c.in-Ok-Some-Drill.seed c.in-Ok-Some-Drill.lines (g.D.Desk.told c.args.desk.now)
     (g.D.Desk.told c.drill.new.desk)
     (Rose (g.D.Desk.in_faults c.args.desk.now) (g.D.Desk.in_faults c.drill.new.desk)
     ⊎ Rose (g.D.Desk.out_faults c.args.desk.now) (g.D.Desk.out_faults c.drill.new.desk)) c.drill.result

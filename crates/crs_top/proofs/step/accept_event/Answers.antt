@@ -25,7 +25,7 @@ returns-then-is_full c =
     let x = c.args.session.now in
     let e = event_seen c.args.line.now c.args.raw.now in
     refuse_brings c.refuse.result x c.refuse.new.session c.args.number (run.Full x.entries) (λ f s. after_named (setting_of f) s e)
-    c.args.out.now.items c.refuse.new.out.items c.refuse.ensures.written c.refuse.ensures.noted
+    c.args.out.now c.refuse.new.out c.refuse.ensures.written c.refuse.ensures.noted
     (λ f s r. full_is f x s r e (c.is_full.ensures.0 c.if-is_full.true))
 
 pub returns-in-Err-Values : goal.returns-in-Err-Values
@@ -35,9 +35,9 @@ returns-in-Err-Values c =
     let limit = c.in-Err-Values.limit in
     let why = rw c.in-Err-Values.field-0-is at c.in-Err-Values.ensures.err in
     both_ok c.refuse-in-Err-Values.result _ _
-    (BringsAll x c.refuse-in-Err-Values.new.session c.args.number (λ f s. after_named (setting_of f) s e) c.args.out.now.items c.refuse-in-Err-Values.new.out.items)
+    (BringsAll x c.refuse-in-Err-Values.new.session c.args.number (λ f s. after_named (setting_of f) s e) c.args.out.now c.refuse-in-Err-Values.new.out)
     c.refuse-in-Err-Values.ensures.written c.refuse-in-Err-Values.ensures.noted
-    (λ w m f s r. refused_brings f x s r c.args.number (run.Values limit) (after_named (setting_of f) s e) c.refuse-in-Err-Values.new.session c.args.out.now.items c.refuse-in-Err-Values.new.out.items
+    (λ w m f s r. refused_brings f x s r c.args.number (run.Values limit) (after_named (setting_of f) s e) c.refuse-in-Err-Values.new.session c.args.out.now c.refuse-in-Err-Values.new.out
     (values_is f x s r e (λ q. not_true c.is_full.result c.if-is_full.false (c.is_full.ensures.1 q)) limit why.0 why.2)
     (m ∙ ap (λ t. record x { symbols = t; counts = with_refused x.counts }) why.1) w)
 
@@ -47,7 +47,7 @@ returns-in-Ok-accept c = λ f s r.
     let e = event_seen c.args.line.now c.args.raw.now in
     let arrival : c.accepted-arrival.result ≡ x.engine.accepted = c.accepted-arrival.ensures in
     accept_brings f x s r e (λ q. not_true c.is_full.result c.if-is_full.false
-    (c.is_full.ensures.1 q)) c.requires.met c.requires.due c.args.number c.accept.new.self c.make_named.new.symbols c.in-Ok.entry c.args.out.now.items
+    (c.is_full.ensures.1 q)) c.requires.met c.requires.due c.args.number c.accept.new.self c.make_named.new.symbols c.in-Ok.entry c.args.out.now
     c.in-Ok-accept.ensures.accepted (still_running x.engine.stopped c.accept.new.self.stopped tt r.running c.in-Ok-accept.ensures.raised) c.in-Ok.ensures.texts c.in-Ok.ensures.limit
     (omega (arith, c.in-Ok.ensures.room))
     (c.in-Ok.ensures.entry ∙ ap (λ n. entry_of_event n e) arrival) c.in-Ok.ensures.within

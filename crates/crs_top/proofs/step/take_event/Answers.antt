@@ -1,4 +1,4 @@
-use Rattle.std.proofs.Common.{◌≡◌, ◌++◌, sym, subst}
+use Rattle.std.proofs.Common.{◌≡◌, sym, subst}
 use Rattle.std.specs.Prelude.{OnOk}
 use Rattle.crs_report.specs.Lines.{refusal_line}
 use Rattle.std.proofs.lemmas.Result.{IfOk-weaker}
@@ -10,6 +10,7 @@ use Rattle.crs_log.specs.Run.{State, Outcome, after_ordered}
 use Rattle.crs_log.specs.SeenItems.{event_seen}
 use Rattle.crs_top.specs.Session.{Brings, BringsAll}
 use Rattle.crs_top.specs.Texts.{setting_of, fault_of}
+use Rattle.crs_top.specs.Written.{with_text}
 use Rattle.crs_top.proofs.Accepting.{refuse_brings, passed_brings, late_is, verdict_is}
 use Rattle.crs_top.proofs.step.take_event.Goals as goal
 
@@ -17,12 +18,12 @@ pub returns-in-Err-Late : goal.returns-in-Err-Late
 returns-in-Err-Late c =
     let x = c.args.session.now in
     let e = event_seen c.args.line.now c.args.raw.now in
-    let z : OnOk c.refuse.result (c.refuse.new.out.items ≡ c.args.out.now.items ++ refusal_line c.args.number
-    (fault_of (run.Late c.in-Err-Late.date c.in-Err-Late.horizon))) = rw
+    let z : OnOk c.refuse.result (c.refuse.new.out ≡ with_text c.args.out.now (refusal_line c.args.number
+    (fault_of (run.Late c.in-Err-Late.date c.in-Err-Late.horizon)))) = rw
     (← c.in-Err-Late.date-is, ← c.in-Err-Late.horizon-is) c.refuse.ensures.written in
     refuse_brings c.refuse.result x c.refuse.new.session c.args.number (run.Late c.in-Err-Late.date c.in-Err-Late.horizon)
     (λ f s. after_ordered (setting_of f) s (Happens e))
-    c.args.out.now.items c.refuse.new.out.items z c.refuse.ensures.noted
+    c.args.out.now c.refuse.new.out z c.refuse.ensures.noted
     (λ f s r. late_is f x s r e c.in-Err-Late.date c.in-Err-Late.horizon (rw c.in-Err-Late.field-0-is at c.in-Err-Late.ensures))
 
 pub returns-in-Ok-Name : goal.returns-in-Ok-Name
@@ -31,9 +32,9 @@ returns-in-Ok-Name c =
     let y = c.accept_event.new.session in
     let e = event_seen c.args.line.now c.args.raw.now in
     IfOk-weaker c.accept_event.result _
-    (λ _. BringsAll x y c.args.number (λ f s. after_ordered (setting_of f) s (Happens e)) c.args.out.now.items c.accept_event.new.out.items)
-    (λ _ h f s r. subst (λ (a : State × Outcome). Brings f x.counts y c.args.number
-    (view_of s) a c.args.out.now.items c.accept_event.new.out.items)
+    (λ _. BringsAll x y c.args.number (λ f s. after_ordered (setting_of f) s (Happens e)) c.args.out.now c.accept_event.new.out)
+    (λ _ h f s r. subst (λ (a : State × Outcome). Brings f x.engine.focus x.counts y c.args.number
+    (view_of s) a c.args.out.now c.accept_event.new.out)
     (sym (verdict_is f x s r e c.plans.result.now (Named c.in-Ok-Name.field-0-0) c.in-Ok.ensures c.plans.ensures
     (rw c.in-Ok-Name.field-0-is at c.in-Ok-Name.ensures.says))) (h f s r))
     c.accept_event.ensures
@@ -42,7 +43,7 @@ pub returns-in-Ok-Other : goal.returns-in-Ok-Other
 returns-in-Ok-Other c = λ f s r.
     let x = c.args.session.now in
     let e = event_seen c.args.line.now c.args.raw.now in
-    passed_brings f x s r c.args.number (after_ordered (setting_of f) s (Happens e)) c.args.out.now.items
+    passed_brings f x s r c.args.number (after_ordered (setting_of f) s (Happens e)) c.args.out.now
     (sym (verdict_is f x s r e c.plans.result.now Other c.in-Ok.ensures c.plans.ensures
     (rw c.in-Ok-Other.field-0-is at c.in-Ok-Other.ensures.says)))
 
@@ -52,7 +53,7 @@ returns-in-Err-Arity c =
     let e = event_seen c.args.line.now c.args.raw.now in
     let r = c.refuse-in-Err-Arity in
     refuse_brings r.result x r.new.session c.args.number run.Arity (λ f s. after_ordered (setting_of f) s (Happens e))
-    c.args.out.now.items r.new.out.items r.ensures.written r.ensures.noted
+    c.args.out.now r.new.out r.ensures.written r.ensures.noted
     (λ f s k. verdict_is f x s k e c.plans.result.now BadArity c.in-Ok.ensures c.plans.ensures
     (rw c.in-Err-Arity.field-0-is at c.in-Err-Arity.ensures.says))
 
@@ -62,6 +63,6 @@ returns-in-Err-Value c =
     let e = event_seen c.args.line.now c.args.raw.now in
     let r = c.refuse-in-Err-Value in
     refuse_brings r.result x r.new.session c.args.number run.Value (λ f s. after_ordered (setting_of f) s (Happens e))
-    c.args.out.now.items r.new.out.items r.ensures.written r.ensures.noted
+    c.args.out.now r.new.out r.ensures.written r.ensures.noted
     (λ f s k. verdict_is f x s k e c.plans.result.now BadValue c.in-Ok.ensures c.plans.ensures
     (rw c.in-Err-Value.field-0-is at c.in-Err-Value.ensures.says))

@@ -34,11 +34,11 @@ returns c =
     let x = c.args.session.now in
     let w = what_seen c.args.line.now c.args.item in
     IfOk-weaker c.take_ordered.result _
-    (λ _. BringsAll x c.take_ordered.new.session c.args.number (λ f s. after_what (setting_of f) s w) c.args.out.now.items c.take_ordered.new.out.items)
+    (λ _. BringsAll x c.take_ordered.new.session c.args.number (λ f s. after_what (setting_of f) s w) c.args.out.now c.take_ordered.new.out)
     (λ _ h f s r.
     let order : (s.ended || (is_delay_what w && s.met)) ≡ false = (λ i. r.ended i || (is_delay_what w && r.met i)) ∙ sym (c.is_out_of_order-refused.ensures c.args.line.now) ∙ c.if-refused.false in
-    subst (λ (a : State × Outcome). Brings f x.counts c.take_ordered.new.session c.args.number
-    (view_of s) a c.args.out.now.items c.take_ordered.new.out.items)
+    subst (λ (a : State × Outcome). Brings f x.engine.focus x.counts c.take_ordered.new.session c.args.number
+    (view_of s) a c.args.out.now c.take_ordered.new.out)
     (in_order (setting_of f) s w (sym (c.is_blank.ensures c.args.line.now) ∙ c.if-is_blank.false) order (not_faulty c.args.line.now c.args.item))
     (h f (is_met s) (met f x s r)))
     c.take_ordered.ensures
@@ -51,7 +51,7 @@ blank_passed c s Faulty b = absurd (true≢false (sym b))
 pub returns-then-is_blank : goal.returns-then-is_blank
 returns-then-is_blank c = λ f s r.
     let w = what_seen c.args.line.now c.args.item in
-    passed_brings f c.args.session.now s r c.args.number (after_what (setting_of f) s w) c.args.out.now.items
+    passed_brings f c.args.session.now s r c.args.number (after_what (setting_of f) s w) c.args.out.now
     (blank_passed (setting_of f) s w (sym (c.is_blank.ensures c.args.line.now) ∙ c.if-is_blank.true))
 
 -- an item that doesn't stand in order is refused, and was met
@@ -65,9 +65,9 @@ returns-then-refused c =
     let x = c.args.session.now in
     let w = what_seen c.args.line.now c.args.item in
     both_ok c.refuse.result _ _
-    (BringsAll x c.refuse.new.session c.args.number (λ f s. after_what (setting_of f) s w) c.args.out.now.items c.refuse.new.out.items)
+    (BringsAll x c.refuse.new.session c.args.number (λ f s. after_what (setting_of f) s w) c.args.out.now c.refuse.new.out)
     c.refuse.ensures.written c.refuse.ensures.noted
     (λ written noted f s r.
     let order : (s.ended || (is_delay_what w && s.met)) ≡ true = (λ i. r.ended i || (is_delay_what w && r.met i)) ∙ sym (c.is_out_of_order-refused.ensures c.args.line.now) ∙ c.if-refused.true in
-    refused_brings f (record x { met = true }) (is_met s) (met f x s r) c.args.number run.Order (after_what (setting_of f) s w) c.refuse.new.session c.args.out.now.items c.refuse.new.out.items
+    refused_brings f (record x { met = true }) (is_met s) (met f x s r) c.args.number run.Order (after_what (setting_of f) s w) c.refuse.new.session c.args.out.now c.refuse.new.out
     (out_of_order (setting_of f) s w (sym (c.is_blank.ensures c.args.line.now) ∙ c.if-is_blank.false) order (not_faulty c.args.line.now c.args.item)) noted written)

@@ -9,12 +9,12 @@ use Rattle.crs_top.proofs.step.take_ordered.Goals as goal
 pub returns-in-Blank : goal.returns-in-Blank
 returns-in-Blank c = λ f s r.
     passed_brings f c.args.session.now s r c.args.number
-    (ordered_what (setting_of f) s (what_seen c.args.line.now c.args.item)) c.args.out.now.items
+    (ordered_what (setting_of f) s (what_seen c.args.line.now c.args.item)) c.args.out.now
     (ap (λ i. ordered_what (setting_of f) s (what_seen c.args.line.now i)) (sym c.in-Blank.is))
 
 pub returns-in-Delay : goal.returns-in-Delay
 returns-in-Delay c = λ f s r. rw (c.in-Delay.is, c.set_delay.ensures.value)
-    (delay_brings f c.args.session.now s c.in-Delay.delay c.args.number c.args.out.now.items (c.requires.fresh (ap (λ i. is_delay_what (what_seen c.args.line.now i)) c.in-Delay.is)) r)
+    (delay_brings f c.args.session.now s c.in-Delay.delay c.args.number c.args.out.now (c.requires.fresh (ap (λ i. is_delay_what (what_seen c.args.line.now i)) c.in-Delay.is)) r)
 
 pub returns-in-Clock : goal.returns-in-Clock
 returns-in-Clock c = rw c.in-Clock.is c.take_clock.ensures

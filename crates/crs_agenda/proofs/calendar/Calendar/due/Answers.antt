@@ -6,7 +6,7 @@ use Rattle.crs_agenda.specs.declared.timed.Timed.{Timed}
 use Rattle.crs_agenda.specs.Places.{pairs_of, AreEmptyBefore, IsEarliest}
 use Rattle.crs_agenda.specs.Schedule.{Schedule}
 use Rattle.crs_agenda.specs.Calendars.{IsCalendar}
-use Rattle.crs_agenda.proofs.Least.{none_read, least_read, in_place_read, earliest_read, least_of_all, empty_before}
+use Rattle.crs_agenda.proofs.Least.{none_read, least_read, floor_read, in_place_read, earliest_read, least_of_all, empty_before}
 use Rattle.crs_agenda.proofs.Changes.{waited, taken, lower}
 use Rattle.crs_agenda.proofs.calendar.Calendar.due.Goals as goal
 
@@ -34,6 +34,26 @@ returns-then-at-len-clause-none c =
     let l : s.buckets.len ≡ length bs = s.buckets.ok.0 in
     subst (λ (x : Schedule). All (λ t. c.args.h ≤ t.date) x.pairs) c.self.view_is
     (none_read (λ t. c.args.h ≤ t.date) c.first_full-at.result bs c.as_slice.result.now c.as_slice.ensures.value c.first_full-at.ensures.before (omega arith))
+
+pub invariant_of-self-then-h-floor : goal.invariant_of-self-then-h-floor
+invariant_of-self-then-h-floor c =
+    let s = c.self.inside in
+    let bs = s.buckets.items in
+    let l : s.buckets.len ≡ length bs = s.buckets.ok.0 in
+    let a : length c.as_slice.result.now ≡ length bs = ap length c.as_slice.ensures.value in
+    let d : s.stands ≡ c.args.self.now.date = ap (λ (x : Schedule). x.date) c.self.view_is in
+    waited s.base s.stands s.wait s.size c.args.h c.floor-floor.result bs c.self.invariant (omega arith) (omega arith)
+    (floor_read s.base c.first_full-at.result c.floor-floor.result bs c.as_slice.result.now c.index-bucket.result.now c.self.invariant.in_place c.as_slice.ensures.value c.first_full-at.ensures.before (omega arith) c.first_full-at.ensures.full c.index-bucket.ensures c.floor-floor.ensures)
+
+pub returns-then-h-floor-clause-none : goal.returns-then-h-floor-clause-none
+returns-then-h-floor-clause-none c =
+    let s = c.self.inside in
+    let bs = s.buckets.items in
+    let l : s.buckets.len ≡ length bs = s.buckets.ok.0 in
+    let a : length c.as_slice.result.now ≡ length bs = ap length c.as_slice.ensures.value in
+    subst (λ (x : Schedule). All (λ t. c.args.h ≤ t.date) x.pairs) c.self.view_is
+    (lower c.args.h c.floor-floor.result (pairs_of bs) (omega arith)
+    (floor_read s.base c.first_full-at.result c.floor-floor.result bs c.as_slice.result.now c.index-bucket.result.now c.self.invariant.in_place c.as_slice.ensures.value c.first_full-at.ensures.before (omega arith) c.first_full-at.ensures.full c.index-bucket.ensures c.floor-floor.ensures))
 
 pub earliest-pick-requires-clause-in_place : goal.earliest-pick-requires-clause-in_place
 earliest-pick-requires-clause-in_place c =

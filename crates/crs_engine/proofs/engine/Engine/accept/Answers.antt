@@ -37,7 +37,7 @@ pub returns-in-Ok-clause-stands : goal.returns-in-Ok-clause-stands
 returns-in-Ok-clause-stands c =
     let next = c.requires.next ∙ sym (ap (λ (e : EngineState). e.accepted) c.self.view_is) in
     accepted_from
-    (record { plans = c.self.inside.plans; stores = c.self.inside.stores.items; history = c.self.inside.history; waiting = c.self.inside.buffer; delay = c.self.inside.delay; last = c.self.inside.last; horizon = c.self.inside.horizon; accepted = c.self.inside.accepted; limit = c.self.inside.limit; stopped = c.self.inside.stopped })
+    (record { plans = c.self.inside.plans; stores = c.self.inside.stores.items; history = c.self.inside.history; waiting = c.self.inside.buffer; delay = c.self.inside.delay; last = c.self.inside.last; horizon = c.self.inside.horizon; accepted = c.self.inside.accepted; limit = c.self.inside.limit; focus = c.self.inside.focus; stopped = c.self.inside.stopped })
     c.args.self.now (entry_of c.args.entry) c.hold.new.buffer c.self.view_is next c.if-entry-self.false
     ((c.in-Ok.ensures {u = tt}).ok (new_key c.self.inside.accepted c.self.inside.buffer (entry_of c.args.entry) next c.self.invariant.waiting))
     ((c.in-Ok.ensures {u = tt}).sorted)

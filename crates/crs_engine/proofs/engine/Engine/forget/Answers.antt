@@ -22,8 +22,8 @@ floor_now c =
 
 pub invariant_of-self : goal.invariant_of-self
 invariant_of-self c =
-    still_engine (record { plans = c.self.inside.plans; stores = c.self.inside.stores.items; history = c.self.inside.history; waiting = c.self.inside.buffer; delay = c.self.inside.delay; last = c.self.inside.last; horizon = c.self.inside.horizon; accepted = c.self.inside.accepted; limit = c.self.inside.limit; stopped = c.self.inside.stopped }) c.forget_behind.new.history c.self.invariant (floor_now c) c.forget_behind.ensures.order c.forget_behind.ensures.dated
+    still_engine (record { plans = c.self.inside.plans; stores = c.self.inside.stores.items; history = c.self.inside.history; waiting = c.self.inside.buffer; delay = c.self.inside.delay; last = c.self.inside.last; horizon = c.self.inside.horizon; accepted = c.self.inside.accepted; limit = c.self.inside.limit; focus = c.self.inside.focus; stopped = c.self.inside.stopped }) c.forget_behind.new.history c.self.invariant (floor_now c) c.forget_behind.ensures.order c.forget_behind.ensures.dated
     (not_lower lowest c.self.inside.history.floor c.forget_behind.new.history.floor (floor_at c.self.inside.plans.reach c.self.inside.horizon) c.self.invariant.least c.self.invariant.needed (floor_now c))
 
 pub returns-in-Some-clause-stands : goal.returns-in-Some-clause-stands
-returns-in-Some-clause-stands c = forgot (record { plans = c.self.inside.plans; stores = c.self.inside.stores.items; history = c.self.inside.history; waiting = c.self.inside.buffer; delay = c.self.inside.delay; last = c.self.inside.last; horizon = c.self.inside.horizon; accepted = c.self.inside.accepted; limit = c.self.inside.limit; stopped = c.self.inside.stopped }) c.args.self.now c.forget_behind.new.history c.self.view_is c.self.invariant (floor_now c) c.forget_behind.ensures.stands
+returns-in-Some-clause-stands c = forgot (record { plans = c.self.inside.plans; stores = c.self.inside.stores.items; history = c.self.inside.history; waiting = c.self.inside.buffer; delay = c.self.inside.delay; last = c.self.inside.last; horizon = c.self.inside.horizon; accepted = c.self.inside.accepted; limit = c.self.inside.limit; focus = c.self.inside.focus; stopped = c.self.inside.stopped }) c.args.self.now c.forget_behind.new.history c.self.view_is c.self.invariant (floor_now c) c.forget_behind.ensures.stands

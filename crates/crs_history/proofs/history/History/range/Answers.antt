@@ -1,9 +1,10 @@
-use Rattle.std.proofs.Common.{◌≡◌, ◌≤◌, filter, sym, ap, subst, ◌∙◌}
+use Rattle.std.proofs.Common.{◌≡◌, ◌≤◌, filter, sym, ap, subst, ◌∙◌, Less}
 use Rattle.std.specs.Prelude.{◌≤ℤ◌}
 use Rattle.std.specs.Int.{int_max}
 use Rattle.std.proofs.lemmas.Int.{to_z-of_z}
 use mir.Val.{SFits}
 use mir.Syntax.{w64}
+use Rattle.crs_base.specs.Entry.{entry_cmp, IsInKeyOrder}
 use Rattle.crs_base.specs.Sifted.{Sifts}
 use Rattle.crs_base.proofs.Words.{ordered_filter}
 use Rattle.crs_history.specs.Histories.{HistoryState, StandsFor}
@@ -15,6 +16,11 @@ use Rattle.crs_history.proofs.history.History.range.Goals as goal
 
 pub before-requires : goal.before-requires
 before-requires c = subst IsByDate (sym c.since.ensures) (ordered_filter (λ d e. d.date ≤ e.date) (is_since c.to_date.result) c.lane-lane.result c.lane-lane.ensures.by_date)
+
+pub returns-clause-in_order : goal.returns-clause-in_order
+returns-clause-in_order c =
+    let since : IsInKeyOrder c.since.result = subst IsInKeyOrder (sym c.since.ensures) (ordered_filter (λ d e. entry_cmp d e ≡ Less) (is_since c.to_date.result) c.lane-lane.result c.lane-lane.ensures.in_order) in
+    subst IsInKeyOrder (sym c.before-2.ensures) (ordered_filter (λ d e. entry_cmp d e ≡ Less) (is_before c.to_date-2.result) c.since.result since)
 
 pub returns-clause-held : goal.returns-clause-held
 returns-clause-held c =
@@ -47,3 +53,6 @@ returns-clause-stands c = λ le s stands.
     let late : floor ≤ℤ from = subst (λ (w : HistoryState). w.floor ≤ℤ from) (sym c.self.view_is) le in
     subst (Sifts (IsNamedIn name from to) s) (sym same)
     (range_stands name from to floor h.older h.ring lane c.self.invariant.before c.self.invariant.since c.lane-lane.ensures.named s late (subst (StandsFor s) (sym c.self.view_is) stands))
+
+pub returns-clause-all_in_order : goal.returns-clause-all_in_order
+returns-clause-all_in_order c = subst (λ (w : HistoryState). IsInKeyOrder w.entries) c.self.view_is c.lane-lane.ensures.all_in_order

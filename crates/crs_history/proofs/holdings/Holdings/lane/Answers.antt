@@ -8,8 +8,11 @@ use Rattle.crs_history.specs.Holdings.{IsNamed}
 use Rattle.crs_history.proofs.HeldSteps.{ordered_behind}
 use Rattle.crs_history.proofs.holdings.Holdings.lane.Goals as goal
 
-pub returns-clause-by_date : goal.returns-clause-by_date
-returns-clause-by_date c =
+pub returns-clause-in_order : goal.returns-clause-in_order
+returns-clause-in_order c =
     let ring = entries_of c.self.inside.ring.items in
     let s : Sifts (IsNamed c.args.name) ring c.lane.result = subst (Sifts (IsNamed c.args.name) ring) (sym c.lane.ensures) (c.self.invariant.named c.args.name) in
-    in_dates c.lane.result (sifts_ordered (IsNamed c.args.name) (λ d e. entry_cmp d e ≡ Less) ring c.lane.result s (ordered_behind c.self.inside.changed.older ring c.self.invariant.in_order))
+    sifts_ordered (IsNamed c.args.name) (λ d e. entry_cmp d e ≡ Less) ring c.lane.result s (ordered_behind c.self.inside.changed.older ring c.self.invariant.in_order)
+
+pub returns-clause-by_date : goal.returns-clause-by_date
+returns-clause-by_date c = in_dates c.lane.result (returns-clause-in_order c)

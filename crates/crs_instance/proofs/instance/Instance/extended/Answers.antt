@@ -16,17 +16,17 @@ use Rattle.crs_instance.proofs.instance.Instance.extended.Goals as goal
 pub returns-then-gives-clause-extended : goal.returns-then-gives-clause-extended
 returns-then-gives-clause-extended g c =
     answer_twice c.args.plan.now c.requires.proper _ c.args.self.now c.self.view_is c.requires.of c.args.event (entry_of c.args.entry.now) c.requires.event c.requires.unbound
-    (subst (λ (es : List (Option (Rc CodeEntry Global))). (f : ℕ) × IsSomeAnd (at (partial_of es) f) (λ y. y.arrival ≡ c.args.entry.now.arrival)) c.as_slice-2.ensures.value (c.gives.ensures.present c.if-gives.true))
+    (subst (λ (es : List (Option (Rc CodeEntry Global))). (f : ℕ) × IsSomeAnd (at (partial_of es) f) (λ y. y.arrival ≡ c.args.entry.now.arrival)) c.as_slice.ensures.value (c.gives.ensures.present c.if-gives.true))
 
 pub matched-requires : goal.matched-requires
 matched-requires g c =
-    pattern_as (length c.args.plan.now.chronicle.variables) (length c.self.inside.binding) c.as_slice.result.now c.args.plan.now.chronicle.events c.args.event c.index-as_slice-event.result c.as_slice.ensures
+    pattern_as (length c.args.plan.now.chronicle.variables) (length c.self.inside.binding) c.as_slice-2.result.now c.args.plan.now.chronicle.events c.args.event c.index-as_slice-event.result c.as_slice-2.ensures
     (ap (λ (s : InstanceState). length s.binding) c.self.view_is ∙ c.requires.of.symbols) c.requires.event c.requires.proper.below
 
 pub returns-in_default-clause-extended : goal.returns-in_default-clause-extended
 returns-in_default-clause-extended g c =
     answer_unmatched c.args.plan.now c.requires.proper _ c.args.self.now c.self.view_is c.requires.of c.args.event (entry_of c.args.entry.now) c.requires.event c.requires.unbound
-    (event_of (slice_index_or c.as_slice.result.now c.args.event c.index-as_slice-event.result)) (event_as c.as_slice.result.now c.args.plan.now.chronicle.events c.args.event c.index-as_slice-event.result c.as_slice.ensures c.requires.event)
+    (event_of (slice_index_or c.as_slice-2.result.now c.args.event c.index-as_slice-event.result)) (event_as c.as_slice-2.result.now c.args.plan.now.chronicle.events c.args.event c.index-as_slice-event.result c.as_slice-2.ensures c.requires.event)
     c.matched.result (search rules) c.matched.ensures.bound
 
 pub returns-then-not-is_inside-clause-extended : goal.returns-then-not-is_inside-clause-extended
@@ -36,8 +36,8 @@ returns-then-not-is_inside-clause-extended g c =
 pub returns-clause-extended : goal.returns-clause-extended
 returns-clause-extended g c =
     answer_yes c.args.plan.now c.requires.proper _ c.args.self.now c.self.view_is c.requires.of c.args.event (entry_of c.args.entry.now) c.requires.event c.requires.unbound
-    (event_of (slice_index_or c.as_slice.result.now c.args.event c.index-as_slice-event.result)) (event_as c.as_slice.result.now c.args.plan.now.chronicle.events c.args.event c.index-as_slice-event.result c.as_slice.ensures c.requires.event)
+    (event_of (slice_index_or c.as_slice-2.result.now c.args.event c.index-as_slice-event.result)) (event_as c.as_slice-2.result.now c.args.plan.now.chronicle.events c.args.event c.index-as_slice-event.result c.as_slice-2.ensures c.requires.event)
     c.matched.result c.in-Some.binding (search rules) c.matched.ensures.bound
-    (subst (λ (es : List (Option (Rc CodeEntry Global))). (f : ℕ) → IfSome (at (partial_of es) f) (λ y. y.arrival ≢ c.args.entry.now.arrival)) c.as_slice-2.ensures.value (c.gives.ensures.absent c.if-gives.false))
+    (subst (λ (es : List (Option (Rc CodeEntry Global))). (f : ℕ) → IfSome (at (partial_of es) f) (λ y. y.arrival ≢ c.args.entry.now.arrival)) c.as_slice.ensures.value (c.gives.ensures.absent c.if-gives.false))
     c.is_inside.result (inside_as c.self.inside.windows.items c.args.event c.index.result.now (pos c.args.entry.now.date) c.is_inside.result c.index.ensures (search rules) c.is_inside.ensures) (search rules) c.in_ok-windows.windows.items
     (subst (λ (ws : List DateWindow). IsNarrowed c.args.plan.now.network.points (most_of c.args.plan.now.network) c.args.event (pos c.args.entry.now.date) ws c.in_ok-windows.windows.items) c.as_slice-3.ensures.value (c.in_ok-windows.ensures {u = tt}))

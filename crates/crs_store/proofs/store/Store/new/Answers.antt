@@ -1,8 +1,12 @@
-use Rattle.std.proofs.Common.{rules}
-use Rattle.std.specs.Prelude.{false}
+use Rattle.std.proofs.Common.{refl, subst, ◌≡◌, ◌∷◌, [], length}
+use Rattle.std.specs.Prelude.{false, None, replicate}
+use Rattle.crs_instance.specs.Instances.{InstanceState, IsOf}
+use Rattle.crs_model.specs.declared.plan.Plan.{Plan}
+use Rattle.crs_store.specs.Slots.{members}
 use Rattle.crs_store.proofs.Standing.{new_stands}
 use Rattle.crs_store.proofs.store.Store.new.Goals as goal
 
 pub returns-clause-stands : goal.returns-clause-stands
 returns-clause-stands c =
-    new_stands c.deref.result.now (search rules) c.in_ok-root.field-0 c.in_ok-root.ensures.of c.in_ok-root.ensures.none (record { plan = c.args.plan.value; number = c.args.number; focus = c.args.focus; held = c.push.new.self.items; date = 0; stopped = false }) (search rules) (search rules) (search rules) (search rules)
+    let root = subst (λ (p : Plan). (i : InstanceState) × (members c.in_ok-holding.holding.slots.slots ≡ i ∷ []) × IsOf p i × (i.partial ≡ replicate (length p.chronicle.events) None)) c.deref-2.ensures ((c.in_ok-holding.ensures {u = tt}).root) in
+    new_stands c.args.plan.value c.args.focus c.requires.proper root.0 root.2 root.3 (record { plan = c.args.plan.value; number = c.args.number; focus = c.args.focus; held = members c.in_ok-holding.holding.slots.slots; date = 0; stopped = false }) refl refl root.1 refl

@@ -1,0 +1,13 @@
+//! Which level of a chronicle's events comes next, and which settled entries an event may have been.
+#![tactic(auto)]
+
+mod finding;
+mod level;
+mod up_to;
+
+pub use finding::candidates;
+pub use level::{current_level, level_of};
+pub use up_to::Candidates;
+
+#[cfg(test)]
+mod tests;

@@ -1,0 +1,107 @@
+-- A store, from what is held.
+use Rattle.std.proofs.Common.{◌≡◌, ℕ, zero, suc, ◌≤◌, ◌+◌, ◌*◌, ◌^◌, List, [], ◌∷◌, ◌++◌, length, refl, sym, ap, subst, ◌∙◌, inl, inr, arith}
+use Rattle.std.specs.Prelude.{Option, Some, None, slice_get}
+use Rattle.std.proofs.Math.Nat.{mul_assoc}
+use Rattle.crs_agenda.specs.declared.timed.Handle.{Handle}
+use Rattle.crs_base.specs.Sifted.{Sifts}
+use Rattle.crs_base.specs.Words.{IsIn}
+use Rattle.crs_base.proofs.Words.{each_from_in}
+use Rattle.crs_index.specs.Indexes.{IndexState}
+use Rattle.crs_instance.specs.Instances.{InstanceState, IsOf}
+use Rattle.crs_model.specs.Bindings.{look_of}
+use Rattle.crs_model.specs.declared.plan.Plan.{Plan}
+use Rattle.crs_model.specs.Plans.{chronicle}
+use Rattle.crs_model.proofs.Options.{of_some, some_if}
+use Rattle.crs_store.specs.declared.holding.Holding.{Holding}
+use Rattle.crs_store.specs.declared.hooks.Hooks.{Hooks}
+use Rattle.crs_store.specs.Forkings.{KeepsStanding}
+use Rattle.std.specs.Prelude.{Bool, false}
+use Rattle.crs_store.specs.Hooks.{AreHooks, key_of}
+use Rattle.crs_store.specs.Joins.{Joins, Renews}
+use Rattle.crs_store.specs.Links.{hook_at}
+use Rattle.crs_base.specs.Words.{Ordered}
+use Rattle.crs_store.specs.Ripenings.{AreLeft, LeftAt}
+use Rattle.crs_store.specs.Slots.{SlotsState, slot_at, members}
+use Rattle.crs_store.specs.Stores.{parts}
+use Rattle.crs_store.specs.Sweeps.{IsDone}
+use Rattle.crs_store.specs.Stores.{AllOf, IsStore}
+use Rattle.crs_store.specs.Tidy.{IsKnown, IsTidy, IsTidyHolding}
+use Rattle.crs_store.proofs.Standing.{zip_length}
+use Rattle.crs_store.proofs.Members.{member_at}
+
+module _ (plan : Plan) (focus : Bool) (hooks : Hooks) (holding : Holding) (d : ℕ) (tidy : IsTidyHolding plan focus hooks holding d) where
+  pub tidy_all : AllOf plan (members holding.slots.slots)
+  tidy_all = each_from_in (IsOf plan) (members holding.slots.slots) (λ i k. let r = member_at holding.slots.slots i k in (tidy.known r.0 i r.1).of)
+
+  -- as what stands in places goes on to wait
+  pub tidy_standing : (index : IndexState) → KeepsStanding holding.slots holding.waiting index → IsTidy plan focus hooks.events.items hooks.windows.items holding.slots index holding.dues holding.ripe.items d
+  tidy_standing index keeps = record {
+    known = λ p i is.
+        let k = tidy.known p i is in
+        record {
+          of = k.of;
+          able = k.able;
+          linked = λ e w can. keeps (key_of e (hook_at hooks.events.items e) (look_of i.binding)) p i is (k.linked e w can);
+          armed = λ n. some_if (slice_get (chronicle plan).windows n) _ (λ w at_n from to stretch bound far. keeps (key_of (16 + n) (hook_at hooks.windows.items n) (look_of i.binding)) p i is (of_some (slice_get (chronicle plan).windows n) w _ at_n (k.armed n) from to stretch bound far));
+          due = k.due;
+          done = k.done;
+        };
+    stood = tidy.stood;
+  }
+
+-- ---- costs
+
+sifted_few : {A : Type 0} (P : A → Type 0) (xs ys : List A) → Sifts P xs ys → length ys ≤ length xs
+sifted_few P [] ys s = let e = ap length s in omega arith
+sifted_few P (x ∷ xs) ys (inl s) = let h = sifted_few P xs s.1 s.3 in let e = ap length s.2 in omega arith
+sifted_few P (x ∷ xs) ys (inr s) = let h = sifted_few P xs ys s.1 in omega arith
+
+times_more : (e a b : ℕ) → a ≤ b → e * a ≤ e * b
+times_more zero a b l = omega arith
+times_more (suc e) a b l = let h = times_more e a b l in omega arith
+
+twice : (e b : ℕ) → e * b ≤ 2 * e * b
+twice e b = let h = mul_assoc 2 e b in omega arith
+
+pub few_ticks : (R : InstanceState → InstanceState → Type 0) (Able : InstanceState → Type 0) (events start steps : ℕ) (old kept : List InstanceState) → Renews R Able old kept → steps ≤ start + events * length kept → steps ≤ start + 2 * events * length old
+few_ticks R Able events start steps old kept renews ticks =
+    let few = sifted_few Able renews.0 kept renews.2 in
+    let same = zip_length R old renews.0 renews.1 in
+    let more : events * length kept ≤ events * length old = times_more events (length kept) (length old) (omega arith) in
+    let two = twice events (length old) in
+    omega arith
+
+-- ---- at a mark, and at the start
+
+pub left_tidy : (plan : Plan) (focus : Bool) (hooks : Hooks) (holding : Holding) (h : ℕ) → IsTidyHolding plan focus hooks holding h → (slots : SlotsState) (ripe : List ℕ) → AreLeft plan h holding.slots slots → IsTidy plan focus hooks.events.items hooks.windows.items slots holding.waiting holding.dues ripe h
+left_tidy plan focus hooks holding h tidy slots ripe left = record {
+  known = λ p i is.
+      let r = was (slot_at holding.slots p) (slot_at slots p) i is (left.each p) in
+      let k = tidy.known p i r.0 in
+      subst (λ (g : Handle). IsKnown plan focus hooks.events.items hooks.windows.items holding.waiting holding.dues.pairs ripe g h i) (sym (left.handles p i is)) (record { of = k.of; able = k.able; linked = k.linked; armed = k.armed; due = k.due; done = λ done. absurd (r.1 done) });
+  stood = tidy.stood;
+}
+  where
+    was : (o q : Option InstanceState) (i : InstanceState) → q ≡ Some i → LeftAt plan h o q → (o ≡ Some i) × (IsDone plan h i → ⊥)
+    was None None i e l = absurd cc
+    was None (Some j) i e l = absurd l
+    was (Some k) None i e l = absurd cc
+    was (Some k) (Some j) i e l = let s : j ≡ i = cc in (ap Some (sym l.0 ∙ s), λ d. l.1 (subst (IsDone plan h) (sym (sym l.0 ∙ s)) d))
+
+-- one that joins none is alone
+pub root_held : (i : InstanceState) (old born new : List InstanceState) → old ≡ [] → born ≡ i ∷ [] → Joins old born new → new ≡ i ∷ []
+root_held i old born new e f joins = alone new (joins.second i (subst (IsIn i) (sym f) (inl refl))) (λ j k. elim (joins.back j k) [
+  | inl a ↦ absurd (subst (IsIn j) e a)
+  | inr b ↦ elim (subst (IsIn j) f b) [ inl s ↦ s | inr never ↦ absurd never ]
+]) (joins.apart (subst (λ (t : List InstanceState). Ordered (λ a b. a ≡ b → ⊥) (parts t)) (sym (ap (λ (t : List InstanceState). t ++ born) e ∙ f)) (tt, tt)))
+  where
+    alone : (xs : List InstanceState) → IsIn i xs → ((j : InstanceState) → IsIn j xs → j ≡ i) → Ordered (λ a b. a ≡ b → ⊥) (parts xs) → xs ≡ i ∷ []
+    alone [] k all apart = absurd k
+    alone (x ∷ []) k all apart = ap (λ (t : InstanceState). t ∷ []) (all x (inl refl))
+    alone (x ∷ y ∷ xs) k all apart = absurd ((apart.0).0 (ap (λ (t : InstanceState). t.partial) (all x (inl refl) ∙ sym (all y (inr (inl refl))))))
+
+-- ---- what is true of a store that goes on
+
+module _ (plan : Plan) (hooks : Hooks) (number : ℕ) (focus stopped : Bool) (was : List InstanceState) (since : ℕ) (is : IsStore (record { plan = plan; number = number; focus = focus; held = was; date = since; stopped = stopped })) (are : AreHooks plan hooks.events.items hooks.windows.items) (holding : Holding) (d : ℕ) where
+  pub tidy_at_mark : d ≤ 2 ^ 42 → IsTidyHolding plan focus hooks holding d → IsStore (record { plan = plan; number = number; focus = focus; held = members holding.slots.slots; date = d; stopped = stopped }) × AreHooks plan hooks.events.items hooks.windows.items × (stopped ≡ false → IsTidyHolding plan focus hooks holding d)
+  tidy_at_mark small tidy = (record { proper = is.proper; instances = tidy_all plan focus hooks holding d tidy; early = small }, are, λ e. tidy)

@@ -1,0 +1,92 @@
+-- As handles are put under keys: the events and the windows of an instance, one after another.
+use Rattle.std.proofs.Common.{Bool, ◌≡◌, ℕ, ◌<◌, ◌≤◌, ◌+◌, List, [], ◌∷◌, length, refl, sym, subst, inl, inr, arith}
+use Rattle.std.specs.Prelude.{Option, Some, None, IfSome, slice_get}
+use Rattle.std.proofs.lemmas.Bool.{cases_lt}
+use Rattle.std.proofs.lemmas.List.{length-map}
+use Rattle.crs_agenda.specs.declared.timed.Handle.{Handle}
+use Rattle.crs_base.specs.Words.{IsIn}
+use Rattle.crs_base.proofs.Words.{in_append_left, in_append_right}
+use Rattle.crs_index.specs.declared.key.Key.{Key}
+use Rattle.crs_index.specs.Indexes.{IndexState, Puts, IsSame, bucket_of}
+use Rattle.crs_index.proofs.Keys.{key_or_not, apart_from}
+use Rattle.crs_instance.specs.Followed.{IsStretchAt}
+use Rattle.crs_instance.specs.Instances.{InstanceState}
+use Rattle.crs_model.specs.declared.plan.Plan.{Plan}
+use Rattle.crs_model.specs.declared.progress.Stretch.{Stretch}
+use Rattle.crs_model.specs.Bindings.{look_of}
+use Rattle.crs_model.specs.Plans.{chronicle}
+use Rattle.crs_model.specs.Seen.{window_of}
+use Rattle.crs_model.proofs.Options.{of_some, some_if, get_within}
+use Rattle.crs_store.specs.declared.hooks.Hook.{Hook}
+use Rattle.crs_store.specs.Hooks.{Waits, key_of}
+use Rattle.crs_store.specs.Links.{Grows, IsLinkedAnew, IsArmed, hook_at}
+use Rattle.crs_store.specs.Linkings.{IsLinkedAt, IsArmedAt}
+use Rattle.crs_store.specs.Slots.{SlotsState, slot_at, handle_at}
+
+-- ---- one handle under a key
+
+module _ (old new : IndexState) (key : Key) (handle : Handle) where
+  pub put_grows : Puts old new key handle → Grows old new
+  put_grows p k h i = elim (key_or_not key k) [
+    | inl e ↦ subst (λ (q : Key). Waits new q h) e (subst (λ (l : List Handle). IsIn h l) (sym p.here) (in_append_left (bucket_of old key) (handle ∷ []) h (subst (λ (q : Key). Waits old q h) (sym e) i)))
+    | inr n ↦ subst (λ (l : List Handle). IsIn h l) (sym (p.others k (apart_from key k n))) i
+  ]
+
+  pub put_waits : Puts old new key handle → Waits new key handle
+  put_waits p = subst (λ (l : List Handle). IsIn handle l) (sym p.here) (in_append_right (bucket_of old key) (handle ∷ []) handle (inl refl))
+
+pub same_grows : (old new : IndexState) → IsSame old new → Grows old new
+same_grows old new s k h i = subst (λ (l : List Handle). IsIn h l) (sym (s k)) i
+
+-- ---- the events of an instance
+
+-- the events below n, one after another
+pub record AreLinkedTo (plan : Plan) (focus : Bool) (hooks : List Hook) (handle : Handle) (since : Option ℕ) (h : ℕ) (i : InstanceState) (n : ℕ) (old new : IndexState) : Type 0 where
+  pub below : (e : ℕ) → e < n → IsLinkedAt plan focus (hook_at hooks e) new handle since h i e
+  pub grown : Grows old new
+
+module _ (plan : Plan) (focus : Bool) (hooks : List Hook) (handle : Handle) (since : Option ℕ) (h : ℕ) (i : InstanceState) where
+  pub linked_next : (n : ℕ) (old now new : IndexState) → AreLinkedTo plan focus hooks handle since h i n old now → Grows now new → IsLinkedAt plan focus (hook_at hooks n) new handle since h i n → AreLinkedTo plan focus hooks handle since h i (n + 1) old new
+  linked_next n old now new a grown here = record {
+    below = λ e l. elim (cases_lt e n) [ inl m ↦ (λ u s d. grown (key_of e (hook_at hooks e) (look_of i.binding)) handle (a.below e m u s d)) | inr g ↦ subst (λ (j : ℕ). IsLinkedAt plan focus (hook_at hooks j) new handle since h i j) (omega arith) here ];
+    grown = λ k g w. grown k g (a.grown k g w);
+  }
+
+-- ---- its windows
+
+if_more : {A : Type 0} (o : Option A) (P Q : A → Type 0) → IfSome o P → ((x : A) → P x → Q x) → IfSome o Q
+if_more None P Q p f = tt
+if_more (Some x) P Q p f = f x p
+
+module _ (plan : Plan) (i : InstanceState) (k : ℕ) (hook : Hook) (index : IndexState) (handle : Handle) (h : ℕ) where
+  pub unbegun_armed : (o : Option Stretch) → o ≡ None → IsStretchAt plan i k o → IsArmedAt plan hook index handle h i k
+  unbegun_armed o e s = if_more (slice_get (chronicle plan).windows k) _ _ (subst (IsStretchAt plan i k) e s) (λ w none from to st b l. absurd (none from to st b))
+
+-- the windows below n, one after another
+pub record AreArmedTo (plan : Plan) (hooks : List Hook) (handle : Handle) (h : ℕ) (i : InstanceState) (n : ℕ) (old new : IndexState) : Type 0 where
+  pub below : (k : ℕ) → k < n → IsArmedAt plan (hook_at hooks k) new handle h i k
+  pub grown : Grows old new
+
+module _ (plan : Plan) (hooks : List Hook) (handle : Handle) (h : ℕ) (i : InstanceState) where
+  still_armed : (k : ℕ) (old new : IndexState) → Grows old new → IsArmedAt plan (hook_at hooks k) old handle h i k → IsArmedAt plan (hook_at hooks k) new handle h i k
+  still_armed k old new grown a = if_more (slice_get (chronicle plan).windows k) _ _ a (λ w f from to st b l. grown (key_of (16 + k) (hook_at hooks k) (look_of i.binding)) handle (f from to st b l))
+
+  pub armed_next : (n : ℕ) (old now new : IndexState) → AreArmedTo plan hooks handle h i n old now → Grows now new → IsArmedAt plan (hook_at hooks n) new handle h i n → AreArmedTo plan hooks handle h i (n + 1) old new
+  armed_next n old now new a grown here = record {
+    below = λ k l. elim (cases_lt k n) [ inl m ↦ still_armed k now new grown (a.below k m) | inr g ↦ subst (λ (j : ℕ). IsArmedAt plan (hook_at hooks j) new handle h i j) (omega arith) here ];
+    grown = λ k g w. grown k g (a.grown k g w);
+  }
+
+  pub all_armed : (n : ℕ) (old new : IndexState) → AreArmedTo plan hooks handle h i n old new → length plan.chronicle.windows ≤ n → IsArmed plan hooks new handle h i
+  all_armed n old new a all k = some_if (slice_get (chronicle plan).windows k) _ (λ w is.
+      let l = get_within (chronicle plan).windows k w is in
+      let m = length-map plan.chronicle.windows window_of in
+      of_some (slice_get (chronicle plan).windows k) w _ is (a.below k (omega arith)))
+
+-- ---- the places
+
+abbrev pub IsPlaceLinked : Plan → Bool → List Hook → SlotsState → IndexState → ℕ → ℕ → ℕ → Type 0
+IsPlaceLinked plan focus hooks slots index since h p = (i : InstanceState) → slot_at slots p ≡ Some i → IsLinkedAnew plan focus hooks index (handle_at slots p) (Some since) h i
+
+pub place_still : (plan : Plan) (focus : Bool) (hooks : List Hook) (slots : SlotsState) (old new : IndexState) (since h p : ℕ) → Grows old new → IsPlaceLinked plan focus hooks slots old since h p → IsPlaceLinked plan focus hooks slots new since h p
+place_still plan focus hooks slots old new since h p grown a i f e w s d = grown (key_of e (hook_at hooks e) (look_of i.binding)) (handle_at slots p) (a i f e w s d)

@@ -1,0 +1,145 @@
+-- Places that are noted, and handles that wait.
+use Rattle.std.proofs.Common.{◌≡◌, ◌≢◌, ◌⊎◌, ℕ, zero, suc, ◌<◌, ◌≤◌, ◌+◌, List, [], ◌∷◌, ◌++◌, length, take, get_or, refl, sym, ap, subst, ◌∙◌, inl, inr, arith, true, nat_eq}
+use Rattle.std.specs.Prelude.{slice_index_or}
+use Rattle.std.specs.Ordering.{nat_cmp}
+use Rattle.std.specs.Cmp.{nat_cmp_is}
+use Rattle.std.specs.BTreeSet.{insert_key}
+use Rattle.std.specs.declared.option.Option.{Option}
+use Rattle.std.specs.declared.option.Option.TheVariants.{None, Some}
+use Rattle.std.specs.declared.cmp.Ordering.TheVariants.{Less, Equal, Greater}
+use Rattle.std.proofs.lemmas.Bool.{cases_eq, cases_lt, lt-ltb}
+use Rattle.std.proofs.lemmas.Bool.Decides.{nat_tests}
+use Rattle.std.proofs.lemmas.List.{take_more, take_all}
+use Rattle.crs_base.specs.Words.{IsIn}
+use Rattle.crs_base.proofs.Words.{in_append, in_filter}
+use Rattle.crs_agenda.specs.declared.timed.Handle.{Handle}
+use Rattle.crs_agenda.specs.Freshness.{is_fresh}
+use Rattle.crs_index.specs.declared.key.Key.{Key}
+use Rattle.crs_index.specs.Indexes.{IndexState, Cleans, Sweeps, bucket_of, bucket_at, number_of, handles_at}
+use Rattle.crs_base.specs.declared.symbols.Sym.{Sym}
+use Rattle.crs_base.specs.Entry.{Entry}
+use Rattle.crs_store.specs.declared.hooks.Hook.{Hook}
+use Rattle.crs_store.specs.Hooks.{Waits, KeepsFresh, key_with, picked_argument}
+use Rattle.crs_store.specs.Links.{hook_at, WaitsFor, HasWaiting, HasTouched}
+use Rattle.crs_store.specs.Slots.{SlotsState, handle_at}
+
+-- ---- numbers in order
+
+three : (a b : ℕ) → (a < b) ⊎ (a ≡ b) ⊎ (b < a)
+three a b = elim (cases_eq a b) [ inl e ↦ inr (inl e) | inr n ↦ elim (cases_lt a b) [ inl l ↦ inl l | inr m ↦ inr (inr (omega arith)) ] ]
+
+pub insert_in : (ks : List ℕ) (k : ℕ) → IsIn k (insert_key nat_cmp ks k)
+insert_in [] k = inl refl
+insert_in (x ∷ ks) k = elim (three k x) [
+  | inl l ↦ rw (sym (nat_cmp_is k x Less l)) (inl refl)
+  | inr r ↦ elim r [
+    | inl e ↦ rw (sym (nat_cmp_is k x Equal e)) (inl e)
+    | inr g ↦ rw (sym (nat_cmp_is k x Greater g)) (inr (insert_in ks k))
+  ]
+]
+
+pub insert_keeps : (ks : List ℕ) (k p : ℕ) → IsIn p ks → IsIn p (insert_key nat_cmp ks k)
+insert_keeps [] k p i = absurd i
+insert_keeps (x ∷ ks) k p i = elim (three k x) [
+  | inl l ↦ rw (sym (nat_cmp_is k x Less l)) (inr i)
+  | inr r ↦ elim r [
+    | inl e ↦ rw (sym (nat_cmp_is k x Equal e)) i
+    | inr g ↦ rw (sym (nat_cmp_is k x Greater g)) (elim i [ inl s ↦ inl s | inr j ↦ inr (insert_keeps ks k p j) ])
+  ]
+]
+
+-- ---- what is fresh
+
+pub fresh_at : (serials : List ℕ) (p : ℕ) → p < length serials → is_fresh serials (record { place = p; serial = slice_index_or serials p 0 }) ≡ true
+fresh_at serials p l = rw (lt-ltb p (length serials) l) (same (slice_index_or serials p 0))
+  where
+    same : (n : ℕ) → nat_eq n n ≡ true
+    same n = grind (arith, nat_tests)
+
+number_or_not : (o : Option ℕ) (n : ℕ) → (o ≡ Some n) ⊎ (o ≢ Some n)
+number_or_not None n = inr (λ e. cc)
+number_or_not (Some m) n = elim (cases_eq m n) [ inl e ↦ inl (ap Some e) | inr ne ↦ inr (λ e. ne (cc)) ]
+
+pub cleans_keep : (old new : IndexState) (n : ℕ) (serials : List ℕ) → Cleans old new n serials → KeepsFresh serials old new
+cleans_keep old new n serials c k h f i = elim (number_or_not (number_of old k) n) [
+  | inl own ↦ subst (λ (l : List Handle). IsIn h l) (sym (c.own_key k own)) (in_filter (is_fresh serials) (bucket_of old k) h i f)
+  | inr other ↦ subst (λ (l : List Handle). IsIn h l) (sym (c.other_keys k other)) i
+]
+
+pub sweeps_keep : (old new : IndexState) (serials : List ℕ) → Sweeps old new serials → KeepsFresh serials old new
+sweeps_keep old new serials s k h f i = subst (λ (l : List Handle). IsIn h l) (sym (s k)) (in_filter (is_fresh serials) (bucket_of old k) h i f)
+
+pub in_bucket : (s : IndexState) (k : Key) (n : ℕ) (h : Handle) → number_of s k ≡ Some n → Waits s k h → IsIn h (bucket_at s.buckets n)
+in_bucket s k n h e i = subst (λ (o : Option ℕ). IsIn h (handles_at s.buckets o)) e i
+
+-- ---- the handles of a bucket, one after another
+
+pub record AreNoted (handles : List Handle) (old new : List ℕ) : Type 0 where
+  pub noted : (h : Handle) → IsIn h handles → IsIn h.place new
+  pub kept : (p : ℕ) → IsIn p old → IsIn p new
+
+pub noted_more : (handles : List Handle) (k : ℕ) (h : Handle) (old now new : List ℕ) → k < length handles → h ≡ get_or handles k h → AreNoted (take k handles) old now → IsIn h.place new → ((p : ℕ) → IsIn p now → IsIn p new) → AreNoted (take (k + 1) handles) old new
+noted_more handles k h old now new l e a i keeps = record {
+  noted = λ g j. elim (in_append (take k handles) (h ∷ []) g (subst (λ (t : List Handle). IsIn g t) (take_more handles k h l ∙ ap (λ (t : Handle). take k handles ++ t ∷ []) (sym e)) j)) [
+    | inl b ↦ keeps g.place (a.noted g b)
+    | inr s ↦ elim s [ inl e ↦ subst (λ (t : Handle). IsIn t.place new) (sym e) i | inr never ↦ absurd never ]
+  ];
+  kept = λ p j. keeps p (a.kept p j);
+}
+
+pub noted_none : (old : List ℕ) → AreNoted [] old old
+noted_none old = record { noted = λ h i. absurd i; kept = λ p i. i }
+
+pub noted_whole : (handles : List Handle) (k : ℕ) (old new : List ℕ) → length handles ≤ k → AreNoted (take k handles) old new → AreNoted handles old new
+noted_whole handles k old new l a = subst (λ (t : List Handle). AreNoted t old new) (take_all k handles l) a
+
+-- what waits in a place is noted with its bucket
+pub waits_noted : (slots : SlotsState) (old new : IndexState) (n : ℕ) (key : Key) → number_of old key ≡ Some n → Cleans old new n slots.serials → (handles : List Handle) → handles ≡ bucket_at new.buckets n → (was places : List ℕ) → AreNoted handles was places →
+    (p : ℕ) → is_fresh slots.serials (handle_at slots p) ≡ true → Waits old key (handle_at slots p) → IsIn p places
+waits_noted slots old new n key numbered cleans handles are was places noted p fresh w =
+    noted.noted (handle_at slots p) (subst (λ (t : List Handle). IsIn (handle_at slots p) t) (sym are)
+    (in_bucket new key n (handle_at slots p) (cleans.numbers key ∙ numbered) (cleans_keep old new n slots.serials cleans key (handle_at slots p) fresh w)))
+
+pub get_any : {A : Type 0} (xs : List A) (k : ℕ) (d e : A) → k < length xs → get_or xs k d ≡ get_or xs k e
+get_any [] k d e l = absurd (omega arith)
+get_any (x ∷ xs) zero d e l = refl
+get_any (x ∷ xs) (suc k) d e l = get_any xs k d e (omega arith)
+
+pub noted_next : (handles : List Handle) (k : ℕ) (d : Handle) (old now new : List ℕ) → k < length handles → AreNoted (take k handles) old now → IsIn (get_or handles k d).place new → ((p : ℕ) → IsIn p now → IsIn p new) → AreNoted (take (k + 1) handles) old new
+noted_next handles k d old now new l a i keeps = noted_more handles k (get_or handles k d) old now new l (get_any handles k d (get_or handles k d) l) a i keeps
+
+-- ---- the two keys of a class
+
+pub class_noted : (slots : SlotsState) (old mid : IndexState) (c : ℕ) (hook : Hook) (x : Entry Sym) (between new : List ℕ) → KeepsFresh slots.serials old mid → ((p : ℕ) → IsIn p between → IsIn p new)
+    → ((p : ℕ) → is_fresh slots.serials (handle_at slots p) ≡ true → Waits old (key_with c None) (handle_at slots p) → IsIn p between)
+    → ((p : ℕ) → is_fresh slots.serials (handle_at slots p) ≡ true → Waits mid (key_with c (picked_argument hook.pick x.args)) (handle_at slots p) → IsIn p new)
+    → HasWaiting slots old c hook x new
+class_noted slots old mid c hook x between new keeps kept first second p fresh named (inl w) = kept p (first p fresh w)
+class_noted slots old mid c hook x between new keeps kept first second p fresh named (inr w) = second p fresh (keeps (key_with c (picked_argument hook.pick x.args)) (handle_at slots p) fresh w)
+
+-- the first hooks of windows, one after another
+pub record AreTouched (slots : SlotsState) (hooks : List Hook) (x : Entry Sym) (n : ℕ) (old now : IndexState) (was places : List ℕ) : Type 0 where
+  pub fresh : KeepsFresh slots.serials old now
+  pub kept : (p : ℕ) → IsIn p was → IsIn p places
+  pub noted : HasTouched hooks slots old x n places
+
+pub touched_none : (slots : SlotsState) (hooks : List Hook) (x : Entry Sym) (old : IndexState) (was : List ℕ) → AreTouched slots hooks x 0 old old was was
+touched_none slots hooks x old was = record { fresh = λ k h f i. i; kept = λ p i. i; noted = λ k l. absurd (omega arith) }
+
+pub touched_more : (slots : SlotsState) (hooks : List Hook) (x : Entry Sym) (n : ℕ) (old now next : IndexState) (was places more : List ℕ) → AreTouched slots hooks x n old now was places → KeepsFresh slots.serials now next → ((p : ℕ) → IsIn p places → IsIn p more)
+    → HasWaiting slots now (16 + n) (hook_at hooks n) x more → AreTouched slots hooks x (n + 1) old next was more
+touched_more slots hooks x n old now next was places more a keeps kept has = record {
+  fresh = λ k h f i. keeps k h f (a.fresh k h f i);
+  kept = λ p i. kept p (a.kept p i);
+  noted = λ k l p fresh named w. elim (cases_lt k n) [
+    | inl b ↦ kept p (a.noted k b p fresh named w)
+    | inr b ↦
+        let s : k ≡ n = omega arith in
+        let named_n : (hook_at hooks n).name ≡ x.name = subst (λ (j : ℕ). (hook_at hooks j).name ≡ x.name) s named in
+        let w_n : WaitsFor old (16 + n) (hook_at hooks n) x (handle_at slots p) = subst (λ (j : ℕ). WaitsFor old (16 + j) (hook_at hooks j) x (handle_at slots p)) s w in
+        has p fresh named_n (elim w_n [
+          | inl u ↦ inl (a.fresh (key_with (16 + n) None) (handle_at slots p) fresh u)
+          | inr u ↦ inr (a.fresh (key_with (16 + n) (picked_argument (hook_at hooks n).pick x.args)) (handle_at slots p) fresh u)
+        ])
+  ];
+}

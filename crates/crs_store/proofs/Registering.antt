@@ -1,0 +1,107 @@
+-- What is found again of an instance that comes.
+use Rattle.std.proofs.Common.{Bool, ◌≡◌, ℕ, List, [], ◌∷◌, ◌++◌, refl, sym, ap, subst, ◌∙◌, inl, arith, append-nil, append_assoc}
+use Rattle.std.specs.Prelude.{Some, None, slice_get}
+use Rattle.std.proofs.lemmas.Int.{ints}
+use Rattle.crs_agenda.specs.declared.timed.Handle.{Handle}
+use Rattle.crs_agenda.specs.declared.timed.Timed.{Timed}
+use Rattle.crs_agenda.specs.Schedule.{Schedule}
+use Rattle.crs_base.specs.Words.{IsIn}
+use Rattle.crs_index.specs.Indexes.{IndexState}
+use Rattle.crs_instance.specs.Instances.{InstanceState, IsOf}
+use Rattle.crs_model.specs.declared.plan.Plan.{Plan}
+use Rattle.crs_model.specs.Plans.{chronicle}
+use Rattle.crs_model.proofs.Options.{of_some, some_if}
+use Rattle.crs_store.specs.declared.holding.Holding.{Holding}
+use Rattle.crs_store.specs.declared.hooks.Hook.{Hook}
+use Rattle.crs_store.specs.declared.hooks.Hooks.{Hooks}
+use Rattle.crs_store.specs.Dues.{AreDue, AreKept}
+use Rattle.crs_store.specs.Links.{Grows, IsLinkedAnew, IsArmed, hook_at}
+use Rattle.crs_store.specs.Hooks.{key_of}
+use Rattle.crs_model.specs.Bindings.{look_of}
+use Rattle.crs_store.specs.Slots.{SlotsState, slot_at, handle_at, members, Puts}
+use Rattle.crs_store.specs.Sweeps.{IsDone}
+use Rattle.crs_store.specs.Tidy.{IsKnown, IsTidy, IsTidyHolding, Registers}
+use Rattle.crs_store.specs.Windows.{IsAble}
+use Rattle.crs_store.proofs.Advancing.{all_some_of}
+use Rattle.std.specs.List.{AllByRecursion}
+use Rattle.crs_base.proofs.Words.{in_from_each, in_append_left, in_append_right}
+use Rattle.crs_store.specs.Joins.{ComesTo, Joins}
+use Rattle.crs_store.proofs.Joined.{put_tidy, joins_none, joins_more}
+use Rattle.crs_store.proofs.Unmoved.{done_ended, done_undue}
+
+one : {a b : InstanceState} → Some a ≡ Some b → a ≡ b
+one e = cc
+
+pub registered : (plan : Plan) (focus : Bool) (hooks : Hooks) (h place : ℕ) (old : Holding) (linked armed : IndexState) (dues : Schedule) (j : InstanceState) → slot_at old.slots place ≡ Some j → Grows old.waiting linked → Grows linked armed → AreKept old.dues.pairs dues.pairs → dues.date ≡ old.dues.date
+    → IsLinkedAnew plan focus hooks.events.items linked (handle_at old.slots place) None h j → IsArmed plan hooks.windows.items armed (handle_at old.slots place) h j → AreDue plan focus j (handle_at old.slots place) h dues.pairs → Registers plan focus hooks h place old (record { slots = old.slots; waiting = armed; dues = dues; ripe = old.ripe; room = old.room })
+registered plan focus hooks h place old linked armed dues j is first second kept stood links arms due = record {
+  slots = refl;
+  ripe = refl;
+  grown = λ k g w. second k g (first k g w);
+  kept = kept;
+  stood = stood;
+  linked = λ i at_i. subst (λ (t : InstanceState). IsLinkedAnew plan focus hooks.events.items armed (handle_at old.slots place) None h t) (one (sym is ∙ at_i)) (λ e w can none. second (key_of e (hook_at hooks.events.items e) (look_of j.binding)) (handle_at old.slots place) (links e w can none));
+  armed = λ i at_i. subst (λ (t : InstanceState). IsArmed plan hooks.windows.items armed (handle_at old.slots place) h t) (one (sym is ∙ at_i)) arms;
+  due = λ i at_i. subst (λ (t : InstanceState). AreDue plan focus t (handle_at old.slots place) h dues.pairs) (one (sym is ∙ at_i)) due;
+}
+
+-- an instance that is done waits for nothing
+pub done_known : (plan : Plan) (focus : Bool) (events windows : List Hook) (index : IndexState) (pairs : List Timed) (ripe : List ℕ) (handle : Handle) (h : ℕ) (i : InstanceState) → IsOf plan i → IsAble plan focus h i → IsDone plan h i → IsIn handle.place ripe → IsKnown plan focus events windows index pairs ripe handle h i
+done_known plan focus events windows index pairs ripe handle h i of able done there = record {
+  of = of;
+  able = able;
+  linked = λ e w can. absurd (all_some_of i.partial done.0 e w.within w.unbound);
+  armed = λ k. some_if (slice_get (chronicle plan).windows k) _ (λ w is from to stretch bound far. let q = of_some (slice_get (chronicle plan).windows k) w _ is (done_ended plan focus i h done k) from to stretch bound in absurd (omega (arith, ints)));
+  due = λ t due l m. absurd (done_undue plan focus i h done t due l);
+  done = λ d. there;
+}
+
+-- one that isn't is found again
+pub undone_known : (plan : Plan) (focus : Bool) (hooks : Hooks) (h place : ℕ) (mid new : Holding) (i : InstanceState) → slot_at mid.slots place ≡ Some i → Registers plan focus hooks h place mid new → IsOf plan i → IsAble plan focus h i → (IsDone plan h i → ⊥) → IsKnown plan focus hooks.events.items hooks.windows.items new.waiting new.dues.pairs new.ripe.items (handle_at mid.slots place) h i
+undone_known plan focus hooks h place mid new i is r of able undone = record {
+  of = of;
+  able = able;
+  linked = λ e w can. r.linked i is e w can tt;
+  armed = r.armed i is;
+  due = r.due i is;
+  done = λ d. absurd (undone d);
+}
+
+-- one that is done comes, and its place is named
+pub held_done : (plan : Plan) (focus : Bool) (hooks : Hooks) (h : ℕ) (old : Holding) (slots : SlotsState) (ripe : List ℕ) (p : ℕ) (i : InstanceState) → Puts old.slots slots p i → ripe ≡ old.ripe.items ++ p ∷ [] → IsOf plan i → IsAble plan focus h i → IsDone plan h i → IsTidyHolding plan focus hooks old h → IsTidy plan focus hooks.events.items hooks.windows.items slots old.waiting old.dues ripe h
+held_done plan focus hooks h old slots ripe p i puts named of able done tidy =
+    put_tidy plan focus hooks.events.items hooks.windows.items old.slots slots p i puts old.waiting old.waiting (λ k g w. w) old.dues old.dues (λ t j. j) refl old.ripe.items ripe (λ q j. subst (IsIn q) (sym named) (in_append_left old.ripe.items (p ∷ []) q j)) h tidy
+    (done_known plan focus hooks.events.items hooks.windows.items old.waiting old.dues.pairs ripe (handle_at slots p) h i of able done (subst (IsIn p) (sym named) (in_append_right old.ripe.items (p ∷ []) p (inl refl))))
+
+-- one that isn't comes, and is found again
+pub held_registered : (plan : Plan) (focus : Bool) (hooks : Hooks) (h : ℕ) (old : Holding) (slots : SlotsState) (p : ℕ) (i : InstanceState) → Puts old.slots slots p i → (new : Holding) → Registers plan focus hooks h p (record { slots = slots; waiting = old.waiting; dues = old.dues; ripe = old.ripe; room = old.room }) new → IsOf plan i → IsAble plan focus h i → (IsDone plan h i → ⊥) → IsTidyHolding plan focus hooks old h → IsTidyHolding plan focus hooks new h
+held_registered plan focus hooks h old slots p i puts new r of able undone tidy =
+    let mid : Holding = record { slots = slots; waiting = old.waiting; dues = old.dues; ripe = old.ripe; room = old.room } in
+    subst (λ (s : SlotsState). IsTidy plan focus hooks.events.items hooks.windows.items s new.waiting new.dues new.ripe.items h) (sym r.slots)
+    (put_tidy plan focus hooks.events.items hooks.windows.items old.slots slots p i puts old.waiting new.waiting r.grown old.dues new.dues r.kept r.stood old.ripe.items new.ripe.items (λ q j. subst (IsIn q) (sym r.ripe) j) h tidy (undone_known plan focus hooks h p mid new i puts.here r of able undone))
+
+-- ---- one after another
+
+-- those behind the rest have come
+pub record IsHeldTo (plan : Plan) (focus : Bool) (hooks : Hooks) (h : ℕ) (old : Holding) (born rest : List InstanceState) (now : Holding) : Type 0 where
+  pub tidy : IsTidyHolding plan focus hooks now h
+  pub come : List InstanceState
+  pub all : born ≡ rest ++ come
+  pub joins : Joins (members old.slots.slots) come (members now.slots.slots)
+
+pub held_none : (plan : Plan) (focus : Bool) (hooks : Hooks) (h : ℕ) (old : Holding) (born : List InstanceState) → IsTidyHolding plan focus hooks old h → IsHeldTo plan focus hooks h old born born old
+held_none plan focus hooks h old born tidy = record { tidy = tidy; come = []; all = sym (append-nil born); joins = joins_none (members old.slots.slots) }
+
+pub held_more : (plan : Plan) (focus : Bool) (hooks : Hooks) (h : ℕ) (old : Holding) (born rest left : List InstanceState) (now new : Holding) (i : InstanceState) → IsHeldTo plan focus hooks h old born rest now → rest ≡ left ++ i ∷ [] → IsTidyHolding plan focus hooks new h → ComesTo i (members now.slots.slots) (members new.slots.slots) → IsHeldTo plan focus hooks h old born left new
+held_more plan focus hooks h old born rest left now new i held is tidy comes = record {
+  tidy = tidy;
+  come = i ∷ held.come;
+  all = held.all ∙ ap (λ (t : List InstanceState). t ++ held.come) is ∙ append_assoc left (i ∷ []) held.come;
+  joins = joins_more (members old.slots.slots) held.come (members now.slots.slots) i comes.0 comes.1 (members new.slots.slots) held.joins comes.2 comes.3;
+}
+
+pub held_each : (P : InstanceState → Type 0) (plan : Plan) (focus : Bool) (hooks : Hooks) (h : ℕ) (old : Holding) (born rest left : List InstanceState) (now : Holding) (i : InstanceState) → IsHeldTo plan focus hooks h old born rest now → rest ≡ left ++ i ∷ [] → AllByRecursion P born → P i
+held_each P plan focus hooks h old born rest left now i held is all = in_from_each P born all i (subst (IsIn i) (sym (held.all ∙ ap (λ (t : List InstanceState). t ++ held.come) is)) (in_append_left (left ++ i ∷ []) held.come i (in_append_right left (i ∷ []) i (inl refl))))
+
+pub held_whole : (plan : Plan) (focus : Bool) (hooks : Hooks) (h : ℕ) (old : Holding) (born rest : List InstanceState) (now : Holding) → IsHeldTo plan focus hooks h old born rest now → rest ≡ [] → Joins (members old.slots.slots) born (members now.slots.slots)
+held_whole plan focus hooks h old born rest now held is = subst (λ (t : List InstanceState). Joins (members old.slots.slots) t (members now.slots.slots)) (sym (held.all ∙ ap (λ (t : List InstanceState). t ++ held.come) is)) held.joins

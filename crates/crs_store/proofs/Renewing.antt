@@ -1,0 +1,138 @@
+-- What is known of the instances after those that are touched or due were judged anew.
+use Rattle.std.proofs.Common.{Bool, ◌≡◌, ◌⊎◌, ℕ, zero, suc, ◌<◌, ◌≤◌, ◌+◌, ◌^◌, List, length, refl, sym, ap, subst, ◌∙◌, inl, inr, arith, true}
+use Rattle.std.specs.Prelude.{ℤ, pos, ◌≤ℤ◌, ◌+ℤ◌, Option, Some, None, IfSome, slice_get, All, negsuc}
+use Rattle.std.proofs.lemmas.Bool.{cases_lt}
+use Rattle.std.proofs.lemmas.Int.{ints}
+use Rattle.crs_agenda.specs.declared.timed.Handle.{Handle}
+use Rattle.crs_agenda.specs.declared.timed.Timed.{Timed}
+use Rattle.crs_agenda.specs.Freshness.{is_fresh}
+use Rattle.crs_agenda.specs.Schedule.{Schedule}
+use Rattle.crs_base.specs.Words.{IsIn}
+use Rattle.crs_index.specs.declared.key.Key.{Key}
+use Rattle.crs_index.specs.Indexes.{IndexState}
+use Rattle.crs_instance.specs.Instances.{InstanceState, window_at}
+use Rattle.crs_model.specs.declared.plan.Plan.{Plan}
+use Rattle.crs_model.specs.Bindings.{look_of}
+use Rattle.crs_model.specs.Partial.{IsAwaited}
+use Rattle.crs_model.specs.Plans.{chronicle, IsProper}
+use Rattle.crs_model.proofs.Options.{of_some, some_if}
+use Rattle.crs_store.specs.declared.hooks.Hook.{Hook}
+use Rattle.crs_store.specs.Dues.{AreDue, AreCollected, IsDue, IsUndue}
+use Rattle.crs_store.specs.Hooks.{Waits, KeepsFresh, key_of}
+use Rattle.crs_store.specs.Levels.{levels_in}
+use Rattle.crs_store.specs.Links.{CanStart, Grows, IsLinkedAnew, IsArmed, hook_at}
+use Rattle.crs_store.specs.Slots.{SlotsState, slot_at, handle_at, Becomes}
+use Rattle.crs_store.specs.Sweeps.{IsDone}
+use Rattle.crs_store.specs.Tidy.{IsKnown, IsTidy}
+use Rattle.crs_store.specs.Windows.{IsAble, IsSameInstance}
+use Rattle.crs_store.proofs.DuePairs.{dues_left, dues_later, left_undue, same_dues}
+use Rattle.crs_store.proofs.Members.{at_within}
+use Rattle.crs_store.proofs.Noting.{fresh_at}
+use Rattle.crs_store.proofs.Progress.{still_of}
+use Rattle.crs_store.proofs.Walked.{in_or_not}
+use Rattle.crs_store.proofs.Unmoved.{undue_able, undue_undone}
+
+-- ---- dates at which an event can start
+
+-- it can start by d, or its first date is after d
+start_or_later : (o : Option ℤ) (d : ℕ) → IfSome o (λ m. m ≤ℤ pos d) ⊎ ((t : ℕ) × (d ≤ t) × (o ≡ Some (pos t +ℤ pos 1)))
+start_or_later None d = inl tt
+start_or_later (Some (pos zero)) d = inl (omega (arith, ints))
+start_or_later (Some (pos (suc m))) d = elim (cases_lt m d) [
+  | inl l ↦ inl (omega (arith, ints))
+  | inr g ↦ inr (m, g, ap Some (omega (arith, ints)))
+]
+start_or_later (Some (negsuc m)) d = inl (omega (arith, ints))
+
+pub can_start_or_not : (i : InstanceState) (e d : ℕ) → CanStart i e d ⊎ (CanStart i e d → ⊥)
+can_start_or_not i e d = elim (start_or_later (window_at i.windows e).least d) [
+  | inl s ↦ inl s
+  | inr l ↦ inr (λ s. let q = of_some (window_at i.windows e).least (pos l.0 +ℤ pos 1) (λ m. m ≤ℤ pos d) l.2 s in let g = l.1 in omega (arith, ints))
+]
+
+-- where no date is due from d on before h, what can start by h can by d
+pub starts_early : (plan : Plan) (focus : Bool) (i : InstanceState) (d h : ℕ) → IsUndue plan focus i d h → (e : ℕ) → IsAwaited (levels_in plan focus) i.partial e → CanStart i e h → CanStart i e d
+starts_early plan focus i d h undue e w can = elim (start_or_later (window_at i.windows e).least d) [
+  | inl s ↦ s
+  | inr r ↦
+      let q = of_some (window_at i.windows e).least (pos r.0 +ℤ pos 1) (λ m. m ≤ℤ pos h) r.2 can in
+      absurd (undue r.0 (inr (inr (e, (w, r.2)))) r.1 (omega (arith, ints)))
+]
+
+-- ---- one instance
+
+module _ (plan : Plan) (focus : Bool) (proper : IsProper plan) (events windows : List Hook) (d h : ℕ) (later : d ≤ h) (small : h ≤ 2 ^ 42) (handle : Handle) (was index : IndexState) (keeps : (k : Key) → Waits was k handle → Waits index k handle) (old_pairs pairs : List Timed) (old_ripe ripe : List ℕ)
+    (ripe_kept : (p : ℕ) → IsIn p old_ripe → IsIn p ripe) (i : InstanceState) (known : IsKnown plan focus events windows was old_pairs old_ripe handle d i) where
+  -- what armed it at d arms it at h
+  armed_later : IsArmed plan windows index handle h i
+  armed_later k = some_if (slice_get (chronicle plan).windows k) _ (λ w is from to stretch bound far. keeps (key_of (16 + k) (hook_at windows k) (look_of i.binding)) (of_some (slice_get (chronicle plan).windows k) w _ is (known.armed k) from to stretch bound (omega (arith, ints))))
+
+  -- nothing was due, and it wasn't looked at
+  pub stays_known : IsUndue plan focus i d h → AreDue plan focus i handle d pairs → IsKnown plan focus events windows index pairs ripe handle h i
+  stays_known undue due = record {
+    of = known.of;
+    able = undue_able plan focus i d h undue later proper known.of known.able;
+    linked = λ e w can. keeps (key_of e (hook_at events e) (look_of i.binding)) (known.linked e w (starts_early plan focus i d h undue e w can));
+    armed = armed_later;
+    due = dues_later plan focus i handle d pairs due h later;
+    done = λ done. ripe_kept handle.place (known.done (undue_undone plan focus i d h undue later done));
+  }
+
+  -- it was looked at, and only the progress of its windows changed
+  pub becomes_known : (j : InstanceState) → IsSameInstance i j → IsAble plan focus h j → IsLinkedAnew plan focus events index handle (Some d) h j → (IsDone plan h j → IsIn handle.place ripe) → ((t : ℕ) → IsDue plan focus j t → h ≤ t → t < 2 ^ 42 → IsIn (record { date = t; handle = handle }) pairs) → IsKnown plan focus events windows index pairs ripe handle h j
+  becomes_known j same able anew done due = record {
+    of = still_of plan i j same known.of;
+    able = able;
+    linked = λ e w can. elim (can_start_or_not j e d) [
+      | inl early ↦ keeps (key_of e (hook_at events e) (look_of j.binding)) (subst (λ (t : InstanceState). (f : ℕ) → IsAwaited (levels_in plan focus) t.partial f → CanStart t f d → Waits was (key_of f (hook_at events f) (look_of t.binding)) handle) (sym same.same) known.linked e w early)
+      | inr not ↦ anew e w can not
+    ];
+    armed = subst (λ (t : InstanceState). IsArmed plan windows index handle h t) (sym same.same) armed_later;
+    due = due;
+    done = done;
+  }
+
+-- ---- all of them
+
+pub fresh_place : (s : SlotsState) (p : ℕ) (i : InstanceState) → length s.serials ≡ length s.slots → slot_at s p ≡ Some i → is_fresh s.serials (handle_at s p) ≡ true
+fresh_place s p i len is = fresh_at s.serials p (subst (λ (n : ℕ). p < n) (sym len) (at_within s.slots p i is))
+
+module _ (plan : Plan) (focus : Bool) (proper : IsProper plan) (events windows : List Hook) (d h : ℕ) (later : d ≤ h) (small : h ≤ 2 ^ 42) (old new : SlotsState) (len : length old.serials ≡ length old.slots) (was between index : IndexState) (keeps : KeepsFresh old.serials was between) (grows : Grows between index)
+    (old_dues dues : Schedule) (places : List ℕ) (collected : AreCollected h old_dues.pairs dues.pairs places) (all : All (λ t. h ≤ t.date) dues.pairs) (old_ripe ripe : List ℕ) (ripe_kept : (p : ℕ) → IsIn p old_ripe → IsIn p ripe) (tidy : IsTidy plan focus events windows old was old_dues old_ripe d) where
+  waits_on : (p : ℕ) (i : InstanceState) → slot_at old p ≡ Some i → (k : Key) → Waits was k (handle_at old p) → Waits index k (handle_at old p)
+  waits_on p i is k w = grows k (handle_at old p) (keeps k (handle_at old p) (fresh_place old p i len is) w)
+
+  -- none of its dates is due before h where its place isn't among those
+  pub apart_undue : (p : ℕ) (i : InstanceState) → slot_at old p ≡ Some i → (IsIn p places → ⊥) → IsUndue plan focus i d h
+  apart_undue p i is apart = left_undue plan focus i (handle_at old p) d old_dues.pairs (tidy.known p i is).due h dues.pairs places collected apart small all
+
+  module _ (R : InstanceState → InstanceState → Type 0) (same : (i j : InstanceState) → R i j → IsSameInstance i j) (at_places : (p : ℕ) → IsIn p places → Becomes R (IsAble plan focus h) (slot_at old p) (slot_at new p)) (others : (p : ℕ) → (IsIn p places → ⊥) → slot_at new p ≡ slot_at old p)
+      (handles : (p : ℕ) (j : InstanceState) → slot_at new p ≡ Some j → handle_at new p ≡ handle_at old p) (anew : (p : ℕ) → IsIn p places → (j : InstanceState) → slot_at new p ≡ Some j → IsLinkedAnew plan focus events index (handle_at new p) (Some d) h j)
+      (ripens : (p : ℕ) → IsIn p places → (j : InstanceState) → slot_at new p ≡ Some j → IsDone plan h j → IsIn p ripe) where
+    -- what stands there was of something that stood there
+    came_of : (o : Option InstanceState) (q : Option InstanceState) (j : InstanceState) → q ≡ Some j → Becomes R (IsAble plan focus h) o q → (i : InstanceState) × (o ≡ Some i) × R i j × IsAble plan focus h j
+    came_of None None j e b = absurd cc
+    came_of None (Some k) j e b = absurd b
+    came_of (Some i) None j e b = absurd cc
+    came_of (Some i) (Some k) j e b = let s : k ≡ j = cc in (i, refl, subst (λ (t : InstanceState). R i t) s b.0, subst (λ (t : InstanceState). IsAble plan focus h t) s b.1)
+
+    known_there : (p : ℕ) (j : InstanceState) → slot_at new p ≡ Some j → IsIn p places → IsKnown plan focus events windows index dues.pairs ripe (handle_at old p) h j
+    known_there p j is there =
+        let r = came_of (slot_at old p) (slot_at new p) j is (at_places p there) in
+        let one = same r.0 j r.2 in
+        let known = tidy.known p r.0 r.1 in becomes_known plan focus proper events windows d h later small (handle_at old p) was index (waits_on p r.0 r.1) old_dues.pairs dues.pairs old_ripe ripe ripe_kept
+        r.0 known j one r.3
+        (subst (λ (g : Handle). IsLinkedAnew plan focus events index g (Some d) h j) (handles p j is) (anew p there j is)) (ripens p there j is)
+        (λ t due l m. elim (collected _ (same_dues plan focus r.0 j one (handle_at old p) d old_dues.pairs known.due t due (omega arith) m)) [ inl k ↦ k | inr k ↦ (let early = k.0 in absurd (omega arith)) ])
+
+    known_apart : (p : ℕ) (j : InstanceState) → slot_at new p ≡ Some j → (IsIn p places → ⊥) → IsKnown plan focus events windows index dues.pairs ripe (handle_at old p) h j
+    known_apart p j is apart =
+        let was_there : slot_at old p ≡ Some j = sym (others p apart) ∙ is in
+        let known = tidy.known p j was_there in stays_known plan focus proper events windows d h later small (handle_at old p) was index (waits_on p j was_there) old_dues.pairs dues.pairs old_ripe ripe ripe_kept
+        j known (apart_undue p j was_there apart) (dues_left plan focus j (handle_at old p) d old_dues.pairs known.due h dues.pairs places collected apart)
+
+    pub renewed_tidy : dues.date ≤ h → IsTidy plan focus events windows new index dues ripe h
+    renewed_tidy stood = record {
+      known = λ p j is. subst (λ (g : Handle). IsKnown plan focus events windows index dues.pairs ripe g h j) (sym (handles p j is)) (elim (in_or_not p places) [ inl there ↦ known_there p j is there | inr apart ↦ known_apart p j is apart ]);
+      stood = stood;
+    }

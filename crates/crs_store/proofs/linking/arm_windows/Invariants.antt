@@ -1,0 +1,5 @@
+use Rattle.crs_store.proofs.Linked.{AreArmedTo}
+use Rattle.crs_store.proofs.linking.arm_windows.Given as goal
+
+abbrev pub invariant-loop-k : goal.invariant-loop-k
+invariant-loop-k l = AreArmedTo l.plan l.hooks l.handle l.h l.instance l.k l.fn.waiting l.waiting

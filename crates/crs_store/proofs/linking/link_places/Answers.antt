@@ -1,0 +1,23 @@
+use Rattle.std.specs.Map.Iter.{deref}
+use Rattle.std.proofs.lemmas.Map.Iter.{rest_more, rest_all}
+use Rattle.crs_store.proofs.Linked.{IsPlaceLinked, place_still}
+use Rattle.crs_store.proofs.Walked.{each_next, each_last}
+use Rattle.crs_store.proofs.linking.link_places.Goals as goal
+
+pub link_place-requires-clause-of : goal.link_place-requires-clause-of
+link_place-requires-clause-of c = c.requires.of c.in-Some.place.now
+
+pub loop-place-preserved : goal.loop-place-preserved
+loop-place-preserved c = (
+  each_next (IsPlaceLinked c.args.plan.now c.args.focus c.args.hooks.now c.args.slots.now c.loop-place.waiting c.args.since c.args.h) c.args.places.now.keys c.loop-place.place-iterator (IsPlaceLinked c.args.plan.now c.args.focus c.args.hooks.now c.args.slots.now c.link_place.new.waiting c.args.since c.args.h) c.in-Some.place.now c.next.new.self
+      (rest_more deref c.loop-place.place-iterator c.next.new.self c.next.result c.in-Some.place c.in-Some.is c.next.ensures.steps) c.loop-place.invariant.0 (λ p. place_still c.args.plan.now c.args.focus c.args.hooks.now c.args.slots.now c.loop-place.waiting c.link_place.new.waiting c.args.since c.args.h p c.link_place.ensures.grown) ((c.in_ok-link_place.ensures {u = tt}).linked),
+  λ k h w. c.link_place.ensures.grown k h (c.loop-place.invariant.1 k h w),
+)
+
+pub returns-in_err-link_place-clause-grown : goal.returns-in_err-link_place-clause-grown
+returns-in_err-link_place-clause-grown c = λ k h w. c.link_place.ensures.grown k h (c.loop-place.invariant.1 k h w)
+
+pub returns-clause-linked : goal.returns-clause-linked
+returns-clause-linked c =
+    each_last (IsPlaceLinked c.args.plan.now c.args.focus c.args.hooks.now c.args.slots.now c.loop-place.waiting c.args.since c.args.h) c.args.places.now.keys c.loop-place.place-iterator
+    (rest_all deref c.loop-place.place-iterator c.next.new.self c.next.result c.in-None.is c.next.ensures.steps) c.loop-place.invariant.0

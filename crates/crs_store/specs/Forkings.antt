@@ -1,0 +1,83 @@
+-- The forks of instances that stand in places.
+use Rattle.std.specs.Prelude.{◌≡◌, ◌<◌, ◌≤◌, ℕ, pos, List, [], ◌∷◌, ◌++◌, length, Bool, Option, Some, None, IfSome, slice_get, slice_index_or}
+use Rattle.std.specs.List.{AllByRecursion}
+use Rattle.std.specs.Option.{option_to_list}
+use Rattle.crs_base.specs.declared.symbols.Sym.{Sym}
+use Rattle.crs_base.specs.Words.{IsIn}
+use Rattle.crs_base.specs.Entry.{Entry}
+use Rattle.crs_history.specs.Histories.{HistoryState}
+use Rattle.crs_index.specs.declared.key.Key.{Key}
+use Rattle.crs_index.specs.Indexes.{IndexState}
+use Rattle.crs_instance.specs.Instances.{InstanceState, IsInside, window_at}
+use Rattle.crs_model.specs.Bindings.{look_of}
+use Rattle.crs_model.specs.Images.{IsImage}
+use Rattle.crs_model.specs.Partial.{Partial, IsAwaited}
+use Rattle.crs_model.specs.Plans.{chronicle}
+use Rattle.crs_model.specs.Scans.{StartsAt, IsForkByLevel}
+use Rattle.crs_model.specs.declared.plan.Plan.{Plan}
+use Rattle.crs_store.specs.declared.hooks.Hook.{Hook}
+use Rattle.crs_store.specs.Levels.{levels_in}
+use Rattle.crs_store.specs.Hooks.{IsHookOfEvent, Waits, key_of}
+use Rattle.crs_store.specs.Links.{CanStart}
+use Rattle.crs_store.specs.Slots.{SlotsState, slot_at, handle_at, members}
+use Rattle.crs_store.specs.Stores.{parts}
+use Rattle.crs_store.specs.Sweeps.{IsReady, IsNow, IsOverNow}
+use Rattle.crs_store.specs.Windows.{IsOpenAt, IsOver}
+
+-- each instance has a date window for the event
+abbrev pub HaveWindow : SlotsState → ℕ → Type 0
+HaveWindow slots e = (p : ℕ) (i : InstanceState) → slot_at slots p ≡ Some i → e < length i.windows
+
+-- the place is among the places, if an instance stands there to whose event the date is left
+abbrev pub IsNoted : SlotsState → ℕ → ℕ → List ℕ → ℕ → Type 0
+IsNoted slots e d places p = (i : InstanceState) → slot_at slots p ≡ Some i → IsInside (window_at i.windows e) (pos d) → IsIn p places
+
+-- those that wait under the key, and to whose event the date is left, are in the places
+abbrev pub AreCandidates : SlotsState → IndexState → Key → ℕ → ℕ → List ℕ → Type 0
+AreCandidates slots index k e d places = (p : ℕ) → Waits index k (handle_at slots p) → IsNoted slots e d places p
+
+-- those that stand in a place and waited still wait
+abbrev pub KeepsStanding : SlotsState → IndexState → IndexState → Type 0
+KeepsStanding slots old new = (k : Key) (p : ℕ) (i : InstanceState) → slot_at slots p ≡ Some i → Waits old k (handle_at slots p) → Waits new k (handle_at slots p)
+
+-- the hook of the event of this number
+abbrev pub IsHookAt : Plan → ℕ → Hook → Type 0
+IsHookAt plan e h = IfSome (slice_get (chronicle plan).events e) (λ v. IsHookOfEvent v h)
+
+-- each instance that awaits the event of this number, where that can come by the date, waits for it
+abbrev pub AreLinkedAt : Plan → Bool → Hook → SlotsState → IndexState → ℕ → ℕ → Type 0
+AreLinkedAt plan focus h slots index e d =
+    (p : ℕ) (i : InstanceState) → slot_at slots p ≡ Some i → IsAwaited (levels_in plan focus) i.partial e → CanStart i e d → Waits index (key_of e h (look_of i.binding)) (handle_at slots p)
+
+-- what stands in the places
+abbrev pub standing : {A : Type 0} → List (Option A) → List ℕ → List A
+standing xs [] = []
+standing xs (p ∷ ps) = option_to_list (slice_index_or xs p None) ++ standing xs ps
+
+-- what comes of the chosen ones, where all that are held are over what can be read, and ready; it is judged at a date
+abbrev pub ComeOf : ((Partial Sym → Type 0) → Partial Sym → Partial Sym → Type 0) → Plan → Bool → HistoryState → Entry Sym → ℕ → List InstanceState → List InstanceState → List InstanceState → Type 0
+ComeOf From plan focus history x until held chosen out =
+    (entries : List (Entry Sym)) → IsNow plan history x entries → x.date ≤ until → AllByRecursion (IsOverNow plan focus entries x) held → IsReady x (parts held)
+    → IsImage (From (IsOpenAt plan focus entries entries until)) (parts chosen) (parts out) × AllByRecursion (IsOver plan focus entries entries until) out
+
+-- what has x at the event e
+abbrev pub IsForkWith : (ℕ → ℕ) → Entry Sym → ℕ → (Partial Sym → Type 0) → Partial Sym → Partial Sym → Type 0
+IsForkWith level x e Fine a b = StartsAt level Fine x a e b
+
+-- what has x at one of the events below n
+abbrev pub IsForkBelow : (ℕ → ℕ) → Entry Sym → ℕ → (Partial Sym → Type 0) → Partial Sym → Partial Sym → Type 0
+IsForkBelow level x n Fine a b = (e : ℕ) × (e < n) × StartsAt level Fine x a e b
+
+-- the forks at the event of what stands in the places
+abbrev pub AreForksOfPlaces : Plan → Bool → HistoryState → Entry Sym → ℕ → SlotsState → ℕ → List ℕ → List InstanceState → Type 0
+AreForksOfPlaces plan focus history x until slots e places out =
+    ComeOf (IsForkWith (levels_in plan focus) x e) plan focus history x until (members slots.slots) (standing slots.slots places) out
+
+-- the forks at the event of all
+abbrev pub AreForksOfEvent : Plan → Bool → HistoryState → Entry Sym → ℕ → SlotsState → ℕ → List InstanceState → Type 0
+AreForksOfEvent plan focus history x until slots e out =
+    ComeOf (IsForkWith (levels_in plan focus) x e) plan focus history x until (members slots.slots) (members slots.slots) out
+
+-- the forks of all
+abbrev pub AreForksOfAll : Plan → Bool → HistoryState → Entry Sym → ℕ → List InstanceState → List InstanceState → Type 0
+AreForksOfAll plan focus history x until held out = ComeOf (λ Fine. IsForkByLevel (levels_in plan focus) Fine x) plan focus history x until held held out

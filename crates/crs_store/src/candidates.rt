@@ -1,0 +1,268 @@
+//! The forks of the instances that may come of an entry.
+ghost use Rattle.std.specs.Prelude.{◌≡◌, ◌+◌, ◌*◌, ◌<◌, ◌≤◌, ◌^◌, length, None, false, IfOk, OnOk};
+ghost use Rattle.std.specs.List.{AllZip, AllByRecursion};
+ghost use Rattle.crs_base.specs.Seen.{entry_of};
+ghost use Rattle.crs_base.specs.Words.{IsIn};
+ghost use Rattle.crs_history.specs.Histories.{EndsWith};
+ghost use Rattle.crs_instance.specs.Instances.{IsOf};
+ghost use Rattle.crs_model.specs.Plans.{chronicle, IsProper};
+ghost use Rattle.crs_store.specs.Forkings.{HaveWindow, IsNoted, AreCandidates, KeepsStanding, IsHookAt, AreLinkedAt, AreForksOfPlaces, AreForksOfEvent, AreForksOfAll};
+ghost use Rattle.crs_store.specs.Hooks.{IsHookOfEvent, KeepsFresh, key_with, picked_argument};
+ghost use Rattle.crs_store.specs.Links.{AreLinked};
+ghost use Rattle.crs_store.specs.Slots.{members};
+ghost use Rattle.crs_store.specs.Stores.{AllOf};
+ghost use Rattle.crs_store.specs.Scannings.{Adds, AreForksAt};
+ghost use Rattle.crs_store.specs.Windows.{IsAble};
+
+use crate::hooks::{Hook, key_of_entry, key_of_symbol};
+use crate::levels::is_awaited;
+use crate::links::note;
+use crate::scanning::decide;
+use crate::slots::Slots;
+use crs_base::{Entry, Steps};
+use crs_focus::level_of;
+use crs_history::History;
+use crs_index::{Index, Key};
+use crs_instance::Instance;
+use crs_model::Plan;
+use std::alloc::{AllocError, Global};
+use std::collections::BTreeSet;
+use std::rc::Rc;
+use std::sync::ledger::Ledger;
+
+/// Adds what comes of the instance where the event is bound to the entry: a copy with the event bound
+/// too, or, where that completes a level, what is made of it by the entries that are there. Each of
+/// them can be and can go on at the date `until`, and no window of theirs is lost then.
+/// It takes memory only where the event's pattern fits the entry.
+fn push_forks<L: Ledger>(
+    alloc: Global,
+    plan: &Plan,
+    focus: bool,
+    instance: &Instance,
+    event: u8,
+    history: &History,
+    entry: &Rc<Entry>,
+    until: u64,
+    steps: &mut Steps<L>,
+    out: &mut Vec<Instance>,
+) -> Result<(), AllocError>
+    requires proper { IsProper plan.now }
+    requires of { IsOf plan.now instance.now }
+    requires event { event < length plan.now.chronicle.events }
+    requires last { EndsWith (entry_of entry.now.value) history.now.entries }
+    requires date { entry.now.value.date < 2 ^ 40 }
+    requires small { until ≤ 2 ^ 42 }
+    ensures forks { OnOk result (Adds plan.now focus until (AreForksAt plan.now focus history.now (entry_of entry.now.value) until instance.now event) out.old.items out.new.items) }
+    ensures cost { focus ≡ false → steps.new ≤ steps.old + 1 }
+{
+    if !is_awaited(plan, focus, instance, event) {
+        return Ok(());
+    }
+    if !instance.can_wait_with(plan, event, entry.date, focus, until) {
+        return Ok(());
+    }
+    let Some(next) = instance.fork(plan, event, entry, steps)? else {
+        return Ok(());
+    };
+    let level = level_of(plan, event, focus);
+    let todo = Vec::new(alloc);
+    decide(
+        alloc, plan, focus, instance, next, level, todo, history, entry, until, steps, out,
+    )
+}
+
+/// Notes the place, if an instance stands there to whose event the date is left.
+fn note_able(
+    slots: &Slots,
+    place: u32,
+    event: u8,
+    date: u64,
+    places: &mut BTreeSet<u32>,
+) -> Result<(), AllocError>
+    requires windows { HaveWindow slots.now event }
+    requires date { date < 2 ^ 40 }
+    ensures noted { OnOk result (IsNoted slots.now event date places.new.keys place) }
+    ensures kept { (p : _) → IsIn p places.old.keys → IsIn p places.new.keys }
+{
+    let Some(instance) = slots.get(place) else {
+        return Ok(());
+    };
+    if instance.can_come(event, date) {
+        note(places, place)
+    } else {
+        Ok(())
+    }
+}
+
+/// Notes the places of those that wait under the key, and to whose event the date is left.
+fn note_able_bucket(
+    waiting: &mut Index,
+    slots: &Slots,
+    key: Key,
+    event: u8,
+    date: u64,
+    places: &mut BTreeSet<u32>,
+) -> Result<(), AllocError>
+    requires windows { HaveWindow slots.now event }
+    requires date { date < 2 ^ 40 }
+    ensures fresh { KeepsFresh slots.now.serials waiting.old waiting.new }
+    ensures standing { KeepsStanding slots.now waiting.old waiting.new }
+    ensures noted { OnOk result (AreCandidates slots.now waiting.old key event date places.new.keys) }
+    ensures kept { (p : _) → IsIn p places.old.keys → IsIn p places.new.keys }
+{
+    let Some(number) = waiting.find(&key) else {
+        return Ok(());
+    };
+    waiting.clean(number, slots.serials());
+    for handle in waiting.bucket(number) {
+        note_able(slots, handle.place, event, date, places)?;
+    }
+    Ok(())
+}
+
+/// Notes the places of those that wait for such an entry, and to whose event its date is left.
+fn note_candidates(
+    waiting: &mut Index,
+    slots: &Slots,
+    event: u8,
+    hook: Hook,
+    entry: &Entry,
+    places: &mut BTreeSet<u32>,
+) -> Result<(), AllocError>
+    requires windows { HaveWindow slots.now event }
+    requires date { entry.now.date < 2 ^ 40 }
+    ensures fresh { KeepsFresh slots.now.serials waiting.old waiting.new }
+    ensures standing { KeepsStanding slots.now waiting.old waiting.new }
+    ensures lacking { OnOk result (AreCandidates slots.now waiting.old (key_with event None) event entry.now.date places.new.keys) }
+    ensures having { OnOk result (AreCandidates slots.now waiting.old (key_with event (picked_argument hook.pick entry.now.args)) event entry.now.date places.new.keys) }
+{
+    let class = event as u32;
+    let lacking = key_of_symbol(class, None);
+    note_able_bucket(waiting, slots, lacking, event, entry.date, places)?;
+    let having = key_of_entry(class, hook, entry);
+    note_able_bucket(waiting, slots, having, event, entry.date, places)?;
+    Ok(())
+}
+
+/// The forks at the event of what stands in the places.
+fn forks_at<L: Ledger>(
+    alloc: Global,
+    plan: &Plan,
+    focus: bool,
+    slots: &Slots,
+    mut places: BTreeSet<u32>,
+    event: u8,
+    history: &History,
+    entry: &Rc<Entry>,
+    until: u64,
+    steps: &mut Steps<L>,
+) -> Result<Vec<Instance>, AllocError>
+    requires proper { IsProper plan.now }
+    requires of { AllOf plan.now (members slots.now.slots) }
+    requires event { event < length plan.now.chronicle.events }
+    requires last { EndsWith (entry_of entry.now.value) history.now.entries }
+    requires date { entry.now.value.date < 2 ^ 40 }
+    requires small { until ≤ 2 ^ 42 }
+    ensures of { IfOk result (λ v. AllOf plan.now v.items) }
+    ensures able { IfOk result (λ v. AllByRecursion (IsAble plan.now focus until) v.items) }
+    ensures image { IfOk result (λ v. AreForksOfPlaces plan.now focus history.now (entry_of entry.now.value) until slots.now event places.keys v.items) }
+    ensures cost { focus ≡ false → steps.new ≤ steps.old + length (members slots.now.slots) }
+{
+    let mut out = Vec::new(alloc);
+    while let Some(place) = places.pop_first() {
+        let Some(instance) = slots.get(place) else {
+            continue;
+        };
+        push_forks(
+            alloc, plan, focus, instance, event, history, entry, until, steps, &mut out,
+        )?;
+    }
+    Ok(out)
+}
+
+/// The forks of all instances at the event, for which such a hook looks.
+fn forks_of_event<L: Ledger>(
+    alloc: Global,
+    plan: &Plan,
+    focus: bool,
+    hook: Hook,
+    slots: &Slots,
+    waiting: &mut Index,
+    event: u8,
+    history: &History,
+    entry: &Rc<Entry>,
+    until: u64,
+    steps: &mut Steps<L>,
+) -> Result<Vec<Instance>, AllocError>
+    requires proper { IsProper plan.now }
+    requires of { AllOf plan.now (members slots.now.slots) }
+    requires event { event < length plan.now.chronicle.events }
+    requires hook { IsHookAt plan.now event hook }
+    requires linked { AreLinkedAt plan.now focus hook slots.now waiting.old event entry.now.value.date }
+    requires last { EndsWith (entry_of entry.now.value) history.now.entries }
+    requires date { entry.now.value.date < 2 ^ 40 }
+    requires small { until ≤ 2 ^ 42 }
+    ensures fresh { KeepsFresh slots.now.serials waiting.old waiting.new }
+    ensures standing { KeepsStanding slots.now waiting.old waiting.new }
+    ensures of { IfOk result (λ v. AllOf plan.now v.items) }
+    ensures able { IfOk result (λ v. AllByRecursion (IsAble plan.now focus until) v.items) }
+    ensures image { IfOk result (λ v. AreForksOfEvent plan.now focus history.now (entry_of entry.now.value) until slots.now event v.items) }
+    ensures cost { focus ≡ false → steps.new ≤ steps.old + length (members slots.now.slots) }
+{
+    if hook.name != entry.name {
+        return Ok(Vec::new(alloc));
+    }
+    let mut places = BTreeSet::new(alloc);
+    note_candidates(waiting, slots, event, hook, entry, &mut places)?;
+    forks_at(
+        alloc, plan, focus, slots, places, event, history, entry, until, steps,
+    )
+}
+
+/// What comes of all instances where one of their awaited events is bound to the entry, judged at the
+/// date `until`.
+pub(crate) fn forks<L: Ledger>(
+    alloc: Global,
+    plan: &Plan,
+    focus: bool,
+    hooks: &[Hook],
+    slots: &Slots,
+    waiting: &mut Index,
+    history: &History,
+    entry: &Rc<Entry>,
+    until: u64,
+    steps: &mut Steps<L>,
+) -> Result<Vec<Instance>, AllocError>
+    requires proper { IsProper plan.now }
+    requires hooks { AllZip IsHookOfEvent (chronicle plan.now).events hooks.now }
+    requires of { AllOf plan.now (members slots.now.slots) }
+    requires linked { AreLinked plan.now focus hooks.now slots.now waiting.old entry.now.value.date }
+    requires last { EndsWith (entry_of entry.now.value) history.now.entries }
+    requires date { entry.now.value.date < 2 ^ 40 }
+    requires small { until ≤ 2 ^ 42 }
+    ensures fresh { KeepsFresh slots.now.serials waiting.old waiting.new }
+    ensures standing { KeepsStanding slots.now waiting.old waiting.new }
+    ensures of { IfOk result (λ v. AllOf plan.now v.items) }
+    ensures able { IfOk result (λ v. AllByRecursion (IsAble plan.now focus until) v.items) }
+    ensures image { IfOk result (λ v. AreForksOfAll plan.now focus history.now (entry_of entry.now.value) until (members slots.now.slots) v.items) }
+    ensures cost { focus ≡ false → steps.new ≤ steps.old + length plan.now.chronicle.events * length (members slots.now.slots) }
+{
+    let mut out = Vec::new(alloc);
+    for event in 0..plan.chronicle.events.len() as u8 {
+        let mut more = forks_of_event(
+            alloc,
+            plan,
+            focus,
+            hooks[event as usize],
+            slots,
+            waiting,
+            event,
+            history,
+            entry,
+            until,
+            steps,
+        )?;
+        out.append(&mut more)?;
+    }
+    Ok(out)
+}

@@ -1,0 +1,282 @@
+//! The instances that are held, and what finds them again.
+ghost use Rattle.std.specs.Prelude.{◌≡◌, ◌≤◌, ◌<◌, ◌^◌, [], Some, length, OnOk};
+ghost use Rattle.std.specs.List.{AllByRecursion};
+ghost use Rattle.crs_base.specs.Seen.{entry_of};
+ghost use Rattle.crs_instance.specs.Instances.{IsOf};
+ghost use Rattle.crs_model.specs.Plans.{IsProper};
+ghost use Rattle.crs_store.specs.Hooks.{AreHooks, KeepsFresh};
+ghost use Rattle.crs_store.specs.Dues.{KeepsFreshPairs};
+ghost use Rattle.crs_store.specs.Joins.{ComesTo, Joins, Renews};
+ghost use Rattle.crs_store.specs.Slots.{members, slot_at};
+ghost use Rattle.crs_store.specs.Stores.{AllOf};
+ghost use Rattle.crs_store.specs.Tidy.{IsTidyHolding, Registers, SettlesPlaces};
+ghost use Rattle.crs_store.specs.Windows.{IsAble, IsFollowed, IsPassed};
+
+use crate::dues::{collect_due, put_dues};
+use crate::hooks::Hooks;
+use crate::linking::{arm_windows, link_events, link_places};
+use crate::links::note_touched;
+use crate::slots::Slots;
+use crate::walking::{follow_places, note_ripe, pass_places};
+use crate::windows::is_done;
+use crs_agenda::Calendar;
+use crs_base::Entry;
+use crs_history::History;
+use crs_index::Index;
+use crs_instance::Instance;
+use crs_model::Plan;
+use std::alloc::{AllocError, Global};
+use std::collections::BTreeSet;
+
+/// Instances in places, and what finds them again: an index by what they wait for, a calendar by
+/// the dates at which they have to be judged anew, and the places of those that are done.
+#[derive(Drop)]
+pub(crate) struct Holding {
+    pub(crate) slots: Slots,
+    pub(crate) waiting: Index,
+    pub(crate) dues: Calendar,
+    pub(crate) ripe: Vec<u32>,
+    /// How many pairs the calendar has before the stale ones are dropped.
+    room: usize,
+}
+
+/// The least such number.
+const ROOM: usize = 1024;
+
+/// Nothing is held.
+pub(crate) fn no_holding(alloc: Global) -> Holding
+    ensures none { members result.slots.slots ≡ [] }
+    ensures tidy { (plan : _) (focus : _) (hooks : _) → IsTidyHolding plan focus hooks result 0 }
+{
+    Holding {
+        slots: Slots::new(alloc),
+        waiting: Index::new(alloc),
+        dues: Calendar::new(alloc),
+        ripe: Vec::new(alloc),
+        room: ROOM,
+    }
+}
+
+/// Drops the stale handles, where they may be most of what is there.
+fn sweep_waiting(waiting: &mut Index, serials: &[u32])
+    ensures { KeepsFresh serials.now waiting.old waiting.new }
+{
+    if waiting.is_crowded() {
+        waiting.sweep(serials);
+    }
+}
+
+/// Drops the pairs with stale handles, where they may be most of what is there.
+fn sweep_dues(dues: &mut Calendar, room: &mut usize, serials: &[u32])
+    ensures fresh { KeepsFreshPairs serials.now dues.old.pairs dues.new.pairs }
+    ensures stood { dues.new.date ≡ dues.old.date }
+{
+    if dues.len() >= *room {
+        dues.sweep(serials);
+        *room = dues.len().saturating_mul(2).saturating_add(ROOM);
+    }
+}
+
+/// Drops what is stale, where that may be most of what is there.
+fn sweep(holding: &mut Holding)
+    ensures slots { holding.new.slots ≡ holding.old.slots }
+    ensures len { length holding.new.slots.serials ≡ length holding.new.slots.slots }
+    ensures tidy { (plan : _) (focus : _) (hooks : _) (d : _) → IsTidyHolding plan focus hooks holding.old d → IsTidyHolding plan focus hooks holding.new d }
+{
+    let serials = holding.slots.serials();
+    sweep_waiting(&mut holding.waiting, serials);
+    sweep_dues(&mut holding.dues, &mut holding.room, serials);
+}
+
+/// Has what stands in the place be found again, from the date `h` on.
+fn register(
+    holding: &mut Holding,
+    plan: &Plan,
+    focus: bool,
+    hooks: &Hooks,
+    place: u32,
+    h: u64,
+) -> Result<(), AllocError>
+    requires proper { IsProper plan.now }
+    requires hooks { AreHooks plan.now hooks.now.events.items hooks.now.windows.items }
+    requires of { (i : _) → slot_at holding.old.slots place ≡ Some i → IsOf plan.now i }
+    requires stood { holding.old.dues.date ≤ h }
+    requires small { h ≤ 2 ^ 42 }
+    ensures { OnOk result (Registers plan.now focus hooks.now h place holding.old holding.new) }
+{
+    let Some(instance) = holding.slots.get(place) else {
+        return Ok(());
+    };
+    let handle = holding.slots.handle(place);
+    let events = hooks.events.as_slice();
+    link_events(
+        &mut holding.waiting,
+        plan,
+        focus,
+        events,
+        instance,
+        handle,
+        None,
+        h,
+    )?;
+    let windows = hooks.windows.as_slice();
+    arm_windows(&mut holding.waiting, plan, windows, instance, handle, h)?;
+    put_dues(&mut holding.dues, plan, focus, instance, handle, h)?;
+    Ok(())
+}
+
+/// Adds an instance, which was judged at `h`.
+fn hold(
+    holding: &mut Holding,
+    plan: &Plan,
+    focus: bool,
+    hooks: &Hooks,
+    instance: Instance,
+    h: u64,
+) -> Result<(), AllocError>
+    requires proper { IsProper plan.now }
+    requires hooks { AreHooks plan.now hooks.now.events.items hooks.now.windows.items }
+    requires of { IsOf plan.now instance }
+    requires able { IsAble plan.now focus h instance }
+    requires tidy { IsTidyHolding plan.now focus hooks.now holding.old h }
+    requires small { h ≤ 2 ^ 42 }
+    ensures tidy { OnOk result (IsTidyHolding plan.now focus hooks.now holding.new h) }
+    ensures comes { OnOk result (ComesTo instance (members holding.old.slots.slots) (members holding.new.slots.slots)) }
+{
+    let done = is_done(plan, &instance, h);
+    let place = holding.slots.put(instance)?;
+    if done {
+        holding.ripe.push(place)?;
+        return Ok(());
+    }
+    register(holding, plan, focus, hooks, place, h)?;
+    Ok(())
+}
+
+/// Adds the instances, which were judged at `h`.
+pub(crate) fn hold_all(
+    holding: &mut Holding,
+    plan: &Plan,
+    focus: bool,
+    hooks: &Hooks,
+    mut born: Vec<Instance>,
+    h: u64,
+) -> Result<(), AllocError>
+    requires proper { IsProper plan.now }
+    requires hooks { AreHooks plan.now hooks.now.events.items hooks.now.windows.items }
+    requires of { AllOf plan.now born.items }
+    requires able { AllByRecursion (IsAble plan.now focus h) born.items }
+    requires tidy { IsTidyHolding plan.now focus hooks.now holding.old h }
+    requires small { h ≤ 2 ^ 42 }
+    ensures tidy { OnOk result (IsTidyHolding plan.now focus hooks.now holding.new h) }
+    ensures joins { OnOk result (Joins (members holding.old.slots.slots) born.items (members holding.new.slots.slots)) }
+{
+    while let Some(instance) = born.pop() {
+        hold(holding, plan, focus, hooks, instance, h)?;
+    }
+    Ok(())
+}
+
+/// Finds again what stands in the places and was judged at `h`: each awaited event that can come
+/// by then and couldn't by `since`, and what is done.
+fn settle_places(
+    holding: &mut Holding,
+    plan: &Plan,
+    focus: bool,
+    hooks: &Hooks,
+    places: &BTreeSet<u32>,
+    since: u64,
+    h: u64,
+) -> Result<(), AllocError>
+    requires proper { IsProper plan.now }
+    requires hooks { AreHooks plan.now hooks.now.events.items hooks.now.windows.items }
+    requires of { (p : _) (i : _) → slot_at holding.old.slots p ≡ Some i → IsOf plan.now i }
+    requires small { h ≤ 2 ^ 42 }
+    ensures { OnOk result (SettlesPlaces plan.now focus hooks.now places.now.keys since h holding.old holding.new) }
+{
+    let events = hooks.events.as_slice();
+    link_places(
+        &mut holding.waiting,
+        plan,
+        focus,
+        events,
+        &holding.slots,
+        places,
+        since,
+        h,
+    )?;
+    note_ripe(plan, &holding.slots, places, h, &mut holding.ripe)?;
+    Ok(())
+}
+
+/// Takes in an entry: what it touches and what is due before its date is judged anew at its date,
+/// and what can't be recognised any more goes.
+pub(crate) fn follow(
+    alloc: Global,
+    holding: &mut Holding,
+    plan: &Plan,
+    focus: bool,
+    hooks: &Hooks,
+    history: &History,
+    entry: &Entry,
+    since: u64,
+) -> Result<(), AllocError>
+    requires proper { IsProper plan.now }
+    requires hooks { AreHooks plan.now hooks.now.events.items hooks.now.windows.items }
+    requires tidy { IsTidyHolding plan.now focus hooks.now holding.old since }
+    requires later { since ≤ entry.now.date }
+    requires date { entry.now.date < 2 ^ 40 }
+    ensures tidy { OnOk result (IsTidyHolding plan.now focus hooks.now holding.new entry.now.date) }
+    ensures renews { OnOk result (Renews (IsFollowed plan.now history.now (entry_of entry.now) since) (IsAble plan.now focus entry.now.date) (members holding.old.slots.slots) (members holding.new.slots.slots)) }
+{
+    sweep(holding);
+    let mut places = BTreeSet::new(alloc);
+    collect_due(&mut holding.dues, entry.date, &mut places)?;
+    let windows = hooks.windows.as_slice();
+    note_touched(
+        &mut holding.waiting,
+        &holding.slots,
+        windows,
+        entry,
+        &mut places,
+    )?;
+    follow_places(
+        plan,
+        focus,
+        &mut holding.slots,
+        &places,
+        entry,
+        history,
+        since,
+    );
+    settle_places(holding, plan, focus, hooks, &places, since, entry.date)?;
+    Ok(())
+}
+
+/// Passes the dates up to `h`: what is due before is judged anew at `h`, and what can't be
+/// recognised any more goes.
+pub(crate) fn pass(
+    alloc: Global,
+    holding: &mut Holding,
+    plan: &Plan,
+    focus: bool,
+    hooks: &Hooks,
+    history: &History,
+    since: u64,
+    h: u64,
+) -> Result<(), AllocError>
+    requires proper { IsProper plan.now }
+    requires hooks { AreHooks plan.now hooks.now.events.items hooks.now.windows.items }
+    requires tidy { IsTidyHolding plan.now focus hooks.now holding.old since }
+    requires later { since ≤ h }
+    requires small { h ≤ 2 ^ 42 }
+    ensures tidy { OnOk result (IsTidyHolding plan.now focus hooks.now holding.new h) }
+    ensures renews { OnOk result (Renews (IsPassed plan.now history.now since h) (IsAble plan.now focus h) (members holding.old.slots.slots) (members holding.new.slots.slots)) }
+{
+    sweep(holding);
+    let mut places = BTreeSet::new(alloc);
+    collect_due(&mut holding.dues, h, &mut places)?;
+    pass_places(plan, focus, &mut holding.slots, &places, history, since, h);
+    settle_places(holding, plan, focus, hooks, &places, since, h)?;
+    Ok(())
+}
