@@ -12,7 +12,7 @@ use std::marker::Model;
 use thiserror::Error;
 
 /// The number of a symbol in its table.
-#[derive(Clone, Copy, Debug, Default, PartialEq, Eq, Drop)]
+#[derive(Clone, Copy, Debug, Default, PartialEq, Eq, PartialOrd, Ord, Drop)]
 pub struct Sym(pub u32);
 
 /// Why a symbol was refused: its text is new and the table is full, or memory is wanting.
