@@ -1,5 +1,6 @@
 use crate::{Command, read_words, usage_text};
 use std::alloc::{AllocError, Global};
+use std::process::Abort;
 use std::test::Fail;
 
 /// What words that are parted by single spaces ask for.
@@ -40,8 +41,17 @@ fn shown(alloc: Global, text: &str) -> Result<String, AllocError> {
     }
 }
 
+/// Fails where some words ask for something else than what stands beside them.
+fn are_commands(rt: &impl Abort, alloc: Global, rows: &[(&str, &str)]) -> Result<(), Fail> {
+    for (words, want) in rows {
+        let shown = shown(alloc, words)?;
+        assert!(rt; shown.as_str() == *want, "{words}: {shown}");
+    }
+    Ok(())
+}
+
 #[test]
-fn words_are_commands(rt: HostRuntime) -> Result<(), Fail> {
+fn positions_and_options_are_told_apart(rt: HostRuntime) -> Result<(), Fail> {
     let rows = [
         ("", "none"),
         ("run", "none"),
@@ -56,6 +66,18 @@ fn words_are_commands(rt: HostRuntime) -> Result<(), Fail> {
         ("run m l --", "run m l"),
         ("run - l", "run - l"),
         ("run  l", "run  l"),
+        ("run --help", "none"),
+        ("run --version m l", "none"),
+        ("Run m l", "none"),
+        ("help", "none"),
+        ("--help", "none"),
+    ];
+    are_commands(&rt, rt.alloc(), &rows)
+}
+
+#[test]
+fn options_of_runs_stand_once(rt: HostRuntime) -> Result<(), Fail> {
+    let rows = [
         ("run --summary m l", "summary m l"),
         ("run m --summary l", "summary m l"),
         ("run m l --summary", "summary m l"),
@@ -70,6 +92,14 @@ fn words_are_commands(rt: HostRuntime) -> Result<(), Fail> {
         ("run --focus=x m l", "none"),
         ("run --focus m", "none"),
         ("run -- --focus l", "run --focus l"),
+        ("--focus run m l", "none"),
+    ];
+    are_commands(&rt, rt.alloc(), &rows)
+}
+
+#[test]
+fn a_tally_names_its_kinds(rt: HostRuntime) -> Result<(), Fail> {
+    let rows = [
         (
             "run --tally count m l",
             "run [true, false, false, false] m l",
@@ -97,11 +127,13 @@ fn words_are_commands(rt: HostRuntime) -> Result<(), Fail> {
         ("run --tally count,span,count m l", "none"),
         ("run --tally count --tally span m l", "none"),
         ("model --tally count m", "none"),
-        ("run --help", "none"),
-        ("run --version m l", "none"),
-        ("Run m l", "none"),
-        ("help", "none"),
-        ("--help", "none"),
+    ];
+    are_commands(&rt, rt.alloc(), &rows)
+}
+
+#[test]
+fn models_are_printed_in_two_ways(rt: HostRuntime) -> Result<(), Fail> {
+    let rows = [
         ("model m", "Canonical m"),
         ("model --minimal m", "Minimal m"),
         ("model m --minimal", "Minimal m"),
@@ -111,6 +143,14 @@ fn words_are_commands(rt: HostRuntime) -> Result<(), Fail> {
         ("--minimal model m", "none"),
         ("model", "none"),
         ("model m l", "none"),
+        ("model --focus m", "none"),
+    ];
+    are_commands(&rt, rt.alloc(), &rows)
+}
+
+#[test]
+fn a_drill_has_a_seed_and_a_length(rt: HostRuntime) -> Result<(), Fail> {
+    let rows = [
         ("drill 7 2", "drill 7 2"),
         ("drill 007 0", "drill 7 0"),
         ("drill 2147483646 1000000", "drill 2147483646 1000000"),
@@ -134,19 +174,20 @@ fn words_are_commands(rt: HostRuntime) -> Result<(), Fail> {
         ("drill --focus 1", "none"),
         ("drill -- --focus 1", "none"),
         ("drill --summary 1 1", "none"),
-        ("model --focus m", "none"),
+    ];
+    are_commands(&rt, rt.alloc(), &rows)
+}
+
+#[test]
+fn an_import_has_a_table(rt: HostRuntime) -> Result<(), Fail> {
+    let rows = [
         ("import --focus t", "none"),
-        ("--focus run m l", "none"),
         ("import t", "import t"),
         ("import", "none"),
         ("import a b", "none"),
         ("import --minimal t", "none"),
     ];
-    for (words, want) in rows {
-        let shown = shown(rt.alloc(), words)?;
-        assert!(rt; shown.as_str() == want, "{words}: {shown}");
-    }
-    Ok(())
+    are_commands(&rt, rt.alloc(), &rows)
 }
 
 #[test]
