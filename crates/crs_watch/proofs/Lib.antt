@@ -1,3 +1,4 @@
+mod Armed
 mod Terms
 mod Verdicts
 mod Counting

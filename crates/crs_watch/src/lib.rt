@@ -1,4 +1,4 @@
-//! How the windows of a chronicle stand.
+//! How the windows of a chronicle stand, and which of those that are armed have a date.
 #![tactic(auto)]
 
 mod beginning;
@@ -6,11 +6,15 @@ mod judging;
 mod naming;
 mod passing;
 mod settling;
+mod touched;
+mod watch;
 
 pub use beginning::begin;
 pub use judging::judge;
 pub use passing::pass;
 pub use settling::settle;
+pub use touched::Touched;
+pub use watch::Watch;
 
 #[cfg(test)]
 mod tests;

@@ -1,6 +1,6 @@
 ghost use Rattle.std.specs.Prelude.{◌≡◌, ◌≤◌, ◌<◌, ◌^◌, ◌≤ℤ◌, pos, [], length, IfOk, OnOk};
 
-use crate::{begin, judge, pass, settle};
+use crate::{Watch, begin, judge, pass, settle};
 use crs_base::{Entry, List, Sym, SymList, Text};
 use crs_history::History;
 use crs_model::{Anchor, Binding, Body, Pattern, Progress, Stretch, Term, Verdict, Window};
@@ -97,5 +97,29 @@ fn a_value_holds_from_its_change_on(rt: HostRuntime) -> Result<(), Fail> {
     assert!(rt; begin(&held, &binding, stretch, &history, 20) == NEW);
     let q = pass(&held, &binding, stretch, p, &history, 5, 20);
     assert!(rt; judge(&held, stretch, q, 20) == Verdict::Met);
+    Ok(())
+}
+
+#[test]
+fn armed_pairs_are_touched_by_date(rt: HostRuntime) -> Result<(), Fail> {
+    let mut watch = Watch::new(rt.alloc());
+    let late = Stretch { from: 3, to: 20 };
+    watch.arm(7, 1, Sym(4), Stretch { from: -5, to: 9 })?;
+    watch.arm(7, 0, Sym(4), late)?;
+    watch.arm(2, 3, Sym(4), late)?;
+    watch.arm(2, 3, Sym(5), late)?;
+    watch.arm(9, 0, Sym(3), late)?;
+    watch.arm(8, 0, Sym(4), Stretch { from: 9, to: 10 })?;
+    let touched = [(2, 3), (7, 0), (7, 1)];
+    assert!(rt; watch.touched(Sym(4), 8).eq(touched));
+    assert!(rt; watch.touched(Sym(4), 2).eq([(7, 1)]));
+    assert!(rt; watch.touched(Sym(4), 9).eq([(2, 3), (7, 0), (8, 0)]));
+    watch.arm(7, 0, Sym(4), Stretch { from: 30, to: 31 })?;
+    watch.disarm(2);
+    assert!(rt; watch.touched(Sym(4), 8).eq([(7, 1)]));
+    assert!(rt; watch.touched(Sym(4), 30).eq([(7, 0)]));
+    assert!(rt; watch.touched(Sym(4), 31).next() == None);
+    assert!(rt; watch.touched(Sym(5), 8).next() == None);
+    assert!(rt; watch.touched(Sym(3), 8).next() == Some((9, 0)));
     Ok(())
 }
