@@ -36,10 +36,10 @@ place_of [] x d i = absurd i
 place_of (y ∷ xs) x d (inl e) = (0, omega arith, sym e)
 place_of (y ∷ xs) x d (inr i) = let r = place_of xs x d i in (suc r.0, (let l = r.1 in omega arith), r.2)
 
-contains_in : {A : Type 0} (xs : List A) (x : A) → Contains xs x → IsIn x xs
+pub contains_in : {A : Type 0} (xs : List A) (x : A) → Contains xs x → IsIn x xs
 contains_in {A} xs x h = subst (λ (t : A). IsIn t xs) h.2 (in_at xs h.0 x h.1)
 
-in_contains : {A : Type 0} (xs : List A) (x : A) → IsIn x xs → Contains xs x
+pub in_contains : {A : Type 0} (xs : List A) (x : A) → IsIn x xs → Contains xs x
 in_contains xs x i = place_of xs x x i
 
 pub moved_in : {A : Type 0} (xs ys : List A) → IsPermutation xs ys → (x : A) → IsIn x xs → IsIn x ys

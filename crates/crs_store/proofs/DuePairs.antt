@@ -1,8 +1,6 @@
 -- The pairs of a calendar: as due dates are put in, and as what is due is collected.
-use Rattle.std.proofs.Common.{Bool, ◌≡◌, ℕ, ◌≤◌, ◌<◌, ◌+◌, ◌^◌, List, ◌∷◌, length, sym, ap, subst, ◌∙◌, arith, inl, inr, ◌⊎◌}
+use Rattle.std.proofs.Common.{Bool, ◌≡◌, ℕ, ◌≤◌, ◌<◌, ◌+◌, ◌^◌, List, ◌∷◌, length, sym, ap, subst, ◌∙◌, arith, inl, inr}
 use Rattle.std.specs.Prelude.{ℤ, pos, ◌+ℤ◌, ◌≤ℤ◌, Option, Some, None, IsSomeAnd, OnOk, OnErr, Result, slice_get, All}
-use Rattle.std.specs.Ordering.{nat_cmp}
-use Rattle.std.specs.BTreeSet.{insert_key}
 use Rattle.std.specs.List.Sorted.{IsPermutation}
 use Rattle.std.proofs.lemmas.Bool.{cases_lt}
 use Rattle.std.proofs.lemmas.Int.{ints}
@@ -33,7 +31,6 @@ use Rattle.crs_store.specs.Levels.{levels_in, IsLastOf, IsLastDate}
 use Rattle.crs_store.specs.Dues.{IsStart, IsDueFor, IsFirstOf, IsUndue, StandsAtEach, AreDue, AreKept, AreCollected, HasPlaces}
 use Rattle.crs_store.specs.Windows.{IsSameInstance}
 use Rattle.crs_store.proofs.Ascending.{moved_in}
-use Rattle.crs_store.proofs.Noting.{insert_in, insert_keeps}
 use Rattle.crs_store.proofs.Progress.{stretch_of}
 
 -- ---- one date
@@ -184,12 +181,12 @@ pub record IsCollectedTo (h : ℕ) (old : List Timed) (was : List ℕ) (new : Sc
   pub within : new.date ≤ h
 
 pub collected_next : (h : ℕ) (old : List Timed) (was : List ℕ) (mid new : Schedule) (places after : List ℕ) (x : Timed) → IsCollectedTo h old was mid places
-    → IsPermutation mid.pairs (x ∷ new.pairs) → after ≡ insert_key nat_cmp places x.handle.place → new.date ≤ h → x.date < h → IsCollectedTo h old was new after
-collected_next h old was mid new places after x c p is low early = record {
-  collected = λ t i. subst (λ (ps : List ℕ). IsIn t new.pairs ⊎ ((t.date < h) × IsIn t.handle.place ps)) (sym is) (elim (c.collected t i) [
-    | inl j ↦ (elim (moved_in _ _ p t j) [ inl e ↦ inr (subst (λ (y : Timed). y.date < h) (sym e) early, subst (λ (q : ℕ). IsIn q (insert_key nat_cmp places x.handle.place)) (sym (ap (λ (s : Timed). s.handle.place) e)) (insert_in places x.handle.place)) | inr k ↦ inl k ])
-    | inr j ↦ inr (j.0, insert_keeps places x.handle.place t.handle.place j.1)
-  ]);
-  noted = λ q i. subst (IsIn q) (sym is) (insert_keeps places x.handle.place q (c.noted q i));
+    → IsPermutation mid.pairs (x ∷ new.pairs) → IsIn x.handle.place after → HasPlaces places after → new.date ≤ h → x.date < h → IsCollectedTo h old was new after
+collected_next h old was mid new places after x c p there kept low early = record {
+  collected = λ t i. elim (c.collected t i) [
+    | inl j ↦ (elim (moved_in _ _ p t j) [ inl e ↦ inr (subst (λ (y : Timed). y.date < h) (sym e) early, subst (λ (q : ℕ). IsIn q after) (sym (ap (λ (s : Timed). s.handle.place) e)) there) | inr k ↦ inl k ])
+    | inr j ↦ inr (j.0, kept t.handle.place j.1)
+  ];
+  noted = λ q i. kept q (c.noted q i);
   within = low;
 }

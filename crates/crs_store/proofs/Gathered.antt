@@ -1,12 +1,11 @@
 -- The forks of what stands in places.
-use Rattle.std.proofs.Common.{false, Bool, ◌≡◌, ℕ, zero, suc, ◌<◌, ◌≤◌, ◌+◌, ◌*◌, List, [], ◌∷◌, ◌++◌, length, take, get_or, refl, sym, ap, subst, ◌∙◌, inl, inr, arith, append_assoc, append-nil, length-append}
+use Rattle.std.proofs.Common.{false, Bool, ◌≡◌, ℕ, zero, suc, ◌<◌, ◌≤◌, ◌+◌, ◌*◌, List, [], ◌∷◌, ◌++◌, length, take, get_or, refl, sym, ap, subst, ◌∙◌, inl, inr, arith, append_assoc, append-nil, length-append, drop}
 use Rattle.std.proofs.Math.Nat.{mul-add}
 use Rattle.std.proofs.lemmas.Bool.Decides.{eqb_tells}
 use Rattle.std.proofs.lemmas.List.{length-map, map-append, take_more, take_all}
 use Rattle.std.proofs.lemmas.Cmp.{ranked}
-use Rattle.std.proofs.lemmas.List.Elements.{recursion_from_All}
-use Rattle.std.specs.Prelude.{Result, Ok, Err, IfOk, Option, Some, None, IsSome, ◌↔◌, IfSome, slice_get, slice_index_or}
-use Rattle.std.specs.List.{All, AllByRecursion, AllZip}
+use Rattle.std.specs.Prelude.{Result, Ok, Err, IfOk, Option, Some, None, IfSome, slice_get, slice_index_or}
+use Rattle.std.specs.List.{AllByRecursion, AllZip}
 use Rattle.std.specs.List.Sorted.{IsStrictlySortedBy}
 use Rattle.std.specs.Ordering.{nat_cmp}
 use Rattle.std.specs.declared.cmp.Ordering.TheVariants.{Less}
@@ -324,18 +323,19 @@ events_cost focus start now next n each h k flat = let a = h flat in let b = k f
 less_is : (p q : ℕ) → nat_cmp p q ≡ Less → p < q
 less_is p q e = ranked p q Less (sym e)
 
-pub all_behind : (p : ℕ) (ks : List ℕ) → All (λ q. nat_cmp p q ≡ Less) ks → AllByRecursion (λ q. p < q) ks
-all_behind p ks h = all_each ks (less_is p) (recursion_from_All (λ q. nat_cmp p q ≡ Less) ks h)
-
 pub ascends : (ks : List ℕ) → IsStrictlySortedBy nat_cmp ks → Ascends ks
 unfolding IsStrictlySortedBy
 ascends [] h = tt
 ascends (k ∷ ks) h = (all_each ks (less_is k) h.0, ascends ks h.1)
 
-pub none_left : (o : Option ℕ) (ks : List ℕ) → (IsSome o ↔ (0 < length ks)) → o ≡ None → ks ≡ []
-none_left o [] says e = refl
-none_left None (k ∷ ks) says e = let t = says.1 (omega arith) in absurd cc
-none_left (Some p) (k ∷ ks) says e = absurd cc
+-- of places in order, one and those behind it
+pub ascends_from : (ks : List ℕ) (n : ℕ) → IsStrictlySortedBy nat_cmp ks → (p : ℕ) (left : List ℕ) → drop n ks ≡ p ∷ left → AllByRecursion (λ q. p < q) left × Ascends left
+ascends_from ks n h p left e = subst Ascends e (behind ks n (ascends ks h))
+  where
+    behind : (ps : List ℕ) (k : ℕ) → Ascends ps → Ascends (drop k ps)
+    behind ps zero o = o
+    behind [] (suc k) o = tt
+    behind (q ∷ ps) (suc k) o = behind ps k o.1
 
 -- ---- the hooks of events
 

@@ -1,12 +1,8 @@
 -- Places that are noted, and handles that wait.
 use Rattle.std.proofs.Common.{◌≡◌, ◌≢◌, ◌⊎◌, ℕ, zero, suc, ◌<◌, ◌≤◌, ◌+◌, List, [], ◌∷◌, ◌++◌, length, take, get_or, refl, sym, ap, subst, ◌∙◌, inl, inr, arith, true, nat_eq}
 use Rattle.std.specs.Prelude.{slice_index_or}
-use Rattle.std.specs.Ordering.{nat_cmp}
-use Rattle.std.specs.Cmp.{nat_cmp_is}
-use Rattle.std.specs.BTreeSet.{insert_key}
 use Rattle.std.specs.declared.option.Option.{Option}
 use Rattle.std.specs.declared.option.Option.TheVariants.{None, Some}
-use Rattle.std.specs.declared.cmp.Ordering.TheVariants.{Less, Equal, Greater}
 use Rattle.std.proofs.lemmas.Bool.{cases_eq, cases_lt, lt-ltb}
 use Rattle.std.proofs.lemmas.Bool.Decides.{nat_tests}
 use Rattle.std.proofs.lemmas.List.{take_more, take_all}
@@ -22,31 +18,6 @@ use Rattle.crs_store.specs.declared.hooks.Hook.{Hook}
 use Rattle.crs_store.specs.Hooks.{Waits, KeepsFresh, key_with, picked_argument}
 use Rattle.crs_store.specs.Links.{hook_at, WaitsFor, HasWaiting, HasTouched}
 use Rattle.crs_store.specs.Slots.{SlotsState, handle_at}
-
--- ---- numbers in order
-
-three : (a b : ℕ) → (a < b) ⊎ (a ≡ b) ⊎ (b < a)
-three a b = elim (cases_eq a b) [ inl e ↦ inr (inl e) | inr n ↦ elim (cases_lt a b) [ inl l ↦ inl l | inr m ↦ inr (inr (omega arith)) ] ]
-
-pub insert_in : (ks : List ℕ) (k : ℕ) → IsIn k (insert_key nat_cmp ks k)
-insert_in [] k = inl refl
-insert_in (x ∷ ks) k = elim (three k x) [
-  | inl l ↦ rw (sym (nat_cmp_is k x Less l)) (inl refl)
-  | inr r ↦ elim r [
-    | inl e ↦ rw (sym (nat_cmp_is k x Equal e)) (inl e)
-    | inr g ↦ rw (sym (nat_cmp_is k x Greater g)) (inr (insert_in ks k))
-  ]
-]
-
-pub insert_keeps : (ks : List ℕ) (k p : ℕ) → IsIn p ks → IsIn p (insert_key nat_cmp ks k)
-insert_keeps [] k p i = absurd i
-insert_keeps (x ∷ ks) k p i = elim (three k x) [
-  | inl l ↦ rw (sym (nat_cmp_is k x Less l)) (inr i)
-  | inr r ↦ elim r [
-    | inl e ↦ rw (sym (nat_cmp_is k x Equal e)) i
-    | inr g ↦ rw (sym (nat_cmp_is k x Greater g)) (elim i [ inl s ↦ inl s | inr j ↦ inr (insert_keeps ks k p j) ])
-  ]
-]
 
 -- ---- what is fresh
 

@@ -1,6 +1,8 @@
 //! The forks of the instances that may come of an entry.
 ghost use Rattle.std.specs.Prelude.{◌≡◌, ◌+◌, ◌*◌, ◌<◌, ◌≤◌, ◌^◌, length, None, false, IfOk, OnOk};
 ghost use Rattle.std.specs.List.{AllZip, AllByRecursion};
+ghost use Rattle.std.specs.List.Sorted.{IsStrictlySortedBy};
+ghost use Rattle.std.specs.Ordering.{nat_cmp};
 ghost use Rattle.crs_base.specs.Seen.{entry_of};
 ghost use Rattle.crs_base.specs.Words.{IsIn};
 ghost use Rattle.crs_history.specs.Histories.{EndsWith};
@@ -16,7 +18,7 @@ ghost use Rattle.crs_store.specs.Windows.{IsAble};
 
 use crate::hooks::{Hook, key_of_entry, key_of_symbol};
 use crate::levels::is_awaited;
-use crate::links::note;
+use crate::places::{note, sort_places};
 use crate::scanning::decide;
 use crate::slots::Slots;
 use crs_base::{Entry, Steps};
@@ -26,7 +28,6 @@ use crs_index::{Index, Key};
 use crs_instance::Instance;
 use crs_model::Plan;
 use std::alloc::{AllocError, Global};
-use std::collections::BTreeSet;
 use std::rc::Rc;
 use std::sync::ledger::Ledger;
 
@@ -77,12 +78,12 @@ fn note_able(
     place: u32,
     event: u8,
     date: u64,
-    places: &mut BTreeSet<u32>,
+    places: &mut Vec<u32>,
 ) -> Result<(), AllocError>
     requires windows { HaveWindow slots.now event }
     requires date { date < 2 ^ 40 }
-    ensures noted { OnOk result (IsNoted slots.now event date places.new.keys place) }
-    ensures kept { (p : _) → IsIn p places.old.keys → IsIn p places.new.keys }
+    ensures noted { OnOk result (IsNoted slots.now event date places.new.items place) }
+    ensures kept { (p : _) → IsIn p places.old.items → IsIn p places.new.items }
 {
     let Some(instance) = slots.get(place) else {
         return Ok(());
@@ -101,14 +102,14 @@ fn note_able_bucket(
     key: Key,
     event: u8,
     date: u64,
-    places: &mut BTreeSet<u32>,
+    places: &mut Vec<u32>,
 ) -> Result<(), AllocError>
     requires windows { HaveWindow slots.now event }
     requires date { date < 2 ^ 40 }
     ensures fresh { KeepsFresh slots.now.serials waiting.old waiting.new }
     ensures standing { KeepsStanding slots.now waiting.old waiting.new }
-    ensures noted { OnOk result (AreCandidates slots.now waiting.old key event date places.new.keys) }
-    ensures kept { (p : _) → IsIn p places.old.keys → IsIn p places.new.keys }
+    ensures noted { OnOk result (AreCandidates slots.now waiting.old key event date places.new.items) }
+    ensures kept { (p : _) → IsIn p places.old.items → IsIn p places.new.items }
 {
     let Some(number) = waiting.find(&key) else {
         return Ok(());
@@ -127,14 +128,14 @@ fn note_candidates(
     event: u8,
     hook: Hook,
     entry: &Entry,
-    places: &mut BTreeSet<u32>,
+    places: &mut Vec<u32>,
 ) -> Result<(), AllocError>
     requires windows { HaveWindow slots.now event }
     requires date { entry.now.date < 2 ^ 40 }
     ensures fresh { KeepsFresh slots.now.serials waiting.old waiting.new }
     ensures standing { KeepsStanding slots.now waiting.old waiting.new }
-    ensures lacking { OnOk result (AreCandidates slots.now waiting.old (key_with event None) event entry.now.date places.new.keys) }
-    ensures having { OnOk result (AreCandidates slots.now waiting.old (key_with event (picked_argument hook.pick entry.now.args)) event entry.now.date places.new.keys) }
+    ensures lacking { OnOk result (AreCandidates slots.now waiting.old (key_with event None) event entry.now.date places.new.items) }
+    ensures having { OnOk result (AreCandidates slots.now waiting.old (key_with event (picked_argument hook.pick entry.now.args)) event entry.now.date places.new.items) }
 {
     let class = event as u32;
     let lacking = key_of_symbol(class, None);
@@ -150,7 +151,7 @@ fn forks_at<L: Ledger>(
     plan: &Plan,
     focus: bool,
     slots: &Slots,
-    mut places: BTreeSet<u32>,
+    places: &[u32],
     event: u8,
     history: &History,
     entry: &Rc<Entry>,
@@ -163,14 +164,15 @@ fn forks_at<L: Ledger>(
     requires last { EndsWith (entry_of entry.now.value) history.now.entries }
     requires date { entry.now.value.date < 2 ^ 40 }
     requires small { until ≤ 2 ^ 42 }
+    requires ordered { IsStrictlySortedBy nat_cmp places.now }
     ensures of { IfOk result (λ v. AllOf plan.now v.items) }
     ensures able { IfOk result (λ v. AllByRecursion (IsAble plan.now focus until) v.items) }
-    ensures image { IfOk result (λ v. AreForksOfPlaces plan.now focus history.now (entry_of entry.now.value) until slots.now event places.keys v.items) }
+    ensures image { IfOk result (λ v. AreForksOfPlaces plan.now focus history.now (entry_of entry.now.value) until slots.now event places.now v.items) }
     ensures cost { focus ≡ false → steps.new ≤ steps.old + length (members slots.now.slots) }
 {
     let mut out = Vec::new(alloc);
-    while let Some(place) = places.pop_first() {
-        let Some(instance) = slots.get(place) else {
+    for place in places {
+        let Some(instance) = slots.get(*place) else {
             continue;
         };
         push_forks(
@@ -180,7 +182,7 @@ fn forks_at<L: Ledger>(
     Ok(out)
 }
 
-/// The forks of all instances at the event, for which such a hook looks.
+/// The forks of all instances at the event, for which such a hook looks; the entry has its name.
 fn forks_of_event<L: Ledger>(
     alloc: Global,
     plan: &Plan,
@@ -209,11 +211,10 @@ fn forks_of_event<L: Ledger>(
     ensures image { IfOk result (λ v. AreForksOfEvent plan.now focus history.now (entry_of entry.now.value) until slots.now event v.items) }
     ensures cost { focus ≡ false → steps.new ≤ steps.old + length (members slots.now.slots) }
 {
-    if hook.name != entry.name {
-        return Ok(Vec::new(alloc));
-    }
-    let mut places = BTreeSet::new(alloc);
+    let mut places = Vec::new(alloc);
     note_candidates(waiting, slots, event, hook, entry, &mut places)?;
+    sort_places(&mut places);
+    let places = places.as_slice();
     forks_at(
         alloc, plan, focus, slots, places, event, history, entry, until, steps,
     )
@@ -249,18 +250,12 @@ pub(crate) fn forks<L: Ledger>(
 {
     let mut out = Vec::new(alloc);
     for event in 0..plan.chronicle.events.len() as u8 {
+        let hook = hooks[event as usize];
+        if hook.name != entry.name {
+            continue;
+        }
         let mut more = forks_of_event(
-            alloc,
-            plan,
-            focus,
-            hooks[event as usize],
-            slots,
-            waiting,
-            event,
-            history,
-            entry,
-            until,
-            steps,
+            alloc, plan, focus, hook, slots, waiting, event, history, entry, until, steps,
         )?;
         out.append(&mut more)?;
     }

@@ -6,11 +6,11 @@ ghost use Rattle.crs_store.specs.Levels.{IsLastDate};
 ghost use Rattle.crs_store.specs.Dues.{IsStart, IsDueFor, IsFirstOf, StandsAtEach, AreDue, AreKept, AreCollected, HasPlaces};
 
 use crate::levels::{is_awaited, last_date};
+use crate::places::note;
 use crs_agenda::{Calendar, Handle};
 use crs_instance::Instance;
 use crs_model::{Body, Plan, Stretch};
 use std::alloc::AllocError;
-use std::collections::BTreeSet;
 
 /// A date at or after it is never waited for.
 const END: i64 = 1 << 42;
@@ -205,17 +205,17 @@ pub(crate) fn put_dues(
 pub(crate) fn collect_due(
     calendar: &mut Calendar,
     h: u64,
-    places: &mut BTreeSet<u32>,
+    places: &mut Vec<u32>,
 ) -> Result<(), AllocError>
     requires { calendar.old.date ≤ h }
-    ensures collected { OnOk result (AreCollected h calendar.old.pairs calendar.new.pairs places.new.keys) }
+    ensures collected { OnOk result (AreCollected h calendar.old.pairs calendar.new.pairs places.new.items) }
     ensures later { OnOk result (All (λ t. h ≤ t.date) calendar.new.pairs) }
     ensures stands { OnOk result (calendar.new.date ≡ h) }
-    ensures noted { HasPlaces places.old.keys places.new.keys }
+    ensures noted { HasPlaces places.old.items places.new.items }
     ensures within { calendar.new.date ≤ h }
 {
     while let Some(timed) = calendar.due(h) {
-        let _ = places.insert(timed.handle.place)?;
+        note(places, timed.handle.place)?;
     }
     Ok(())
 }

@@ -16,6 +16,7 @@ use crate::dues::{collect_due, put_dues};
 use crate::hooks::Hooks;
 use crate::linking::{arm_windows, link_events, link_places};
 use crate::links::note_touched;
+use crate::places::sort_places;
 use crate::slots::Slots;
 use crate::walking::{follow_places, note_ripe, pass_places};
 use crate::windows::is_done;
@@ -26,7 +27,6 @@ use crs_index::Index;
 use crs_instance::Instance;
 use crs_model::Plan;
 use std::alloc::{AllocError, Global};
-use std::collections::BTreeSet;
 
 /// Instances in places, and what finds them again: an index by what they wait for, a calendar by
 /// the dates at which they have to be judged anew, and the places of those that are done.
@@ -184,7 +184,7 @@ fn settle_places(
     plan: &Plan,
     focus: bool,
     hooks: &Hooks,
-    places: &BTreeSet<u32>,
+    places: &[u32],
     since: u64,
     h: u64,
 ) -> Result<(), AllocError>
@@ -192,7 +192,7 @@ fn settle_places(
     requires hooks { AreHooks plan.now hooks.now.events.items hooks.now.windows.items }
     requires of { (p : _) (i : _) → slot_at holding.old.slots p ≡ Some i → IsOf plan.now i }
     requires small { h ≤ 2 ^ 42 }
-    ensures { OnOk result (SettlesPlaces plan.now focus hooks.now places.now.keys since h holding.old holding.new) }
+    ensures { OnOk result (SettlesPlaces plan.now focus hooks.now places.now since h holding.old holding.new) }
 {
     let events = hooks.events.as_slice();
     link_places(
@@ -230,7 +230,7 @@ pub(crate) fn follow(
     ensures renews { OnOk result (Renews (IsFollowed plan.now history.now (entry_of entry.now) since) (IsAble plan.now focus entry.now.date) (members holding.old.slots.slots) (members holding.new.slots.slots)) }
 {
     sweep(holding);
-    let mut places = BTreeSet::new(alloc);
+    let mut places = Vec::new(alloc);
     collect_due(&mut holding.dues, entry.date, &mut places)?;
     let windows = hooks.windows.as_slice();
     note_touched(
@@ -240,16 +240,18 @@ pub(crate) fn follow(
         entry,
         &mut places,
     )?;
+    sort_places(&mut places);
+    let places = places.as_slice();
     follow_places(
         plan,
         focus,
         &mut holding.slots,
-        &places,
+        places,
         entry,
         history,
         since,
     );
-    settle_places(holding, plan, focus, hooks, &places, since, entry.date)?;
+    settle_places(holding, plan, focus, hooks, places, since, entry.date)?;
     Ok(())
 }
 
@@ -274,9 +276,11 @@ pub(crate) fn pass(
     ensures renews { OnOk result (Renews (IsPassed plan.now history.now since h) (IsAble plan.now focus h) (members holding.old.slots.slots) (members holding.new.slots.slots)) }
 {
     sweep(holding);
-    let mut places = BTreeSet::new(alloc);
+    let mut places = Vec::new(alloc);
     collect_due(&mut holding.dues, h, &mut places)?;
-    pass_places(plan, focus, &mut holding.slots, &places, history, since, h);
-    settle_places(holding, plan, focus, hooks, &places, since, h)?;
+    sort_places(&mut places);
+    let places = places.as_slice();
+    pass_places(plan, focus, &mut holding.slots, places, history, since, h);
+    settle_places(holding, plan, focus, hooks, places, since, h)?;
     Ok(())
 }

@@ -9,6 +9,7 @@ mod levels;
 mod linking;
 mod links;
 mod order;
+mod places;
 mod refused;
 mod ripening;
 mod scanning;

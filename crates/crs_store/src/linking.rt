@@ -15,7 +15,6 @@ use crs_index::{Index, Key};
 use crs_instance::Instance;
 use crs_model::{DateWindow, Plan};
 use std::alloc::AllocError;
-use std::collections::BTreeSet;
 
 /// Has the handle wait under the key.
 fn wait(waiting: &mut Index, key: Key, handle: Handle) -> Result<(), AllocError>
@@ -198,7 +197,7 @@ pub(crate) fn link_places(
     focus: bool,
     hooks: &[Hook],
     slots: &Slots,
-    places: &BTreeSet<u32>,
+    places: &[u32],
     since: u64,
     h: u64,
 ) -> Result<(), AllocError>
@@ -206,9 +205,9 @@ pub(crate) fn link_places(
     requires of { (p : _) (i : _) → slot_at slots.now p ≡ Some i → IsOf plan.now i }
     requires hooks { length hooks.now ≡ length plan.now.chronicle.events }
     ensures grown { Grows waiting.old waiting.new }
-    ensures linked { OnOk result (AreLinkedAnew plan.now focus hooks.now slots.now waiting.new since h places.now.keys) }
+    ensures linked { OnOk result (AreLinkedAnew plan.now focus hooks.now slots.now waiting.new since h places.now) }
 {
-    for place in places.iter() {
+    for place in places {
         link_place(waiting, plan, focus, hooks, slots, *place, since, h)?;
     }
     Ok(())

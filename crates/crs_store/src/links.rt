@@ -8,33 +8,22 @@ ghost use Rattle.crs_store.specs.Links.{HasWaiting, HasTouched};
 ghost use Rattle.crs_store.specs.Slots.{handle_at};
 
 use crate::hooks::{Hook, key_of_entry, key_of_symbol};
+use crate::places::note;
 use crate::slots::Slots;
 use crs_base::Entry;
 use crs_index::{Index, Key};
 use std::alloc::AllocError;
-use std::collections::BTreeSet;
-
-/// Notes the place.
-pub(crate) fn note(places: &mut BTreeSet<u32>, place: u32) -> Result<(), AllocError>
-    ensures noted { OnOk result (IsIn place places.new.keys) }
-    ensures kept { (p : _) → IsIn p places.old.keys → IsIn p places.new.keys }
-{
-    match places.insert(place) {
-        Ok(_) => Ok(()),
-        Err(_) => Err(AllocError),
-    }
-}
 
 /// Notes the places of those that wait under the key.
 pub(crate) fn note_bucket(
     waiting: &mut Index,
     slots: &Slots,
     key: Key,
-    places: &mut BTreeSet<u32>,
+    places: &mut Vec<u32>,
 ) -> Result<(), AllocError>
     ensures fresh { KeepsFresh slots.now.serials waiting.old waiting.new }
-    ensures kept { (p : _) → IsIn p places.old.keys → IsIn p places.new.keys }
-    ensures noted { OnOk result ((p : _) → is_fresh slots.now.serials (handle_at slots.now p) ≡ true → Waits waiting.old key (handle_at slots.now p) → IsIn p places.new.keys) }
+    ensures kept { (p : _) → IsIn p places.old.items → IsIn p places.new.items }
+    ensures noted { OnOk result ((p : _) → is_fresh slots.now.serials (handle_at slots.now p) ≡ true → Waits waiting.old key (handle_at slots.now p) → IsIn p places.new.items) }
 {
     let Some(number) = waiting.find(&key) else {
         return Ok(());
@@ -53,12 +42,12 @@ fn note_class(
     class: u32,
     hook: Hook,
     entry: &Entry,
-    places: &mut BTreeSet<u32>,
+    places: &mut Vec<u32>,
 ) -> Result<(), AllocError>
     requires { class < 2 ^ 16 }
     ensures fresh { KeepsFresh slots.now.serials waiting.old waiting.new }
-    ensures kept { (p : _) → IsIn p places.old.keys → IsIn p places.new.keys }
-    ensures noted { OnOk result (HasWaiting slots.now waiting.old class hook (entry_of entry.now) places.new.keys) }
+    ensures kept { (p : _) → IsIn p places.old.items → IsIn p places.new.items }
+    ensures noted { OnOk result (HasWaiting slots.now waiting.old class hook (entry_of entry.now) places.new.items) }
 {
     if hook.name != entry.name {
         return Ok(());
@@ -74,12 +63,12 @@ pub(crate) fn note_touched(
     slots: &Slots,
     hooks: &[Hook],
     entry: &Entry,
-    places: &mut BTreeSet<u32>,
+    places: &mut Vec<u32>,
 ) -> Result<(), AllocError>
     requires { length hooks.now ≤ 16 }
     ensures fresh { KeepsFresh slots.now.serials waiting.old waiting.new }
-    ensures kept { (p : _) → IsIn p places.old.keys → IsIn p places.new.keys }
-    ensures noted { OnOk result (HasTouched hooks.now slots.now waiting.old (entry_of entry.now) (length hooks.now) places.new.keys) }
+    ensures kept { (p : _) → IsIn p places.old.items → IsIn p places.new.items }
+    ensures noted { OnOk result (HasTouched hooks.now slots.now waiting.old (entry_of entry.now) (length hooks.now) places.new.items) }
 {
     for k in 0..hooks.len() {
         note_class(waiting, slots, 16 + k as u32, hooks[k], entry, places)?;

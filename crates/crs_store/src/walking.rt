@@ -1,5 +1,7 @@
 //! Instances at some places are followed, passed or found to be done.
 ghost use Rattle.std.specs.Prelude.{◌≡◌, ◌≤◌, ◌<◌, ◌^◌, Some, OnOk, true};
+ghost use Rattle.std.specs.List.Sorted.{IsStrictlySortedBy};
+ghost use Rattle.std.specs.Ordering.{nat_cmp};
 ghost use Rattle.crs_base.specs.Seen.{entry_of};
 ghost use Rattle.crs_base.specs.Words.{IsIn};
 ghost use Rattle.crs_instance.specs.Instances.{IsOf};
@@ -15,7 +17,6 @@ use crs_base::Entry;
 use crs_history::History;
 use crs_model::Plan;
 use std::alloc::AllocError;
-use std::collections::BTreeSet;
 
 /// Settles the entry in the windows of what stands in the places, and passes the dates up to its
 /// date. What can't be recognised any more then goes.
@@ -23,7 +24,7 @@ pub(crate) fn follow_places(
     plan: &Plan,
     focus: bool,
     slots: &mut Slots,
-    places: &BTreeSet<u32>,
+    places: &[u32],
     entry: &Entry,
     history: &History,
     since: u64,
@@ -32,9 +33,10 @@ pub(crate) fn follow_places(
     requires of { (p : _) (i : _) → slot_at slots.old p ≡ Some i → IsOf plan.now i }
     requires since { since ≤ 2 ^ 42 }
     requires date { entry.now.date < 2 ^ 40 }
-    ensures { Walks (IsFollowed plan.now history.now (entry_of entry.now) since) (IsAble plan.now focus entry.now.date) places.now.keys slots.old slots.new }
+    requires ordered { IsStrictlySortedBy nat_cmp places.now }
+    ensures { Walks (IsFollowed plan.now history.now (entry_of entry.now) since) (IsAble plan.now focus entry.now.date) places.now slots.old slots.new }
 {
-    for place in places.iter() {
+    for place in places {
         slots.follow_at(plan, focus, *place, entry, history, since);
     }
 }
@@ -45,7 +47,7 @@ pub(crate) fn pass_places(
     plan: &Plan,
     focus: bool,
     slots: &mut Slots,
-    places: &BTreeSet<u32>,
+    places: &[u32],
     history: &History,
     since: u64,
     h: u64,
@@ -54,9 +56,10 @@ pub(crate) fn pass_places(
     requires of { (p : _) (i : _) → slot_at slots.old p ≡ Some i → IsOf plan.now i }
     requires since { since ≤ 2 ^ 42 }
     requires small { h ≤ 2 ^ 42 }
-    ensures { Walks (IsPassed plan.now history.now since h) (IsAble plan.now focus h) places.now.keys slots.old slots.new }
+    requires ordered { IsStrictlySortedBy nat_cmp places.now }
+    ensures { Walks (IsPassed plan.now history.now since h) (IsAble plan.now focus h) places.now slots.old slots.new }
 {
-    for place in places.iter() {
+    for place in places {
         slots.pass_at(plan, focus, *place, history, since, h);
     }
 }
@@ -96,16 +99,16 @@ fn note_if_ripe(
 pub(crate) fn note_ripe(
     plan: &Plan,
     slots: &Slots,
-    places: &BTreeSet<u32>,
+    places: &[u32],
     h: u64,
     ripe: &mut Vec<u32>,
 ) -> Result<(), AllocError>
     requires proper { IsProper plan.now }
     requires small { h ≤ 2 ^ 42 }
-    ensures noted { OnOk result (NamesDone plan.now h slots.now places.now.keys ripe.new.items) }
+    ensures noted { OnOk result (NamesDone plan.now h slots.now places.now ripe.new.items) }
     ensures kept { (p : _) → IsIn p ripe.old.items → IsIn p ripe.new.items }
 {
-    for place in places.iter() {
+    for place in places {
         note_if_ripe(plan, slots, *place, h, ripe)?;
     }
     Ok(())

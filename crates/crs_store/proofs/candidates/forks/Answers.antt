@@ -1,7 +1,9 @@
-use Rattle.std.proofs.Common.{rules, ◌≡◌, length, arith}
+use Rattle.std.proofs.Common.{rules, ◌≡◌, [], length, sym, arith}
+use Rattle.std.proofs.lemmas.List.{append-nil}
 use Rattle.crs_base.specs.Seen.{entry_of}
+use Rattle.crs_store.specs.Links.{hook_at}
 use Rattle.crs_store.specs.Slots.{members}
-use Rattle.crs_store.proofs.Gathered.{hooks_long, hook_there, gathered_more, gathered_all, events_cost}
+use Rattle.crs_store.proofs.Gathered.{hooks_long, hook_there, none_named, gathered_more, gathered_all, events_cost}
 use Rattle.crs_store.proofs.candidates.forks.Goals as goal
 
 pub bounds-hooks-event : goal.bounds-hooks-event
@@ -24,6 +26,18 @@ loop-event-preserved g c = record {
   standing = λ k p i s w. c.forks_of_event.ensures.standing k p i s (c.loop-event.invariant.standing k p i s w);
   cost = events_cost c.args.focus c.args.steps.now c.loop-event.steps c.forks_of_event.new.steps c.loop-event.event (length (members c.args.slots.now.slots)) c.loop-event.invariant.cost c.forks_of_event.ensures.cost;
 }
+
+pub loop-event-preserved-then-ne : goal.loop-event-preserved-then-ne
+loop-event-preserved-then-ne g c =
+    let x = entry_of c.args.entry.now.value in
+    let other : (hook_at c.args.hooks.now c.loop-event.event).name ≡ x.name → ⊥ = search rules in
+    record {
+      gathered = gathered_more c.args.plan.now c.args.focus c.args.history.now x c.args.until c.args.slots.now c.loop-event.event c.loop-event.out.items [] c.loop-event.out.items (sym (append-nil c.loop-event.out.items)) tt tt
+          (none_named c.args.plan.now c.args.focus c.args.history.now x c.args.until c.args.slots.now c.loop-event.event c.requires.proper c.requires.of (search rules) (hook_at c.args.hooks.now c.loop-event.event) (hook_there c.args.plan.now c.args.hooks.now c.loop-event.event c.requires.hooks) other) c.loop-event.invariant.gathered;
+      fresh = c.loop-event.invariant.fresh;
+      standing = c.loop-event.invariant.standing;
+      cost = λ flat. let k = c.loop-event.invariant.cost flat in omega arith;
+    }
 
 pub returns-clause-image : goal.returns-clause-image
 returns-clause-image g c =

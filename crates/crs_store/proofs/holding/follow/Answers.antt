@@ -1,5 +1,6 @@
-use Rattle.std.proofs.Common.{arith, List, length, subst}
+use Rattle.std.proofs.Common.{arith, List, ℕ, length, sym, subst}
 use Rattle.crs_base.specs.Seen.{entry_of}
+use Rattle.crs_base.specs.Words.{IsIn}
 use Rattle.crs_store.specs.Links.{HasTouched}
 use Rattle.crs_store.proofs.Renewing.{fresh_place}
 use Rattle.crs_store.proofs.Touching.{untouched}
@@ -22,20 +23,20 @@ follow_places-requires-clause-of c = λ p i is. ((c.sweep.ensures.tidy c.args.pl
 pub settle_places-requires-clause-of : goal.settle_places-requires-clause-of
 settle_places-requires-clause-of c =
     let tidy = c.sweep.ensures.tidy c.args.plan.now c.args.focus c.args.hooks.now c.args.since c.requires.tidy in
-    walked_of c.args.plan.now (IsFollowed c.args.plan.now c.args.history.now (entry_of c.args.entry.now) c.args.since) (IsAble c.args.plan.now c.args.focus c.args.entry.now.date) (λ i j r. r.same) c.note_touched.new.places.keys c.sweep.new.holding.slots c.follow_places.new.slots c.follow_places.ensures (λ p i is. (tidy.known p i is).of)
+    walked_of c.args.plan.now (IsFollowed c.args.plan.now c.args.history.now (entry_of c.args.entry.now) c.args.since) (IsAble c.args.plan.now c.args.focus c.args.entry.now.date) (λ i j r. r.same) c.as_slice-places.result.now c.sweep.new.holding.slots c.follow_places.new.slots c.follow_places.ensures (λ p i is. (tidy.known p i is).of)
 
 pub returns-clause-tidy : goal.returns-clause-tidy
 returns-clause-tidy c =
     let tidy = c.sweep.ensures.tidy c.args.plan.now c.args.focus c.args.hooks.now c.args.since c.requires.tidy in
-    all_tidy c.args.plan.now c.args.focus c.requires.proper c.args.hooks.now c.args.since c.args.entry.now.date c.requires.later (let l = c.requires.date in omega arith) c.sweep.new.holding c.sweep.ensures.len tidy c.collect_due.new.calendar c.note_touched.new.waiting c.note_touched.ensures.fresh c.collect_due.new.places.keys c.note_touched.new.places.keys
-    ((c.in_ok-collect_due.ensures {u = tt}).collected) c.note_touched.ensures.kept ((c.in_ok-collect_due.ensures {u = tt}).later) c.collect_due.ensures.within c.follow_places.new.slots c.settle_places.new.holding (c.in_ok-settle_places.ensures {u = tt}) (IsFollowed c.args.plan.now c.args.history.now (entry_of c.args.entry.now) c.args.since) (λ i j r. r.same) c.follow_places.ensures
+    all_tidy c.args.plan.now c.args.focus c.requires.proper c.args.hooks.now c.args.since c.args.entry.now.date c.requires.later (let l = c.requires.date in omega arith) c.sweep.new.holding c.sweep.ensures.len tidy c.collect_due.new.calendar c.note_touched.new.waiting c.note_touched.ensures.fresh c.collect_due.new.places.items c.as_slice-places.result.now
+    ((c.in_ok-collect_due.ensures {u = tt}).collected) (λ p i. subst (λ (ps : List ℕ). IsIn p ps) (sym c.as_slice-places.ensures.value) (c.sort_places.ensures.kept p (c.note_touched.ensures.kept p i))) ((c.in_ok-collect_due.ensures {u = tt}).later) c.collect_due.ensures.within c.follow_places.new.slots c.settle_places.new.holding (c.in_ok-settle_places.ensures {u = tt}) (IsFollowed c.args.plan.now c.args.history.now (entry_of c.args.entry.now) c.args.since) (λ i j r. r.same) c.follow_places.ensures
 
 pub returns-clause-renews : goal.returns-clause-renews
 returns-clause-renews c =
     let tidy = c.sweep.ensures.tidy c.args.plan.now c.args.focus c.args.hooks.now c.args.since c.requires.tidy in
     subst (λ (s : SlotsState). Renews (IsFollowed c.args.plan.now c.args.history.now (entry_of c.args.entry.now) c.args.since) (IsAble c.args.plan.now c.args.focus c.args.entry.now.date) (members s.slots) (members c.settle_places.new.holding.slots.slots)) c.sweep.ensures.slots
-    (all_renew c.args.plan.now c.args.focus c.requires.proper c.args.hooks.now c.args.since c.args.entry.now.date c.requires.later (let l = c.requires.date in omega arith) c.sweep.new.holding c.sweep.ensures.len tidy c.collect_due.new.calendar c.note_touched.new.waiting c.note_touched.ensures.fresh c.collect_due.new.places.keys c.note_touched.new.places.keys
-    ((c.in_ok-collect_due.ensures {u = tt}).collected) c.note_touched.ensures.kept ((c.in_ok-collect_due.ensures {u = tt}).later) c.collect_due.ensures.within c.follow_places.new.slots c.settle_places.new.holding (c.in_ok-settle_places.ensures {u = tt}) (IsFollowed c.args.plan.now c.args.history.now (entry_of c.args.entry.now) c.args.since) (λ i j r. r.same) c.follow_places.ensures
-    (λ p i apart is. stays_followed c.args.plan.now c.args.focus c.args.history.now (entry_of c.args.entry.now) c.args.since c.requires.later i (undue_there c.args.plan.now c.args.focus c.requires.proper c.args.hooks.now c.args.since c.args.entry.now.date c.requires.later (let l = c.requires.date in omega arith) c.sweep.new.holding c.sweep.ensures.len tidy c.collect_due.new.calendar c.note_touched.new.waiting c.note_touched.ensures.fresh c.collect_due.new.places.keys c.note_touched.new.places.keys ((c.in_ok-collect_due.ensures {u = tt}).collected) c.note_touched.ensures.kept ((c.in_ok-collect_due.ensures {u = tt}).later) c.collect_due.ensures.within c.follow_places.new.slots c.settle_places.new.holding (c.in_ok-settle_places.ensures {u = tt}) p i apart is)
-    (untouched c.args.plan.now c.args.hooks.now.windows.items c.requires.hooks.of_windows c.sweep.new.holding.slots c.sweep.new.holding.waiting (entry_of c.args.entry.now) c.args.since c.requires.later c.note_touched.new.places.keys
-    (subst (λ (hs : List Hook). HasTouched hs c.sweep.new.holding.slots c.sweep.new.holding.waiting (entry_of c.args.entry.now) (length hs) c.note_touched.new.places.keys) c.as_slice-windows.ensures.value ((c.in_ok-note_touched.ensures {u = tt}).noted)) p (fresh_place c.sweep.new.holding.slots p i c.sweep.ensures.len is) i (tidy.known p i is).armed apart)))
+    (all_renew c.args.plan.now c.args.focus c.requires.proper c.args.hooks.now c.args.since c.args.entry.now.date c.requires.later (let l = c.requires.date in omega arith) c.sweep.new.holding c.sweep.ensures.len tidy c.collect_due.new.calendar c.note_touched.new.waiting c.note_touched.ensures.fresh c.collect_due.new.places.items c.as_slice-places.result.now
+    ((c.in_ok-collect_due.ensures {u = tt}).collected) (λ p i. subst (λ (ps : List ℕ). IsIn p ps) (sym c.as_slice-places.ensures.value) (c.sort_places.ensures.kept p (c.note_touched.ensures.kept p i))) ((c.in_ok-collect_due.ensures {u = tt}).later) c.collect_due.ensures.within c.follow_places.new.slots c.settle_places.new.holding (c.in_ok-settle_places.ensures {u = tt}) (IsFollowed c.args.plan.now c.args.history.now (entry_of c.args.entry.now) c.args.since) (λ i j r. r.same) c.follow_places.ensures
+    (λ p i apart is. stays_followed c.args.plan.now c.args.focus c.args.history.now (entry_of c.args.entry.now) c.args.since c.requires.later i (undue_there c.args.plan.now c.args.focus c.requires.proper c.args.hooks.now c.args.since c.args.entry.now.date c.requires.later (let l = c.requires.date in omega arith) c.sweep.new.holding c.sweep.ensures.len tidy c.collect_due.new.calendar c.note_touched.new.waiting c.note_touched.ensures.fresh c.collect_due.new.places.items c.as_slice-places.result.now ((c.in_ok-collect_due.ensures {u = tt}).collected) (λ p i. subst (λ (ps : List ℕ). IsIn p ps) (sym c.as_slice-places.ensures.value) (c.sort_places.ensures.kept p (c.note_touched.ensures.kept p i))) ((c.in_ok-collect_due.ensures {u = tt}).later) c.collect_due.ensures.within c.follow_places.new.slots c.settle_places.new.holding (c.in_ok-settle_places.ensures {u = tt}) p i apart is)
+    (untouched c.args.plan.now c.args.hooks.now.windows.items c.requires.hooks.of_windows c.sweep.new.holding.slots c.sweep.new.holding.waiting (entry_of c.args.entry.now) c.args.since c.requires.later c.as_slice-places.result.now
+    (subst (λ (hs : List Hook). HasTouched hs c.sweep.new.holding.slots c.sweep.new.holding.waiting (entry_of c.args.entry.now) (length hs) c.as_slice-places.result.now) c.as_slice-windows.ensures.value (λ k l p fresh named w. subst (λ (ps : List ℕ). IsIn p ps) (sym c.as_slice-places.ensures.value) (c.sort_places.ensures.kept p ((c.in_ok-note_touched.ensures {u = tt}).noted k l p fresh named w)))) p (fresh_place c.sweep.new.holding.slots p i c.sweep.ensures.len is) i (tidy.known p i is).armed apart)))

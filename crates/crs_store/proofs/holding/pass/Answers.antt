@@ -1,4 +1,5 @@
-use Rattle.std.proofs.Common.{arith, subst}
+use Rattle.std.proofs.Common.{arith, List, ℕ, sym, subst}
+use Rattle.crs_base.specs.Words.{IsIn}
 use Rattle.crs_store.specs.Joins.{Renews}
 use Rattle.crs_store.specs.Slots.{SlotsState, members}
 use Rattle.crs_store.specs.Windows.{IsPassed, IsAble}
@@ -14,18 +15,18 @@ pass_places-requires-clause-of c = λ p i is. ((c.sweep.ensures.tidy c.args.plan
 pub settle_places-requires-clause-of : goal.settle_places-requires-clause-of
 settle_places-requires-clause-of c =
     let tidy = c.sweep.ensures.tidy c.args.plan.now c.args.focus c.args.hooks.now c.args.since c.requires.tidy in
-    walked_of c.args.plan.now (IsPassed c.args.plan.now c.args.history.now c.args.since c.args.h) (IsAble c.args.plan.now c.args.focus c.args.h) (λ i j r. r.same) c.collect_due.new.places.keys c.sweep.new.holding.slots c.pass_places.new.slots c.pass_places.ensures (λ p i is. (tidy.known p i is).of)
+    walked_of c.args.plan.now (IsPassed c.args.plan.now c.args.history.now c.args.since c.args.h) (IsAble c.args.plan.now c.args.focus c.args.h) (λ i j r. r.same) c.as_slice-places.result.now c.sweep.new.holding.slots c.pass_places.new.slots c.pass_places.ensures (λ p i is. (tidy.known p i is).of)
 
 pub returns-clause-tidy : goal.returns-clause-tidy
 returns-clause-tidy c =
     let tidy = c.sweep.ensures.tidy c.args.plan.now c.args.focus c.args.hooks.now c.args.since c.requires.tidy in
-    all_tidy c.args.plan.now c.args.focus c.requires.proper c.args.hooks.now c.args.since c.args.h c.requires.later c.requires.small c.sweep.new.holding c.sweep.ensures.len tidy c.collect_due.new.calendar c.sweep.new.holding.waiting (λ k g f w. w) c.collect_due.new.places.keys c.collect_due.new.places.keys
-    ((c.in_ok-collect_due.ensures {u = tt}).collected) (λ p i. i) ((c.in_ok-collect_due.ensures {u = tt}).later) c.collect_due.ensures.within c.pass_places.new.slots c.settle_places.new.holding (c.in_ok-settle_places.ensures {u = tt}) (IsPassed c.args.plan.now c.args.history.now c.args.since c.args.h) (λ i j r. r.same) c.pass_places.ensures
+    all_tidy c.args.plan.now c.args.focus c.requires.proper c.args.hooks.now c.args.since c.args.h c.requires.later c.requires.small c.sweep.new.holding c.sweep.ensures.len tidy c.collect_due.new.calendar c.sweep.new.holding.waiting (λ k g f w. w) c.collect_due.new.places.items c.as_slice-places.result.now
+    ((c.in_ok-collect_due.ensures {u = tt}).collected) (λ p i. subst (λ (ps : List ℕ). IsIn p ps) (sym c.as_slice-places.ensures.value) (c.sort_places.ensures.kept p i)) ((c.in_ok-collect_due.ensures {u = tt}).later) c.collect_due.ensures.within c.pass_places.new.slots c.settle_places.new.holding (c.in_ok-settle_places.ensures {u = tt}) (IsPassed c.args.plan.now c.args.history.now c.args.since c.args.h) (λ i j r. r.same) c.pass_places.ensures
 
 pub returns-clause-renews : goal.returns-clause-renews
 returns-clause-renews c =
     let tidy = c.sweep.ensures.tidy c.args.plan.now c.args.focus c.args.hooks.now c.args.since c.requires.tidy in
     subst (λ (s : SlotsState). Renews (IsPassed c.args.plan.now c.args.history.now c.args.since c.args.h) (IsAble c.args.plan.now c.args.focus c.args.h) (members s.slots) (members c.settle_places.new.holding.slots.slots)) c.sweep.ensures.slots
-    (all_renew c.args.plan.now c.args.focus c.requires.proper c.args.hooks.now c.args.since c.args.h c.requires.later c.requires.small c.sweep.new.holding c.sweep.ensures.len tidy c.collect_due.new.calendar c.sweep.new.holding.waiting (λ k g f w. w) c.collect_due.new.places.keys c.collect_due.new.places.keys
-    ((c.in_ok-collect_due.ensures {u = tt}).collected) (λ p i. i) ((c.in_ok-collect_due.ensures {u = tt}).later) c.collect_due.ensures.within c.pass_places.new.slots c.settle_places.new.holding (c.in_ok-settle_places.ensures {u = tt}) (IsPassed c.args.plan.now c.args.history.now c.args.since c.args.h) (λ i j r. r.same) c.pass_places.ensures
-    (λ p i apart is. stays_passed c.args.plan.now c.args.focus c.args.history.now c.args.since c.args.h c.requires.later i (undue_there c.args.plan.now c.args.focus c.requires.proper c.args.hooks.now c.args.since c.args.h c.requires.later c.requires.small c.sweep.new.holding c.sweep.ensures.len tidy c.collect_due.new.calendar c.sweep.new.holding.waiting (λ k g f w. w) c.collect_due.new.places.keys c.collect_due.new.places.keys ((c.in_ok-collect_due.ensures {u = tt}).collected) (λ p i. i) ((c.in_ok-collect_due.ensures {u = tt}).later) c.collect_due.ensures.within c.pass_places.new.slots c.settle_places.new.holding (c.in_ok-settle_places.ensures {u = tt}) p i apart is)))
+    (all_renew c.args.plan.now c.args.focus c.requires.proper c.args.hooks.now c.args.since c.args.h c.requires.later c.requires.small c.sweep.new.holding c.sweep.ensures.len tidy c.collect_due.new.calendar c.sweep.new.holding.waiting (λ k g f w. w) c.collect_due.new.places.items c.as_slice-places.result.now
+    ((c.in_ok-collect_due.ensures {u = tt}).collected) (λ p i. subst (λ (ps : List ℕ). IsIn p ps) (sym c.as_slice-places.ensures.value) (c.sort_places.ensures.kept p i)) ((c.in_ok-collect_due.ensures {u = tt}).later) c.collect_due.ensures.within c.pass_places.new.slots c.settle_places.new.holding (c.in_ok-settle_places.ensures {u = tt}) (IsPassed c.args.plan.now c.args.history.now c.args.since c.args.h) (λ i j r. r.same) c.pass_places.ensures
+    (λ p i apart is. stays_passed c.args.plan.now c.args.focus c.args.history.now c.args.since c.args.h c.requires.later i (undue_there c.args.plan.now c.args.focus c.requires.proper c.args.hooks.now c.args.since c.args.h c.requires.later c.requires.small c.sweep.new.holding c.sweep.ensures.len tidy c.collect_due.new.calendar c.sweep.new.holding.waiting (λ k g f w. w) c.collect_due.new.places.items c.as_slice-places.result.now ((c.in_ok-collect_due.ensures {u = tt}).collected) (λ p i. subst (λ (ps : List ℕ). IsIn p ps) (sym c.as_slice-places.ensures.value) (c.sort_places.ensures.kept p i)) ((c.in_ok-collect_due.ensures {u = tt}).later) c.collect_due.ensures.within c.pass_places.new.slots c.settle_places.new.holding (c.in_ok-settle_places.ensures {u = tt}) p i apart is)))

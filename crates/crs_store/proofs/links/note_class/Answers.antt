@@ -13,9 +13,9 @@ returns-clause-kept c = λ p i. c.note_bucket-2.ensures.kept p (c.note_bucket.en
 
 pub returns-clause-noted : goal.returns-clause-noted
 returns-clause-noted c =
-    class_noted c.args.slots.now c.args.waiting.now c.note_bucket.new.waiting c.args.class c.args.hook (entry_of c.args.entry.now) c.note_bucket.new.places.keys c.note_bucket-2.new.places.keys c.note_bucket.ensures.fresh c.note_bucket-2.ensures.kept
-    (subst (λ (k : Key). (p : ℕ) → is_fresh c.args.slots.now.serials (handle_at c.args.slots.now p) ≡ true → Waits c.args.waiting.now k (handle_at c.args.slots.now p) → IsIn p c.note_bucket.new.places.keys) c.key_of_symbol.ensures ((c.in_ok-note_bucket.ensures {u = tt}).noted))
-    (subst (λ (k : Key). (p : ℕ) → is_fresh c.args.slots.now.serials (handle_at c.args.slots.now p) ≡ true → Waits c.note_bucket.new.waiting k (handle_at c.args.slots.now p) → IsIn p c.note_bucket-2.new.places.keys) c.key_of_entry.ensures ((c.in_ok-note_bucket-2.ensures {u = tt}).noted))
+    class_noted c.args.slots.now c.args.waiting.now c.note_bucket.new.waiting c.args.class c.args.hook (entry_of c.args.entry.now) c.note_bucket.new.places.items c.note_bucket-2.new.places.items c.note_bucket.ensures.fresh c.note_bucket-2.ensures.kept
+    (subst (λ (k : Key). (p : ℕ) → is_fresh c.args.slots.now.serials (handle_at c.args.slots.now p) ≡ true → Waits c.args.waiting.now k (handle_at c.args.slots.now p) → IsIn p c.note_bucket.new.places.items) c.key_of_symbol.ensures ((c.in_ok-note_bucket.ensures {u = tt}).noted))
+    (subst (λ (k : Key). (p : ℕ) → is_fresh c.args.slots.now.serials (handle_at c.args.slots.now p) ≡ true → Waits c.note_bucket.new.waiting k (handle_at c.args.slots.now p) → IsIn p c.note_bucket-2.new.places.items) c.key_of_entry.ensures ((c.in_ok-note_bucket-2.ensures {u = tt}).noted))
 
 pub returns-in_err-note_bucket-2-clause-kept : goal.returns-in_err-note_bucket-2-clause-kept
 returns-in_err-note_bucket-2-clause-kept c = λ p i. c.note_bucket-2.ensures.kept p (c.note_bucket.ensures.kept p i)

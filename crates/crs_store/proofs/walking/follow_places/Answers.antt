@@ -1,11 +1,14 @@
-use Rattle.std.specs.Map.Iter.{deref}
-use Rattle.std.proofs.lemmas.Map.Iter.{rest_more}
+use Rattle.std.proofs.Common.{rules, inl, refl, ◌+◌, drop, get_or}
+use Rattle.std.proofs.lemmas.List.{drop_more}
 use Rattle.crs_base.specs.Seen.{entry_of}
 use Rattle.crs_store.specs.Windows.{IsAble, IsFollowed}
 use Rattle.crs_store.proofs.Walked.{walked_more}
 use Rattle.crs_store.proofs.walking.follow_places.Goals as goal
 
+pub loop-place-init : goal.loop-place-init
+loop-place-init c = record { at = λ p i. inl i; left = λ p i. (i, refl); others = λ p n. refl; handles = λ p j f. refl; places = refl; ordered = c.requires.ordered }
+
 pub loop-place-preserved : goal.loop-place-preserved
 loop-place-preserved c =
-    walked_more (IsFollowed c.args.plan.now c.args.history.now (entry_of c.args.entry.now) c.args.since) (IsAble c.args.plan.now c.args.focus c.args.entry.now.date) c.args.places.now.keys c.args.slots.now c.loop-place.slots c.follow_at.new.self c.in-Some.place.now c.loop-place.place-iterator c.next.new.self
-    (rest_more deref c.loop-place.place-iterator c.next.new.self c.next.result c.in-Some.place c.in-Some.is c.next.ensures.steps) c.loop-place.invariant c.follow_at.ensures
+    walked_more (IsFollowed c.args.plan.now c.args.history.now (entry_of c.args.entry.now) c.args.since) (IsAble c.args.plan.now c.args.focus c.args.entry.now.date) c.args.places.now c.args.slots.now c.loop-place.slots c.follow_at.new.self (get_or c.args.places.now c.loop-place.place-index 0) (drop c.loop-place.place-index c.args.places.now) (drop (c.loop-place.place-index + 1) c.args.places.now)
+    (drop_more c.args.places.now c.loop-place.place-index 0 (search rules)) c.loop-place.invariant c.follow_at.ensures

@@ -1,7 +1,8 @@
+use Rattle.std.proofs.Common.{drop}
 use Rattle.crs_base.specs.Seen.{entry_of}
 use Rattle.crs_store.specs.Windows.{IsAble, IsFollowed}
 use Rattle.crs_store.proofs.Walked.{IsWalkedBut}
 use Rattle.crs_store.proofs.walking.follow_places.Given as goal
 
 abbrev pub invariant-loop-place : goal.invariant-loop-place
-invariant-loop-place l = IsWalkedBut (IsFollowed l.plan l.history (entry_of l.entry) l.since) (IsAble l.plan l.focus l.entry.date) l.places.keys l.fn.slots l.place-iterator l.slots
+invariant-loop-place l = IsWalkedBut (IsFollowed l.plan l.history (entry_of l.entry) l.since) (IsAble l.plan l.focus l.entry.date) l.places l.fn.slots (drop l.place-index l.places) l.slots

@@ -1,7 +1,6 @@
-use Rattle.std.proofs.Common.{◌≡◌, ℕ, List}
+use Rattle.std.proofs.Common.{rules, ◌+◌, drop, get_or, ◌≡◌, ℕ, List}
 use Rattle.std.specs.Prelude.{Some}
-use Rattle.std.specs.Map.Iter.{deref}
-use Rattle.std.proofs.lemmas.Map.Iter.{rest_more, rest_all}
+use Rattle.std.proofs.lemmas.List.{drop_more, drop_all}
 use Rattle.crs_base.specs.Words.{IsIn}
 use Rattle.crs_instance.specs.Instances.{InstanceState}
 use Rattle.crs_model.specs.declared.plan.Plan.{Plan}
@@ -15,8 +14,8 @@ Named plan h slots ripe p = (i : InstanceState) → slot_at slots p ≡ Some i �
 
 pub loop-place-preserved : goal.loop-place-preserved
 loop-place-preserved c = (
-  each_next (Named c.args.plan.now c.args.h c.args.slots.now c.loop-place.ripe.items) c.args.places.now.keys c.loop-place.place-iterator (Named c.args.plan.now c.args.h c.args.slots.now c.note_if_ripe.new.ripe.items) c.in-Some.place.now c.next.new.self
-      (rest_more deref c.loop-place.place-iterator c.next.new.self c.next.result c.in-Some.place c.in-Some.is c.next.ensures.steps) c.loop-place.invariant.0 (λ p n i e d. c.note_if_ripe.ensures.kept p (n i e d)) ((c.in_ok-note_if_ripe.ensures {u = tt}).noted),
+  each_next (Named c.args.plan.now c.args.h c.args.slots.now c.loop-place.ripe.items) c.args.places.now (drop c.loop-place.place-index c.args.places.now) (Named c.args.plan.now c.args.h c.args.slots.now c.note_if_ripe.new.ripe.items) (get_or c.args.places.now c.loop-place.place-index 0) (drop (c.loop-place.place-index + 1) c.args.places.now)
+      (drop_more c.args.places.now c.loop-place.place-index 0 (search rules)) c.loop-place.invariant.0 (λ p n i e d. c.note_if_ripe.ensures.kept p (n i e d)) ((c.in_ok-note_if_ripe.ensures {u = tt}).noted),
   λ p i. c.note_if_ripe.ensures.kept p (c.loop-place.invariant.1 p i),
 )
 
@@ -25,5 +24,5 @@ returns-in_err-note_if_ripe-clause-kept c = λ p i. c.note_if_ripe.ensures.kept 
 
 pub returns-clause-noted : goal.returns-clause-noted
 returns-clause-noted c =
-    each_last (Named c.args.plan.now c.args.h c.args.slots.now c.loop-place.ripe.items) c.args.places.now.keys c.loop-place.place-iterator
-    (rest_all deref c.loop-place.place-iterator c.next.new.self c.next.result c.in-None.is c.next.ensures.steps) c.loop-place.invariant.0
+    each_last (Named c.args.plan.now c.args.h c.args.slots.now c.loop-place.ripe.items) c.args.places.now (drop c.loop-place.place-index c.args.places.now)
+    (drop_all c.loop-place.place-index c.args.places.now (search rules)) c.loop-place.invariant.0
