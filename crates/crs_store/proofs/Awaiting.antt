@@ -1,6 +1,7 @@
 -- For which level an instance waits.
 use Rattle.std.proofs.Common.{Bool, ◌≡◌, ◌≢◌, ◌+◌, List, [], ◌∷◌, ◌++◌, length-append, ℕ, zero, suc, ◌<◌, ◌≤◌, length, refl, sym, subst, inl, inr, ◌⊎◌, arith}
-use Rattle.std.specs.Prelude.{Option, Some, None, IfSome, ◌↔◌, ℤ, pos, ◌≤ℤ◌}
+use Rattle.std.specs.Prelude.{true, false, is_some, Option, Some, None, IfSome, ◌↔◌, ℤ, pos, ◌≤ℤ◌}
+use Rattle.std.specs.List.{list_all}
 use Rattle.crs_base.specs.Entry.{Entry}
 use Rattle.std.proofs.lemmas.Bool.{cases_lt}
 use Rattle.crs_base.specs.declared.symbols.Sym.{Sym}
@@ -11,7 +12,7 @@ use Rattle.crs_model.specs.Plans.{chronicle, IsProper}
 use Rattle.crs_model.specs.declared.plan.Plan.{Plan}
 use Rattle.crs_base.proofs.Words.{in_append, in_append_left, in_append_right, ordered_append}
 use Rattle.crs_instance.specs.CurrentLevel.{IsCurrentLevel}
-use Rattle.crs_instance.specs.Instances.{InstanceState, IsOf}
+use Rattle.crs_instance.specs.Instances.{InstanceState, IsOf, IsDeadline}
 use Rattle.crs_instance.proofs.GoesOn.{deadline_tells, whole_goes_on}
 use Rattle.crs_store.specs.Levels.{levels_in, IsLastOf, AreAwaited}
 
@@ -54,6 +55,29 @@ module _ (level : ℕ → ℕ) (a : Partial Sym) where
     | inl k ↦ inl (level k.0, (k.0, record { within = (k.1).0; unbound = (k.1).1; least = (k.1).2 }, refl))
     | inr none ↦ inr none
   ]
+
+-- where all events are bound, none is awaited
+pub whole_none : (level : ℕ → ℕ) (a : Partial Sym) → list_all (λ o. is_some o) a ≡ true → IsCurrentLevel level a None
+whole_none level [] all e l free = omega arith
+whole_none level (Some y ∷ a) all zero l free = cc
+whole_none level (Some y ∷ a) all (suc e) l free = whole_none level a all e (omega arith) free
+whole_none level (None ∷ a) all e l free = cc
+
+none_whole : (level : ℕ → ℕ) (a : Partial Sym) → IsCurrentLevel level a None → list_all (λ o. is_some o) a ≡ true
+none_whole level [] none = refl
+none_whole level (Some y ∷ a) none = none_whole level a (λ e l free. none (suc e) (omega arith) free)
+none_whole level (None ∷ a) none = absurd (none zero (omega arith) refl)
+
+-- where levels aren't read, an event of level 0 is awaited unless all are bound
+pub last_flat : (plan : Plan) (focus : Bool) → focus ≡ false → (i : InstanceState) → list_all (λ o. is_some o) i.partial ≡ false → (o : Option ℤ) → IsDeadline (levels_in plan focus) 0 i o → IsLastOf plan focus i o
+last_flat plan true flat i lacks o d = cc
+last_flat plan false flat i lacks o d = elim (current_or_none (levels_in plan false) i.partial) [
+  | inl k ↦ inl (0, subst (λ (n : ℕ). IsCurrentLevel (levels_in plan false) i.partial (Some n)) (sym (k.1).2) k.1, d)
+  | inr none ↦ absurd (two (list_all (λ o. is_some o) i.partial) (none_whole (levels_in plan false) i.partial none) lacks)
+]
+  where
+    two : (b : Bool) → b ≡ true → b ≡ false → ⊥
+    two b t f = cc
 
 -- what the last date tells
 pub last_tells : (plan : Plan) (focus : Bool) (proper : IsProper plan) (i : InstanceState) (of : IsOf plan i) (h : ℕ) (o : Option ℤ) → IsLastOf plan focus i o → CanGoOn (chronicle plan) (levels_in plan focus) i.partial h ↔ IfSome o (λ v. pos h ≤ℤ v)

@@ -139,13 +139,13 @@ fn put_first(
     ensures kept { AreKept calendar.old.pairs calendar.new.pairs }
     ensures stood { calendar.new.date ≡ calendar.old.date }
 {
-    if !is_awaited(plan, focus, instance, event) {
-        return Ok(());
-    }
     let Some(least) = instance.date_window(event).least else {
         return Ok(());
     };
-    if least <= 0 {
+    if least <= since as i64 {
+        return Ok(());
+    }
+    if !is_awaited(plan, focus, instance, event) {
         return Ok(());
     }
     put_due(calendar, least - 1, handle, since)?;

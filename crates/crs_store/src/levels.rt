@@ -32,6 +32,12 @@ pub(crate) fn last_date(plan: &Plan, focus: bool, instance: &Instance) -> Option
     requires of { IsOf plan.now instance.now }
     ensures { IsLastOf plan.now focus instance.now result }
 {
+    if instance.is_whole() {
+        return None;
+    }
+    if !focus {
+        return instance.deadline(plan, 0, focus);
+    }
     match current_level(plan, instance.bound(), focus) {
         None => None,
         Some(level) => instance.deadline(plan, level, focus),

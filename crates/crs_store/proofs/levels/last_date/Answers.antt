@@ -1,0 +1,12 @@
+use Rattle.std.proofs.Common.{rules, ◌≡◌, false, inl, inr, refl, subst}
+use Rattle.std.specs.Prelude.{Bool, ℕ, ℤ, Option}
+use Rattle.crs_instance.specs.Instances.{IsDeadline}
+use Rattle.crs_store.specs.Levels.{levels_in, IsLastOf}
+use Rattle.crs_store.proofs.Awaiting.{whole_none, last_flat}
+use Rattle.crs_store.proofs.levels.last_date.Goals as goal
+
+pub returns-then-is_whole : goal.returns-then-is_whole
+returns-then-is_whole c = inr (whole_none (levels_in c.args.plan.now c.args.focus) c.args.instance.now.partial (search rules), refl)
+
+pub returns-then-not-focus : goal.returns-then-not-focus
+returns-then-not-focus c = last_flat c.args.plan.now c.args.focus (search rules) c.args.instance.now (search rules) c.deadline.result c.deadline.ensures
