@@ -163,8 +163,7 @@ module _ (olds : List StoreState) (past : HistoryState) (held : List (Entry Sym)
 
       offered_on : (next : List StoreState) → AreSameStores news next → AreOffered news pushed x (date_after h after) next
           → AreOfferedAll h after olds past (so.done ++ x ∷ []) next pushed
-      offered_on next same offered =
-          offered_more h olds past so.done x after news now next pushed (subst (λ (t : List (Entry Sym)). AreOfferedAll h t olds past so.done news now) cut so.offered) put_last same offered
+      offered_on next same offered = offered_more h olds past so.done x after news now next pushed (subst (λ (t : List (Entry Sym)). AreOfferedAll h t olds past so.done news now) cut so.offered) put_last same offered
 
       pub settled_on : (next : List StoreState) → AreSameStores news next → (until : ℕ) → until ≡ date_after h after
           → AreOffered news pushed x until next

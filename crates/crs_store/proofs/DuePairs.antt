@@ -74,8 +74,7 @@ same_current level a m n c d =
 
 -- and one last date
 pub last_is : (plan : Plan) (focus : Bool) (i : InstanceState) (o : Option ℤ) (a : ℤ) (t : ℕ) → o ≡ Some a → IsLastOf plan focus i o → IsLastDate plan focus i t → pos t ≡ a
-last_is plan focus i o a t e (inl h) k =
-    its_deadline (levels_in plan focus) k.0 i o a (pos t) e
+last_is plan focus i o a t e (inl h) k = its_deadline (levels_in plan focus) k.0 i o a (pos t) e
     (subst (λ (n : ℕ). IsDeadline (levels_in plan focus) n i o) (same_current (levels_in plan focus) i.partial h.0 k.0 h.1 k.1) h.2) k.2
 last_is plan focus i o a t e (inr h) k = let c = k.1 in absurd (h.0 c.0 (c.1).within (c.1).unbound)
 

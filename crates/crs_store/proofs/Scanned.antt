@@ -89,19 +89,17 @@ module _ (plan : Plan) (focus : Bool) (proper : IsProper plan) (history : Histor
 
   pub kept_able : IsAble plan focus until passed → IsKeptIfAble plan focus history x until parent next (passed ∷ [])
   kept_able able entries now later over way =
-      let o = over_passed entries now later over way in (
-        fine_image entries (passed.partial ∷ []) (one_stays (IsAble plan focus until) (λ i. IsOf plan i × IsOver plan focus entries entries until i) (IsOpenAt plan focus entries entries until)
-            (λ i q p. (open_able plan focus entries entries until i q.0 q.1).1 p) (λ i q f. (open_able plan focus entries entries until i q.0 q.1).0 f) passed (of_passed, o) able),
-        (o, tt),
-      )
+      let o = over_passed entries now later over way in
+      let image = fine_image entries (passed.partial ∷ []) (one_stays (IsAble plan focus until) (λ i. IsOf plan i × IsOver plan focus entries entries until i) (IsOpenAt plan focus entries entries until)
+      (λ i q p. (open_able plan focus entries entries until i q.0 q.1).1 p) (λ i q f. (open_able plan focus entries entries until i q.0 q.1).0 f) passed (of_passed, o) able) in
+      (image, (o, tt))
 
   pub kept_unable : (IsAble plan focus until passed → ⊥) → IsKeptIfAble plan focus history x until parent next []
   kept_unable unable entries now later over way =
-      let o = over_passed entries now later over way in (
-        fine_image entries [] (one_goes (IsAble plan focus until) (λ i. IsOf plan i × IsOver plan focus entries entries until i) (IsOpenAt plan focus entries entries until)
-            (λ i q p. (open_able plan focus entries entries until i q.0 q.1).1 p) (λ i q f. (open_able plan focus entries entries until i q.0 q.1).0 f) passed (of_passed, o) unable),
-        tt,
-      )
+      let o = over_passed entries now later over way in
+      let image = fine_image entries [] (one_goes (IsAble plan focus until) (λ i. IsOf plan i × IsOver plan focus entries entries until i) (IsOpenAt plan focus entries entries until)
+      (λ i q p. (open_able plan focus entries entries until i q.0 q.1).1 p) (λ i q f. (open_able plan focus entries entries until i q.0 q.1).0 f) passed (of_passed, o) unable) in
+      (image, tt)
 
 -- ---- the lists of events
 

@@ -1,7 +1,5 @@
-use Rattle.std.proofs.Common.{rules, ◌≡◌, false, inl, inr, refl, subst}
-use Rattle.std.specs.Prelude.{Bool, ℕ, ℤ, Option}
-use Rattle.crs_instance.specs.Instances.{IsDeadline}
-use Rattle.crs_store.specs.Levels.{levels_in, IsLastOf}
+use Rattle.std.proofs.Common.{rules, inr, refl}
+use Rattle.crs_store.specs.Levels.{levels_in}
 use Rattle.crs_store.proofs.Awaiting.{whole_none, last_flat}
 use Rattle.crs_store.proofs.levels.last_date.Goals as goal
 
