@@ -17,17 +17,16 @@ use Rattle.crs_model.specs.Models.{EventDef}
 use Rattle.crs_model.specs.Partial.{Partial, at, put, dates_of}
 use Rattle.crs_model.specs.Bindings.{look_of, PatternIsBelow}
 use Rattle.crs_model.specs.Plans.{chronicle, IsProper}
-use Rattle.crs_base.specs.Seen.{entry_of}
 use Rattle.crs_model.specs.Seen.{event_of, pattern_of}
 use Rattle.crs_model.proofs.Options.{some_if, none_if}
 use Rattle.crs_base.proofs.Words.{each_from_in}
-use Rattle.crs_instance.specs.Instances.{InstanceState, IsOf, IsInside, CanBe, window_at, no_window, no_progress, IsBoundBy, seen_entry, partial_of}
-use Rattle.std.specs.declared.rc.Rc.{Rc}
-use Rattle.std.proofs.Common.{Global}
-use Rattle.std.specs.Prelude.{slice_set}
-use Rattle.crs_base.specs.declared.entry.Entry.{Entry as CodeEntry}
+use Rattle.crs_instance.specs.Instances.{InstanceState, IsOf, IsInside, CanBe, window_at, no_window, no_progress, IsBoundBy}
 use Rattle.crs_instance.specs.Narrowed.{IsNarrowed}
 use Rattle.crs_instance.proofs.BindSteps.{bound_now, not_matched, not_inside, not_twice}
+
+-- an instance of these parts
+abbrev pub the_state : Partial Sym → List (Option Sym) → List DateWindow → List Progress → InstanceState
+the_state a b ws ps = record { partial = a; binding = b; windows = ws; progress = ps }
 
 pub event_at : (evs : List CodeEvent) (e : ℕ) (d : CodeEvent) → e < length evs → slice_get (map event_of evs) e ≡ Some (event_of (slice_index_or evs e d))
 event_at [] e d l = absurd (omega arith)
@@ -79,10 +78,6 @@ get-replicate zero k x = refl
 get-replicate (suc n) zero x = refl
 get-replicate (suc n) (suc k) x = get-replicate n k x
 
-pub map-none : (n : ℕ) → map seen_entry (replicate n None) ≡ replicate n None
-map-none zero = refl
-map-none (suc n) = ap (λ (t : Partial Sym). None ∷ t) (map-none n)
-
 pub least_none : (f : ℕ → Option ℤ) (n : ℕ) → ((p : ℕ) → f p ≡ None) → least_of f n ≡ None
 least_none f zero h = refl
 least_none f (suc n) h = rw (h n) (least_none f n h)
@@ -126,16 +121,16 @@ root_of plan proper a b ws ps ea eb ew ep =
       followed = ap length ep ∙ length-replicate (length plan.chronicle.windows) no_progress;
     }
 
-pub put_seen : (es : List (Option (Rc CodeEntry Global))) (e : ℕ) (r : Rc CodeEntry Global) → partial_of (slice_set es e (Some r)) ≡ put (partial_of es) e (entry_of r.value)
-put_seen [] e r = refl
-put_seen (o ∷ es) zero r = refl
-put_seen (o ∷ es) (suc e) r = ap (λ (t : Partial Sym). seen_entry o ∷ t) (put_seen es e r)
-
-pub bound_as : (plan : Plan) (a : Partial Sym) (es : List (Option (Rc CodeEntry Global))) (e : ℕ) (r : Rc CodeEntry Global) (b : List (Option Sym)) (ws : List DateWindow) (ps qs : List Progress) (x : Entry Sym) → partial_of es ≡ a → x ≡ entry_of r.value → qs ≡ ps →
-    IsOf plan (record { partial = put a e x; binding = b; windows = ws; progress = ps }) → IsOf plan (record { partial = partial_of (slice_set es e (Some r)); binding = b; windows = ws; progress = qs }) × (partial_of (slice_set es e (Some r)) ≡ put a e (entry_of r.value)) × (qs ≡ ps)
-bound_as plan a es e r b ws ps qs x s t w h =
-    let p : partial_of (slice_set es e (Some r)) ≡ put a e (entry_of r.value) = put_seen es e r ∙ ap (λ (q : Partial Sym). put q e (entry_of r.value)) s in
-    (subst (λ (q : List Progress). IsOf plan (record { partial = partial_of (slice_set es e (Some r)); binding = b; windows = ws; progress = q })) (sym w) (subst (λ (q : Partial Sym). IsOf plan (record { partial = q; binding = b; windows = ws; progress = ps })) (ap (λ (y : Entry Sym). put a e y) t ∙ sym p) h), p, w)
+-- what a bind and a fork make of what is known, with one link more
+pub bound_as : (plan : Plan) (a new : Partial Sym) (e : ℕ) (x : Entry Sym) (b : List (Option Sym)) (ws : List DateWindow) (ps qs : List Progress) → new ≡ put a e x → qs ≡ ps
+    → IsOf plan (record { partial = put a e x; binding = b; windows = ws; progress = ps })
+    → IsOf plan (record { partial = new; binding = b; windows = ws; progress = qs }) × (new ≡ put a e x) × (qs ≡ ps)
+bound_as plan a new e x b ws ps qs s w h = (
+  subst (λ (q : List Progress). IsOf plan (record { partial = new; binding = b; windows = ws; progress = q })) (sym w)
+      (subst (λ (q : Partial Sym). IsOf plan (record { partial = q; binding = b; windows = ws; progress = ps })) (sym s) h),
+  s,
+  w,
+)
 
 pub inside_as : (ws : List DateWindow) (e : ℕ) (w : DateWindow) (d : ℤ) (b : Bool) → w ≡ slice_index_or ws e w → e < length ws → (IsTrue b ↔ IsInside w d) → IsTrue b ↔ IsInside (window_at ws e) d
 inside_as ws e w d b s l h = subst (λ (v : DateWindow). IsTrue b ↔ IsInside v d) (s ∙ get_or_default ws e w no_window l) h

@@ -1,4 +1,5 @@
-pub mod Bits
+pub mod Masks
+pub mod Linked
 pub mod Windows
 pub mod Narrow
 pub mod BindSteps
@@ -9,5 +10,5 @@ pub mod Openings
 pub mod Pushes
 pub mod Fixture
 pub mod Stretches
-pub mod Early
 pub mod Waits
+pub mod Kept

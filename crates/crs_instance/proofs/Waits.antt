@@ -1,6 +1,6 @@
 -- Whether the other events of an event's level can still come where the event has a date.
 use Rattle.std.proofs.Common.{◌≡◌, ℕ, ◌<◌, List, length, inl, inr, sym, ap, subst, ◌∙◌, arith}
-use Rattle.std.specs.Prelude.{ℤ, pos, ◌+ℤ◌, ◌≤ℤ◌, Option, Some, None, IfSome, option_map}
+use Rattle.std.specs.Prelude.{ℤ, pos, ◌+ℤ◌, ◌≤ℤ◌, Option, Some, None, IfSome, option_map, is_some}
 use Rattle.std.proofs.lemmas.Int.{ints, clamps}
 use Rattle.std.proofs.lemmas.Bool.Decides.{eqb_tells}
 use Rattle.crs_base.specs.declared.symbols.Sym.{Sym}
@@ -20,9 +20,13 @@ use Rattle.crs_model.specs.Plans.{chronicle, IsProper}
 use Rattle.crs_model.proofs.Parts.{agrees_part, agrees_at, extends_put, put_same}
 use Rattle.crs_instance.specs.Instances.{InstanceState, IsOf, IsInside, window_at}
 use Rattle.crs_instance.specs.Narrowed.{most_with, IsFrom}
-use Rattle.crs_instance.specs.Waits.{IsOther, OthersCanCome, AnotherIsLate}
+use Rattle.crs_model.specs.Bits.{HasBits}
+use Rattle.crs_instance.specs.Bits.{is_set}
+use Rattle.crs_instance.specs.Waits.{IsOther, IsOtherUnset, OthersCanCome, AnotherIsLate}
 use Rattle.crs_instance.proofs.BindSteps.{most_is, least_is, below, pairwise}
 use Rattle.crs_instance.proofs.Narrow.{latest_more}
+use Rattle.crs_instance.proofs.Masks.{set_is_some}
+use Rattle.crs_instance.proofs.Deadline.{is_unbound}
 
 lesser_from : (a b : Option ℤ) (h : ℕ) (v : ℤ) → pos h ≤ℤ v → IfSome a (λ m. v ≤ℤ m) → IfSome b (λ m. v ≤ℤ m) → IsFrom (lesser a b) h
 lesser_from None None h v l p q = tt
@@ -85,16 +89,19 @@ module _ (plan : Plan) (proper : IsProper plan) (i : InstanceState) (of : IsOf p
       (IsLatest-latest plan.chronicle.bounds n most (given_also given e (pos d)) proper.within proper.consistent proper.minimal also_below pairs g l)
       (subst (λ (o : Option ℤ). IsFrom o h) is (each g other))
 
-  -- the same, of entries and windows as the code has them
-  module _ (a : Partial Sym) (ws : List DateWindow) (sa : a ≡ i.partial) (sw : ws ≡ i.windows) where
-    abbrev EachIsFrom : Partial Sym → List DateWindow → Type 0
-    EachIsFrom a ws = (g : ℕ) → IsOther level a e g → IsFrom (most_with (window_at ws g) (most_of plan.network e g) d) h
+  -- the same, where bits tell which events are bound
+  module _ (bound count : ℕ) (bits : HasBits i.partial bound) (len : length i.partial ≡ count) (ws : List DateWindow) (sw : ws ≡ i.windows) where
+    unset : (g : ℕ) → IsOther level i.partial e g → IsOtherUnset level count bound e g
+    unset g o = record { apart = o.apart; within = (let w = o.within in omega arith); unset = set_is_some i.partial bound g bits ∙ ap (λ (o : Option (Entry Sym)). is_some o) o.unbound; same_level = o.same_level }
 
-    abbrev SomeIsNot : Partial Sym → List DateWindow → Type 0
-    SomeIsNot a ws = (g : ℕ) × IsOther level a e g × (IsFrom (most_with (window_at ws g) (most_of plan.network e g) d) h → ⊥)
+    unbound : (g : ℕ) → IsOtherUnset level count bound e g → IsOther level i.partial e g
+    unbound g o = record { apart = o.apart; within = (let w = o.within in omega arith); unbound = is_unbound (at i.partial g) (sym (set_is_some i.partial bound g bits) ∙ o.unset); same_level = o.same_level }
 
-    pub wait_yes : EachIsFrom a ws → IsInside (window_at i.windows e) (pos d) → OthersCanCome plan level i.partial e d h
-    wait_yes each = others_can_come (subst (λ (b : Partial Sym). EachIsFrom b i.windows) sa (subst (λ (vs : List DateWindow). EachIsFrom a vs) sw each))
+    abbrev AreFrom : ℕ → List DateWindow → Type 0
+    AreFrom g ws = IsFrom (most_with (window_at ws g) (most_of plan.network e g) d) h
 
-    pub wait_no : SomeIsNot a ws → AnotherIsLate plan level i.partial e d h
-    wait_no late = another_is_late (subst (λ (b : Partial Sym). SomeIsNot b i.windows) sa (subst (λ (vs : List DateWindow). SomeIsNot a vs) sw late))
+    pub wait_yes : ((g : ℕ) → IsOtherUnset level count bound e g → AreFrom g ws) → IsInside (window_at i.windows e) (pos d) → OthersCanCome plan level i.partial e d h
+    wait_yes each = others_can_come (λ g o. subst (λ (vs : List DateWindow). AreFrom g vs) sw (each g (unset g o)))
+
+    pub wait_no : ((g : ℕ) × IsOtherUnset level count bound e g × (AreFrom g ws → ⊥)) → AnotherIsLate plan level i.partial e d h
+    wait_no late = another_is_late (late.0, unbound late.0 late.1, subst (λ (vs : List DateWindow). AreFrom late.0 vs → ⊥) sw late.2)

@@ -1,6 +1,6 @@
 -- Instances: a partial assignment with its binding, its date windows, and the progress of the chronicle's windows.
-use Rattle.std.specs.Prelude.{◌≡◌, ◌<◌, ◌^◌, ℕ, ℤ, ◌≤ℤ◌, List, length, map, Option, Some, None, option_map, slice_index_or, IfSome, is_some, false}
-use Rattle.std.specs.List.{list_all, AllByRecursion}
+use Rattle.std.specs.Prelude.{◌≡◌, ◌<◌, ℕ, ℤ, ◌≤ℤ◌, List, length, map, Option, Some, None, option_map, slice_index_or, IfSome, is_some, false}
+use Rattle.std.specs.List.{list_all}
 use Rattle.std.specs.declared.rc.Rc.{Rc}
 use Rattle.std.proofs.Common.{Global}
 use Rattle.crs_base.specs.declared.symbols.Sym.{Sym}
@@ -27,16 +27,9 @@ pub record InstanceState : Type 0 where
   pub windows : List DateWindow
   pub progress : List Progress
 
--- the entries are dated before 2^40
-abbrev pub AreEarly : List (Option (Rc CodeEntry Global)) → Type 0
-AreEarly es = AllByRecursion (λ o. IfSome o (λ r. r.value.date < 2 ^ 40)) es
-
 -- the entry that an event is bound to
 abbrev pub seen_entry : Option (Rc CodeEntry Global) → Option (Entry Sym)
 seen_entry o = option_map (λ r. entry_of r.value) o
-
-abbrev pub partial_of : List (Option (Rc CodeEntry Global)) → Partial Sym
-partial_of es = map seen_entry es
 
 abbrev pub no_window : DateWindow
 no_window = record { least = None; most = None }

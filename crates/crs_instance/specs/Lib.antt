@@ -1,4 +1,7 @@
 pub mod Instances
+pub mod Links
+pub mod Bits
+pub mod Stored
 pub mod Deadlines
 pub mod Narrowed
 pub mod Extended

@@ -1,17 +1,25 @@
 -- Whether the other events of an event's level can still come where the event has a date.
-use Rattle.std.specs.Prelude.{◌≡◌, ◌≢◌, ◌<◌, ℕ, pos, length, Some, None}
+use Rattle.std.specs.Prelude.{◌≡◌, ◌≢◌, ◌<◌, ℕ, pos, length, Some, None, false}
 use Rattle.crs_base.specs.declared.symbols.Sym.{Sym}
 use Rattle.crs_base.specs.Entry.{Entry}
 use Rattle.crs_stn.specs.DateWindow.{given_also, CanBeFrom}
 use Rattle.crs_model.specs.declared.plan.Plan.{Plan}
 use Rattle.crs_model.specs.Partial.{Partial, at, put, dates_of, IsAwaited, CanGoOn}
 use Rattle.crs_model.specs.Plans.{chronicle}
+use Rattle.crs_instance.specs.Bits.{is_set}
 
 -- g is another unbound event of the level of e
 pub record IsOther (level : ℕ → ℕ) (a : Partial Sym) (e g : ℕ) : Type 0 where
   pub apart : g ≢ e
   pub within : g < length a
   pub unbound : at a g ≡ None
+  pub same_level : level g ≡ level e
+
+-- the same, where the bits of a number tell which events are bound
+pub record IsOtherUnset (level : ℕ → ℕ) (count bound e g : ℕ) : Type 0 where
+  pub apart : g ≢ e
+  pub within : g < count
+  pub unset : is_set bound g ≡ false
   pub same_level : level g ≡ level e
 
 -- where e has the date d, each other unbound event of its level can be at h or after

@@ -14,13 +14,12 @@ ghost use Rattle.crs_instance.specs.Followed.{IsStretchAt};
 ghost use Rattle.crs_instance.specs.Instances.{no_window, no_progress as none_yet, progress_at, seen_entry, IsBoundBy, IsOf, IsInside, IsAnswered, IsForked, IsDeadline, AreAllEntries, window_at};
 ghost use Rattle.crs_instance.specs.Waits.{OthersCanCome, AnotherIsLate};
 
+use crate::bits::{are_all_set, is_set_at, with_bit};
 use crate::bound::body_is_bound;
-use crate::entries::{
-    all_entries, are_all_bound, bits, copies, date_of, deadline_of_level, earliest_deadline, gives,
-    no_entries, others_can_be_from,
-};
 use crate::fit::Fit;
+use crate::links::{Links, date_of, entry_at, gives, linked, listed};
 use crate::narrowing::{is_inside, is_not_before, narrowed};
+use crate::waiting::{deadline_of_level, earliest_deadline, others_can_be_from};
 use crs_base::{Entry, List, Steps};
 use crs_model::{
     Anchor, Binding, Chronicle, DateWindow, Pattern, Plan, Progress, Stretch, allowed, bind_if_fits,
@@ -30,27 +29,38 @@ use std::marker::Model;
 use std::rc::Rc;
 use std::sync::ledger::Ledger;
 
-/// A partial instance of a chronicle: some of its events bound to entries, with the symbols that
-/// this gives to variables, and the dates that it leaves to each point.
+/// What the bound events' entries tell: the symbols of variables, and the dates that are left to each
+/// point.
 #[derive(Drop)]
-pub struct Instance {
-    entries: Vec<Option<Rc<Entry>>>,
+struct Known {
     binding: Binding,
     windows: Vec<DateWindow>,
+}
+
+/// A partial instance of a chronicle: some of its events bound to entries, with the symbols that
+/// this gives to variables, and the dates that it leaves to each point. What one instance has of
+/// this is shared with those that are made from it. Bit e of `bound` is set where event e is bound.
+#[derive(Drop)]
+pub struct Instance {
+    links: Rc<Links>,
+    known: Rc<Known>,
     progress: Vec<Progress>,
+    bound: u16,
+    count: u8,
+    last: Option<i64>,
     alloc: Global,
 }
 
 impl Model for Instance {
-    ghost use Rattle.crs_instance.specs.Instances.{InstanceState, partial_of, AreEarly};
+    ghost use Rattle.crs_instance.specs.Instances.{InstanceState};
+    ghost use Rattle.crs_instance.specs.Links.{partial_of};
+    ghost use Rattle.crs_instance.specs.Stored.{IsStored};
 
     ghost Value = { InstanceState };
 
-    ghost view = { λ i. record { partial = partial_of i.entries.items; binding = i.binding; windows = i.windows.items; progress = i.progress.items } };
+    ghost view = { λ i. record { partial = partial_of i.count i.links.value; binding = i.known.value.binding; windows = i.known.value.windows.items; progress = i.progress.items } };
 
-    ghost use Rattle.std.specs.Prelude.{◌≤◌, length};
-
-    ghost invariant = { λ i. (length i.entries.items ≤ length i.windows.items) × (length i.entries.items ≤ 16) × AreEarly i.entries.items };
+    ghost invariant = { λ i. IsStored i.count i.bound i.links.value i.known.value.windows.items i.last };
 }
 
 /// As many windows without ends.
@@ -104,13 +114,6 @@ fn matched<L: Ledger>(
     }
 }
 
-/// What else changes where an event is bound.
-#[derive(Drop)]
-struct Extension {
-    binding: Binding,
-    windows: Vec<DateWindow>,
-}
-
 impl Instance {
     ghost use Rattle.crs_instance.specs.Extended.{IsExtended};
 
@@ -121,14 +124,18 @@ impl Instance {
         ensures none { IfOk result (λ i. i.partial ≡ replicate (length plan.now.chronicle.events) None) }
     {
         let events = plan.chronicle.events.len();
-        let entries = no_entries(alloc, events)?;
+        let links = Rc::new(alloc, Links::End)?;
+        let binding = Binding::new(plan.chronicle.variables.len() as u8);
         let windows = no_windows(alloc, events + plan.chronicle.free.len())?;
+        let known = Rc::new(alloc, Known { binding, windows })?;
         let progress = no_progress(alloc, plan.chronicle.windows.len())?;
         Ok(Instance {
-            entries,
-            binding: Binding::new(plan.chronicle.variables.len() as u8),
-            windows,
+            links,
+            known,
             progress,
+            bound: 0,
+            count: events as u8,
+            last: None,
             alloc,
         })
     }
@@ -140,7 +147,7 @@ impl Instance {
         event: u8,
         entry: &Entry,
         steps: &mut Steps<L>,
-    ) -> Result<Option<Extension>, AllocError>
+    ) -> Result<Option<Rc<Known>>, AllocError>
         requires proper { IsProper plan.now }
         requires of { IsOf plan.now self.now }
         requires event { event < length plan.now.chronicle.events }
@@ -149,26 +156,27 @@ impl Instance {
         ensures extended { IfOk result (IsExtended plan.now self.now event (entry_of entry.now)) }
         ensures step { steps.new ≡ steps.old + 1 }
     {
-        if !is_inside(self.windows[event as usize], entry.date) {
+        let known = &*self.known;
+        if !is_inside(known.windows[event as usize], entry.date) {
             steps.tick();
             return Ok(None);
         }
-        if gives(self.entries.as_slice(), entry.arrival) {
+        if gives(&self.links, entry.arrival) {
             steps.tick();
             return Ok(None);
         }
         let pattern = &plan.chronicle.events.as_slice()[event as usize].pattern;
-        let Some(binding) = matched(&plan.chronicle, pattern, &self.binding, entry, steps) else {
+        let Some(binding) = matched(&plan.chronicle, pattern, &known.binding, entry, steps) else {
             return Ok(None);
         };
         let windows = narrowed(
             self.alloc,
-            self.windows.as_slice(),
+            known.windows.as_slice(),
             &plan.network,
             event,
             entry.date,
         )?;
-        Ok(Some(Extension { binding, windows }))
+        Ok(Some(Rc::new(self.alloc, Known { binding, windows })?))
     }
 
     /// Binds the event to the entry, where the bound events can still be part of an assignment that
@@ -191,10 +199,11 @@ impl Instance {
     {
         match self.extended(plan, event, &entry, steps)? {
             None => Ok(Fit::No),
-            Some(more) => {
-                self.entries[event as usize] = Some(entry);
-                self.binding = more.binding;
-                self.windows = more.windows;
+            Some(known) => {
+                self.links = linked(self.alloc, &self.links, event, entry)?;
+                self.bound = with_bit(self.bound, event);
+                self.last = earliest_deadline(self.bound, self.count, known.windows.as_slice());
+                self.known = known;
                 Ok(Fit::Yes)
             }
         }
@@ -218,17 +227,20 @@ impl Instance {
         ensures fork { IfOk result (IsForked plan.now self.now event (entry_of entry.now.value)) }
         ensures step { steps.new ≡ steps.old + 1 }
     {
-        let Some(more) = self.extended(plan, event, entry, steps)? else {
+        let Some(known) = self.extended(plan, event, entry, steps)? else {
             return Ok(None);
         };
-        let mut entries = copies(self.alloc, self.entries.as_slice())?;
-        entries[event as usize] = Some(entry.clone()?);
+        let links = linked(self.alloc, &self.links, event, entry.clone()?)?;
+        let bound = with_bit(self.bound, event);
+        let last = earliest_deadline(bound, self.count, known.windows.as_slice());
         let progress = Vec::from_slice(self.alloc, self.progress.as_slice())?;
         Ok(Some(Instance {
-            entries,
-            binding: more.binding,
-            windows: more.windows,
+            links,
+            known,
             progress,
+            bound,
+            count: self.count,
+            last,
             alloc: self.alloc,
         }))
     }
@@ -239,7 +251,7 @@ impl Instance {
         requires date { date < 2 ^ 40 }
         ensures { IsTrue result ↔ IsInside (window_at self.now.windows event) (pos date) }
     {
-        is_inside(self.windows[event as usize], date)
+        is_inside(self.known.windows[event as usize], date)
     }
 
     /// Whether the other unbound events of the event's level can still come at `h` or after, where
@@ -255,8 +267,9 @@ impl Instance {
         ensures no { result ≡ false → AnotherIsLate plan.now (level_in (chronicle plan.now).events focus) self.now.partial event date h }
     {
         others_can_be_from(
-            self.entries.as_slice(),
-            self.windows.as_slice(),
+            self.bound,
+            self.count,
+            self.known.windows.as_slice(),
             plan,
             event,
             date,
@@ -271,7 +284,7 @@ impl Instance {
         requires { p < length self.now.windows }
         ensures { result ≡ window_at self.now.windows p }
     {
-        self.windows[p as usize]
+        self.known.windows[p as usize]
     }
 
     /// The last date at which each unbound event of the level can still come, in ticks, where there
@@ -280,21 +293,17 @@ impl Instance {
         requires { IsOf plan.now self.now }
         ensures { IsDeadline (level_in (chronicle plan.now).events focus) level self.now result }
     {
+        if !focus {
+            return if level == 0 { self.last } else { None };
+        }
         let events = plan.chronicle.events.as_slice();
         deadline_of_level(
-            self.entries.as_slice(),
-            self.windows.as_slice(),
+            self.bound,
+            self.count,
+            self.known.windows.as_slice(),
             events,
             level,
-            focus,
         )
-    }
-
-    /// The last date at which each unbound event can still come, where there is one.
-    fn last_date(&self) -> Option<i64>
-        ensures { IsDeadline flat 0 self.now result }
-    {
-        earliest_deadline(self.entries.as_slice(), self.windows.as_slice())
     }
 
     /// Whether dates that meet the bounds exist with each unbound event at or after the date `h`.
@@ -302,7 +311,7 @@ impl Instance {
         requires { h ≤ 2 ^ 42 }
         ensures { (plan : Plan) → IsProper plan → IsOf plan self.now → IsTrue result ↔ CanGoOn (chronicle plan) flat self.now.partial h }
     {
-        is_not_before(self.last_date(), h)
+        is_not_before(self.last, h)
     }
 
     /// The entry that the event is bound to, or None where it is unbound or there is none of that
@@ -310,17 +319,19 @@ impl Instance {
     pub fn entry(&self, event: u8) -> Option<&Rc<Entry>>
         ensures { seen_entry (option_copied result) ≡ at self.now.partial event }
     {
-        match self.entries.as_slice().get(event as usize) {
-            None => None,
-            Some(entry) => entry.as_ref(),
+        if event < self.count {
+            if !is_set_at(self.bound, event) {
+                return None;
+            }
         }
+        entry_at(&self.links, event)
     }
 
     /// The symbols of the variables of the bound events.
     pub fn binding(&self) -> &Binding
         ensures { result.now ≡ self.now.binding }
     {
-        &self.binding
+        &self.known.binding
     }
 
     /// What is known of the window of this number, where there is one.
@@ -350,7 +361,7 @@ impl Instance {
         requires not_small { pos 0 ≤ℤ (anchor.offset +ℤ pos (2 ^ 40)) }
         ensures { result ≡ option_map (λ x. pos x.date +ℤ anchor.offset) (at self.now.partial anchor.event) }
     {
-        date_of(self.entries.as_slice(), anchor)
+        date_of(&self.links, anchor)
     }
 
     /// The dates of the window of this number. None exactly where one of its anchors or variables is
@@ -361,7 +372,7 @@ impl Instance {
         ensures { IsStretchAt plan.now self.now window result }
     {
         let window = &plan.chronicle.windows.as_slice()[window as usize];
-        if !body_is_bound(&window.body, &self.binding) {
+        if !body_is_bound(&window.body, &self.known.binding) {
             return None;
         }
         let Some(from) = self.date_from(window.from) else {
@@ -377,35 +388,42 @@ impl Instance {
     pub fn bound(&self) -> u16
         ensures { HasBits self.now.partial result }
     {
-        bits(self.entries.as_slice())
+        self.bound
     }
 
     /// The entries of all events, in event order. None where some event is unbound.
     pub fn all_entries(&self) -> Result<Option<List<Rc<Entry>>>, AllocError>
         ensures { IfOk result (AreAllEntries self.now.partial) }
     {
-        all_entries(self.alloc, self.entries.as_slice())
+        if !self.is_whole() {
+            return Ok(None);
+        }
+        let entries = listed(self.alloc, &self.links, self.count)?;
+        Ok(Some(entries))
     }
 
     /// Whether each event is bound.
     pub fn is_whole(&self) -> bool
         ensures { result ≡ list_all (λ o. is_some o) self.now.partial }
     {
-        are_all_bound(self.entries.as_slice())
+        are_all_set(self.bound, self.count)
     }
 
-    /// An equal instance. A later change of the one leaves the other as it was.
-    pub fn copy(&self) -> Result<Instance, AllocError>
+    /// An equal instance, made by sharing this one's parts. This one is unchanged, and a later change
+    /// of the one leaves the other as it was.
+    pub fn share(&self) -> Result<Instance, AllocError>
         ensures { IfOk result (λ i. i ≡ self.now) }
     {
-        let entries = copies(self.alloc, self.entries.as_slice())?;
-        let windows = Vec::from_slice(self.alloc, self.windows.as_slice())?;
+        let links = self.links.clone()?;
+        let known = self.known.clone()?;
         let progress = Vec::from_slice(self.alloc, self.progress.as_slice())?;
         Ok(Instance {
-            entries,
-            binding: self.binding.copy(),
-            windows,
+            links,
+            known,
             progress,
+            bound: self.bound,
+            count: self.count,
+            last: self.last,
             alloc: self.alloc,
         })
     }

@@ -1,11 +1,13 @@
 //! Partial instances of chronicles.
 #![tactic(auto)]
 
+mod bits;
 mod bound;
-mod entries;
 mod fit;
 mod instance;
+mod links;
 mod narrowing;
+mod waiting;
 
 pub use fit::Fit;
 pub use instance::Instance;

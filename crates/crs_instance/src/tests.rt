@@ -133,7 +133,7 @@ fn binds_what_can_still_be_recognised(rt: HostRuntime) -> Result<(), Fail> {
     assert!(rt; root.can_wait_with(&plan, 0, 10, false, 15));
     assert!(rt; !root.can_wait_with(&plan, 0, 10, false, 16));
     assert!(rt; root.can_wait_with(&plan, 0, 10, true, 16));
-    let mut next = root.copy()?;
+    let mut next = root.share()?;
     assert_eq!(rt;
         bind_apart::<Brand>(Blank::new(1), &mut next, &plan, 0, entry(alloc, 0, 10, 0)?)?,
         Fit::Yes

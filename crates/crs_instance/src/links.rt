@@ -1,0 +1,105 @@
+ghost use Rattle.std.specs.Prelude.{◌≡◌, ◌≢◌, ◌<◌, ◌≤◌, ◌^◌, ℕ, IfOk, IfSome, IsSomeAnd, IsTrue, ◌++◌, OnOk, pos, ◌≤ℤ◌, ◌+ℤ◌, option_map, false};
+ghost use Rattle.std.specs.Option.{option_copied, option_to_list};
+ghost use Rattle.crs_model.specs.Partial.{at};
+ghost use Rattle.crs_instance.specs.Instances.{seen_entry};
+ghost use Rattle.crs_instance.specs.Links.{partial_of, AreLinked, AreEarly, AreListed, IsLink, seen_entries};
+
+use crs_base::{Entry, List};
+use crs_model::Anchor;
+use std::alloc::{AllocError, Global};
+use std::rc::Rc;
+
+/// The bound events with their entries, the last bound one first.
+#[derive(Drop)]
+pub(crate) enum Links {
+    End,
+    Link {
+        event: u8,
+        entry: Rc<Entry>,
+        rest: Rc<Links>,
+    },
+}
+
+/// The entry of the event, where it is bound.
+pub(crate) fn entry_at(links: &Links, event: u8) -> Option<&Rc<Entry>>
+    ensures entry { (n : ℕ) → AreLinked n links.now → seen_entry (option_copied result) ≡ at (partial_of n links.now) event }
+    ensures early { AreEarly links.now → IfSome (option_copied result) (λ r. r.value.date < 2 ^ 40) }
+{
+    let mut here = links;
+    while let Links::Link {
+        event: bound,
+        entry,
+        rest,
+    } = here
+    {
+        if *bound == event {
+            return Some(entry);
+        }
+        here = rest;
+    }
+    None
+}
+
+/// Whether some event is bound to the entry of this arrival number.
+pub(crate) fn gives(links: &Links, arrival: u32) -> bool
+    ensures present { IsTrue result → (n : ℕ) → AreLinked n links.now → (f : ℕ) × IsSomeAnd (at (partial_of n links.now) f) (λ y. y.arrival ≡ arrival) }
+    ensures absent { result ≡ false → (n f : ℕ) → AreLinked n links.now → IfSome (at (partial_of n links.now) f) (λ y. y.arrival ≢ arrival) }
+{
+    let mut here = links;
+    while let Links::Link { entry, rest, .. } = here {
+        if entry.arrival == arrival {
+            return true;
+        }
+        here = rest;
+    }
+    false
+}
+
+/// The date that is the offset after the date of the event. None where the event is unbound.
+pub(crate) fn date_of(links: &Links, anchor: Anchor) -> Option<i64>
+    requires early { AreEarly links.now }
+    requires not_large { anchor.offset ≤ℤ pos (2 ^ 40) }
+    requires not_small { pos 0 ≤ℤ (anchor.offset +ℤ pos (2 ^ 40)) }
+    ensures { (n : ℕ) → AreLinked n links.now → result ≡ option_map (λ x. pos x.date +ℤ anchor.offset) (at (partial_of n links.now) anchor.event) }
+{
+    match entry_at(links, anchor.event) {
+        None => None,
+        Some(entry) => Some(entry.date as i64 + anchor.offset),
+    }
+}
+
+/// The entries of all events, in event order, where each is bound.
+pub(crate) fn listed(alloc: Global, links: &Links, count: u8) -> Result<List<Rc<Entry>>, AllocError>
+    ensures { IfOk result (λ es. AreLinked count links.now → AreListed (partial_of count links.now) es) }
+{
+    let mut all = List::new(alloc);
+    for event in 0..count {
+        push_some(&mut all, entry_at(links, event))?;
+    }
+    Ok(all)
+}
+
+fn push_some(entries: &mut List<Rc<Entry>>, entry: Option<&Rc<Entry>>) -> Result<(), AllocError>
+    ensures { OnOk result (seen_entries entries.new ≡ seen_entries entries.old ++ option_to_list (seen_entry (option_copied entry.entry))) }
+{
+    match entry {
+        None => Ok(()),
+        Some(entry) => {
+            entries.push(entry.clone()?)?;
+            Ok(())
+        }
+    }
+}
+
+/// The links and one more.
+pub(crate) fn linked(
+    alloc: Global,
+    links: &Rc<Links>,
+    event: u8,
+    entry: Rc<Entry>,
+) -> Result<Rc<Links>, AllocError>
+    ensures { IfOk result (λ r. (n : ℕ) → IsLink n links.now.value event entry.value r.value) }
+{
+    let rest = links.clone()?;
+    Ok(Rc::new(alloc, Links::Link { event, entry, rest })?)
+}

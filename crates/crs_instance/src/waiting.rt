@@ -1,0 +1,123 @@
+ghost use Rattle.std.specs.Prelude.{◌≡◌, ◌≢◌, ◌<◌, ◌≤◌, ◌^◌, ◌==◌, ℕ, length, map, IsTrue, ◌↔◌, true, false};
+ghost use Rattle.crs_stn.specs.DateWindow.{least_of};
+ghost use Rattle.crs_stn.specs.Table.{most_of};
+ghost use Rattle.crs_model.specs.Levels.{level_in};
+ghost use Rattle.crs_model.specs.Plans.{chronicle};
+ghost use Rattle.crs_model.specs.Seen.{event_of};
+ghost use Rattle.crs_instance.specs.Bits.{is_set};
+ghost use Rattle.crs_instance.specs.Deadlines.{end_if};
+ghost use Rattle.crs_instance.specs.Instances.{window_at};
+ghost use Rattle.crs_instance.specs.Narrowed.{most_with, IsFrom};
+ghost use Rattle.crs_instance.specs.Waits.{IsOtherUnset};
+
+use crate::bits::is_set_at;
+use crate::narrowing::{can_be_from, earlier};
+use crs_model::{DateWindow, EventDef, Plan};
+
+/// The level of the event at a place, which is 0 where levels aren't read.
+fn level_at(events: &[EventDef], place: u8, focus: bool) -> u8
+    requires { place < length events.now }
+    ensures { result ≡ level_in (map event_of events.now) focus place }
+{
+    if focus {
+        events[place as usize].level
+    } else {
+        0
+    }
+}
+
+/// The greatest date of an event, where it is unbound and it counts.
+fn latest_date(counts: bool, is_bound: bool, window: DateWindow) -> Option<i64>
+    ensures { result ≡ end_if counts is_bound window }
+{
+    if is_bound {
+        return None;
+    }
+    if counts { window.most } else { None }
+}
+
+/// Whether the event at a place is another one of the event's level, and unbound.
+fn is_other(bound: u16, events: &[EventDef], place: u8, event: u8, focus: bool) -> bool
+    requires few { place < 16 }
+    requires place { place < length events.now }
+    requires event { event < length events.now }
+    ensures { IsTrue result ↔ ((place ≢ event) × (is_set bound place ≡ false) × (level_in (map event_of events.now) focus place ≡ level_in (map event_of events.now) focus event)) }
+{
+    if is_set_at(bound, place) {
+        return false;
+    }
+    if place == event {
+        return false;
+    }
+    level_at(events, place, focus) == level_at(events, event, focus)
+}
+
+/// Whether each other unbound event of the event's level can be at `h` or after, where the event has
+/// this date.
+pub(crate) fn others_can_be_from(
+    bound: u16,
+    count: u8,
+    windows: &[DateWindow],
+    plan: &Plan,
+    event: u8,
+    date: u64,
+    focus: bool,
+    h: u64,
+) -> bool
+    requires few { count ≤ 16 }
+    requires events { count ≡ length plan.now.chronicle.events }
+    requires windows { length windows.now ≡ plan.now.network.points }
+    requires points { length plan.now.chronicle.events ≤ plan.now.network.points }
+    requires event { event < length plan.now.chronicle.events }
+    requires date { date < 2 ^ 40 }
+    requires horizon { h ≤ 2 ^ 42 }
+    ensures yes { result ≡ true → (g : ℕ) → IsOtherUnset (level_in (chronicle plan.now).events focus) count bound event g → IsFrom (most_with (window_at windows.now g) (most_of plan.now.network event g) date) h }
+    ensures no { result ≡ false → (g : ℕ) × IsOtherUnset (level_in (chronicle plan.now).events focus) count bound event g × (IsFrom (most_with (window_at windows.now g) (most_of plan.now.network event g) date) h → ⊥) }
+{
+    let events = plan.chronicle.events.as_slice();
+    for g in 0..count {
+        if !is_other(bound, events, g, event, focus) {
+            continue;
+        }
+        if !can_be_from(windows[g as usize], &plan.network, event, g, date, h) {
+            return false;
+        }
+    }
+    true
+}
+
+/// The least of the greatest dates of the unbound events of the level, by the events' own levels.
+pub(crate) fn deadline_of_level(
+    bound: u16,
+    count: u8,
+    windows: &[DateWindow],
+    events: &[EventDef],
+    level: u8,
+) -> Option<i64>
+    requires few { count ≤ 16 }
+    requires windows { count ≤ length windows.now }
+    requires events { count ≤ length events.now }
+    ensures { result ≡ least_of (λ e. end_if (level_in (map event_of events.now) true e == level) (is_set bound e) (window_at windows.now e)) count }
+{
+    let mut earliest = None;
+    for e in 0..count {
+        let counts = level_at(events, e, true) == level;
+        let latest = latest_date(counts, is_set_at(bound, e), windows[e as usize]);
+        earliest = earlier(latest, earliest);
+    }
+    earliest
+}
+
+/// The least of the greatest dates of the unbound events.
+pub(crate) fn earliest_deadline(bound: u16, count: u8, windows: &[DateWindow]) -> Option<i64>
+    requires few { count ≤ 16 }
+    requires windows { count ≤ length windows.now }
+    ensures { result ≡ least_of (λ e. end_if true (is_set bound e) (window_at windows.now e)) count }
+{
+    let mut earliest = None;
+    for e in 0..count {
+        let latest = latest_date(true, is_set_at(bound, e), windows[e as usize]);
+        earliest = earlier(latest, earliest);
+    }
+    earliest
+}
