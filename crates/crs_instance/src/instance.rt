@@ -428,3 +428,19 @@ impl Instance {
         })
     }
 }
+
+#[cfg(test)]
+impl Instance {
+    /// Whether all that the two know stands in the same memory.
+    pub(crate) fn shares_all(&self, other: &Instance) -> bool {
+        Rc::ptr_eq(&self.links, &other.links) && Rc::ptr_eq(&self.known, &other.known)
+    }
+
+    /// Whether the entries bound before the last one stand where the other one has its entries.
+    pub(crate) fn shares_rest(&self, other: &Instance) -> bool {
+        match &*self.links {
+            Links::End => false,
+            Links::Link { rest, .. } => Rc::ptr_eq(rest, &other.links),
+        }
+    }
+}

@@ -124,6 +124,27 @@ fn bind_apart<L: Ledger>(
     Ok(fit)
 }
 
+/// The instance with the event bound too, with a counter of its own.
+fn fork_apart<L: Ledger>(
+    blank: Blank,
+    instance: &Instance,
+    plan: &Plan,
+    event: u8,
+    entry: &Rc<Entry>,
+) -> Result<Option<Instance>, AllocError>
+    requires name { blank.name ≡ L.name }
+    requires parts { blank.parts ≡ L.parts }
+    requires some { 0 < L.parts }
+    requires proper { IsProper plan.now }
+    requires of { IsOf plan.now instance.now }
+    requires event { event < length plan.now.chronicle.events }
+    requires unbound { at instance.now.partial event ≡ None }
+    requires date { entry.now.value.date < 2 ^ 40 }
+{
+    let fork = instance.fork(plan, event, entry, &mut Steps::<L>::new(blank))?;
+    Ok(fork)
+}
+
 #[test]
 fn binds_what_can_still_be_recognised(rt: HostRuntime) -> Result<(), Fail> {
     let alloc = rt.alloc();
@@ -147,6 +168,25 @@ fn binds_what_can_still_be_recognised(rt: HostRuntime) -> Result<(), Fail> {
     assert!(rt; !next.is_whole());
     assert!(rt; next.can_go_on(15));
     assert!(rt; !next.can_go_on(16));
+    assert_eq!(rt; root.bound(), 0);
+    assert!(rt; next.shares_rest(&root));
+    Ok(())
+}
+
+#[test]
+fn shares_its_parts(rt: HostRuntime) -> Result<(), Fail> {
+    let alloc = rt.alloc();
+    let plan = plan(alloc)?;
+    let root = Instance::root(alloc, &plan)?;
+    assert!(rt; root.share()?.shares_all(&root));
+    let first = entry(alloc, 0, 10, 0)?;
+    let fork = fork_apart::<Brand>(Blank::new(1), &root, &plan, 0, &first)?;
+    assert!(rt; fork.is_some());
+    if let Some(fork) = fork {
+        assert_eq!(rt; fork.bound(), 1);
+        assert!(rt; fork.shares_rest(&root));
+        assert!(rt; fork.share()?.shares_all(&fork));
+    }
     assert_eq!(rt; root.bound(), 0);
     Ok(())
 }
