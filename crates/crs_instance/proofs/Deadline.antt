@@ -1,5 +1,5 @@
 -- The least of the greatest dates is the deadline.
-use Rattle.std.proofs.Common.{◌≡◌, ℕ, zero, suc, ◌<◌, Bool, true, false, List, [], ◌∷◌, length, map, refl, sym, ap, subst, ◌∙◌, arith, ◌≢◌}
+use Rattle.std.proofs.Common.{◌≡◌, ℕ, zero, suc, ◌<◌, Bool, true, false, List, [], ◌∷◌, length, map, refl, sym, ap, subst, ◌∙◌, arith}
 use Rattle.std.specs.Prelude.{ℤ, ◌≤ℤ◌, ◌==◌, Option, Some, None, IfSome, IsSomeAnd, slice_index_or, is_some}
 use Rattle.std.proofs.lemmas.Bool.{eqb-true, eq-eqb}
 use Rattle.crs_base.specs.declared.symbols.Sym.{Sym}
@@ -46,9 +46,10 @@ end_parts true true o w v s e = absurd cc
 end_parts false false o w v s e = absurd cc
 end_parts false true o w v s e = absurd cc
 
-module _ (i : InstanceState) (level : ℕ → ℕ) (n bound count : ℕ) (len : length i.partial ≡ count) (bits : HasBits i.partial bound) where
+-- what tells which events are bound tells the deadline
+module _ (i : InstanceState) (level : ℕ → ℕ) (n count : ℕ) (len : length i.partial ≡ count) (set : ℕ → Bool) (told : (e : ℕ) → set e ≡ is_some (at i.partial e)) where
   abbrev ends : ℕ → Option ℤ
-  ends e = end_if (level e == n) (is_set bound e) (window_at i.windows e)
+  ends e = end_if (level e == n) (set e) (window_at i.windows e)
 
   never_some : (o : Option ℤ) → IfSome o (λ x. IsSomeAnd None (λ v. v ≤ℤ x)) → o ≡ None
   never_some None h = refl
@@ -58,22 +59,22 @@ module _ (i : InstanceState) (level : ℕ → ℕ) (n bound count : ℕ) (len : 
   below_each d e s l free same =
       subst (λ (o : Option ℤ). IfSome (window_at i.windows e).most (λ x. IsSomeAnd o (λ v. v ≤ℤ x))) s
       (subst (λ (o : Option ℤ). IfSome o (λ x. IsSomeAnd (least_of ends count) (λ v. v ≤ℤ x)))
-      (end_at (level e == n) (is_set bound e) (at i.partial e) (window_at i.windows e) (eq-eqb (level e) n same) (set_is_some i.partial bound e bits) free)
+      (end_at (level e == n) (set e) (at i.partial e) (window_at i.windows e) (eq-eqb (level e) n same) (told e) free)
       (least_of_is_below ends count e (omega arith)))
 
   deadline_from : (d : Option ℤ) → least_of ends count ≡ d → IsDeadline level n i d
   deadline_from None s = λ e l free same. never_some (window_at i.windows e).most (below_each None e s l free same)
   deadline_from (Some d) s =
       let r = least_of_is_reached ends count d s in
-      let p = end_parts (level r.0 == n) (is_set bound r.0) (at i.partial r.0) (window_at i.windows r.0) d (set_is_some i.partial bound r.0 bits) r.2 in
+      let p = end_parts (level r.0 == n) (set r.0) (at i.partial r.0) (window_at i.windows r.0) d (told r.0) r.2 in
       (λ e l free same. below_each (Some d) e s l free same, r.0, (let q = r.1 in omega arith), p.1, eqb-true (level r.0) n p.0, p.2)
 
-  pub deadline_is : (d : Option ℤ) → d ≡ least_of ends count → IsDeadline level n i d
-  deadline_is d s = deadline_from d (sym s)
+pub deadline_by : (i : InstanceState) (level : ℕ → ℕ) (n : ℕ) (d : Option ℤ) → least_of (λ e. end_if (level e == n) (is_some (at i.partial e)) (window_at i.windows e)) (length i.partial) ≡ d → IsDeadline level n i d
+deadline_by i level n d s = deadline_from i level n (length i.partial) refl (λ e. is_some (at i.partial e)) (λ e. refl) d s
 
--- no event is of another level than 0 where all are of level 0
-pub no_deadline : (i : InstanceState) (n : ℕ) → n ≢ 0 → IsDeadline flat n i None
-no_deadline i n other = λ e l free same. absurd (other (sym same))
+-- the same, where bits tell which events are bound
+pub deadline_is : (i : InstanceState) (level : ℕ → ℕ) (n bound count : ℕ) → length i.partial ≡ count → HasBits i.partial bound → (d : Option ℤ) → d ≡ least_of (λ e. end_if (level e == n) (is_set bound e) (window_at i.windows e)) count → IsDeadline level n i d
+deadline_is i level n bound count len bits d s = deadline_from i level n count len (is_set bound) (λ e. set_is_some i.partial bound e bits) d (sym s)
 
 -- where levels aren't read
 pub unread : (i : InstanceState) (events : List (EventDef Sym)) (focus : Bool) (n : ℕ) (d : Option ℤ) → focus ≡ false → IsDeadline flat n i d → IsDeadline (level_in events focus) n i d
