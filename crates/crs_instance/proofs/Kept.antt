@@ -14,8 +14,9 @@ use Rattle.crs_model.specs.declared.date_window.DateWindow.{DateWindow}
 use Rattle.crs_model.specs.declared.plan.Plan.{Plan}
 use Rattle.crs_model.specs.Partial.{Partial, at, put}
 use Rattle.crs_model.specs.Plans.{IsProper}
+use Rattle.crs_instance.specs.declared.links.Known.{Known}
 use Rattle.crs_instance.specs.declared.links.Links.{Links, End}
-use Rattle.crs_instance.specs.Links.{partial_of, AreLinked, AreEarly, IsLink}
+use Rattle.crs_instance.specs.Links.{partial_of, AreLinked, AreEarly, IsLink, known_in}
 use Rattle.crs_instance.specs.Bits.{is_set}
 use Rattle.crs_instance.specs.Deadlines.{end_if}
 use Rattle.crs_instance.specs.Instances.{InstanceState, IsOf, window_at, no_window}
@@ -54,24 +55,25 @@ module _ (a : Partial Sym) (count bound : ℕ) (links : Links) (ws : List DateWi
     kept_room = let b = below in let m = pow_mono kept.few in omega arith
 
     -- what is kept where the event is bound too
-    pub kept_more : (new : Links) (entry : CodeEntry) (b : ℕ) (vs : List DateWindow) (l : Option ℤ) → IsLink count links e entry new → x ≡ entry_of entry → entry.date < 2 ^ 40 → b ≡ bound + 2 ^ e → count ≤ length vs → l ≡ last_of b count vs → IsStored count b new vs l
-    kept_more new entry b vs l link q early is wide deadline = record {
-      few = kept.few;
-      windowed = wide;
-      linked = link.linked inside unbound kept.linked;
-      early = link.early early kept.early;
-      bits = subst (λ (k : ℕ). HasBits (partial_of count new) k) (sym is) (subst (λ (c : Partial Sym). HasBits c (bound + 2 ^ e)) (sym (link.gives ∙ ap (λ (y : Entry Sym). put (partial_of count links) e y) (sym q))) more_bits.bits);
-      small = subst (λ (k : ℕ). k < 2 ^ count) (sym is) below;
-      deadline = deadline;
-    }
+    pub kept_more : (new : Links) (entry : CodeEntry) (known : Known) (b : ℕ) (vs : List DateWindow) (l : Option ℤ) → IsLink count links e entry known new → x ≡ entry_of entry → entry.date < 2 ^ 40 → b ≡ bound + 2 ^ e → vs ≡ known.windows.items → count ≤ length vs → l ≡ last_of b count vs → IsStored count b new (known_in new).windows.items l
+    kept_more new entry known b vs l link q early is told wide deadline =
+        let s : vs ≡ (known_in new).windows.items = told ∙ sym (ap (λ (k : Known). k.windows.items) link.knows) in record {
+          few = kept.few;
+          windowed = subst (λ (us : List DateWindow). count ≤ length us) s wide;
+          linked = link.linked inside unbound kept.linked;
+          early = link.early early kept.early;
+          bits = subst (λ (k : ℕ). HasBits (partial_of count new) k) (sym is) (subst (λ (c : Partial Sym). HasBits c (bound + 2 ^ e)) (sym (link.gives ∙ ap (λ (y : Entry Sym). put (partial_of count links) e y) (sym q))) more_bits.bits);
+          small = subst (λ (k : ℕ). k < 2 ^ count) (sym is) below;
+          deadline = deadline ∙ ap (λ (us : List DateWindow). last_of b count us) s;
+        }
 
 no_end : (b : Bool) (w : DateWindow) → w ≡ no_window → end_if true b w ≡ None
 no_end true w s = refl
 no_end false w s = ap (λ (v : DateWindow). v.most) s
 
 -- nothing is bound
-pub kept_root : (count n : ℕ) (links : Links) (ws vs : List DateWindow) → count ≤ 16 → links ≡ End → vs ≡ ws → ws ≡ replicate n no_window → count ≤ n → IsStored count 0 links vs None
-kept_root count n links ws vs few is v q wide =
+pub kept_root : (count n : ℕ) (known : Known) (links : Links) (ws vs : List DateWindow) → count ≤ 16 → links ≡ End known → vs ≡ ws → ws ≡ replicate n no_window → count ≤ n → IsStored count 0 links vs None
+kept_root count n known links ws vs few is v q wide =
     let s : vs ≡ replicate n no_window = v ∙ q in
     let l : length vs ≡ n = ap length s ∙ length-replicate n no_window in
     record {

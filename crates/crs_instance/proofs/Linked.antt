@@ -11,6 +11,7 @@ use Rattle.crs_base.specs.Entry.{Entry}
 use Rattle.crs_base.specs.Seen.{entry_of}
 use Rattle.crs_model.specs.Partial.{Partial, at, put}
 use Rattle.crs_model.proofs.Parts.{put_same, put_other}
+use Rattle.crs_instance.specs.declared.links.Known.{Known}
 use Rattle.crs_instance.specs.declared.links.Links.{Links, End, Link'}
 use Rattle.crs_instance.specs.declared.links.Links.TheViews.{Link}
 use Rattle.crs_model.proofs.Options.{some_if}
@@ -18,8 +19,8 @@ use Rattle.crs_instance.proofs.BindAnswers.{get-replicate}
 use Rattle.crs_instance.specs.Links.{partial_of, AreLinked, AreEarly, AreListed}
 
 pub linked_len : (n : ℕ) (l : Links) → length (partial_of n l) ≡ n
-linked_len n End = length-replicate n None
-linked_len n (Link' event entry p rest) = length-set (partial_of n rest) event _ ∙ linked_len n rest
+linked_len n (End known) = length-replicate n None
+linked_len n (Link' known event entry p rest) = length-set (partial_of n rest) event _ ∙ linked_len n rest
 
 -- what some links give to an event, more do too
 abbrev pub IsPart : ℕ → Links → Links → Type 0
@@ -30,21 +31,21 @@ abbrev pub ComesFrom : ℕ → Links → Links → ℕ → Type 0
 ComesFrom n part all arrival = (f : ℕ) (y : Entry Sym) → at (partial_of n all) f ≡ Some y → y.arrival ≡ arrival → at (partial_of n part) f ≡ Some y
 
 -- the first link, and what the others give
-module _ (n event : ℕ) (entry : Rc CodeEntry Global) (rest : Rc Links Global) (l : Links) (is : l ≡ Link event entry rest) (linked : AreLinked n l) where
-  parts : AreLinked n (Link event entry rest)
+module _ (n : ℕ) (known : Known) (event : ℕ) (entry : Rc CodeEntry Global) (rest : Rc Links Global) (l : Links) (is : l ≡ Link known event entry rest) (linked : AreLinked n l) where
+  parts : AreLinked n (Link known event entry rest)
   parts = subst (AreLinked n) is linked
 
   pub others : AreLinked n rest.value
   others = parts.2
 
-  here : at (partial_of n (Link event entry rest)) event ≡ Some (entry_of entry.value)
+  here : at (partial_of n (Link known event entry rest)) event ≡ Some (entry_of entry.value)
   here = put_same (partial_of n rest.value) event (entry_of entry.value) (let k = linked_len n rest.value in let i = parts.0 in omega arith)
 
-  other : (e : ℕ) → e ≢ event → at (partial_of n (Link event entry rest)) e ≡ at (partial_of n rest.value) e
+  other : (e : ℕ) → e ≢ event → at (partial_of n (Link known event entry rest)) e ≡ at (partial_of n rest.value) e
   other e s = put_other (partial_of n rest.value) event e (entry_of entry.value) s
 
   pub first_entry : (e : ℕ) (all : Partial Sym) → event ≡ e → at (partial_of n l) e ≡ at all e → Some (entry_of entry.value) ≡ at all e
-  first_entry e all s t = sym here ∙ ap (λ (k : ℕ). at (partial_of n (Link event entry rest)) k) s ∙ ap (λ (k : Links). at (partial_of n k) e) (sym is) ∙ t
+  first_entry e all s t = sym here ∙ ap (λ (k : ℕ). at (partial_of n (Link known event entry rest)) k) s ∙ ap (λ (k : Links). at (partial_of n k) e) (sym is) ∙ t
 
   pub other_entry : (e : ℕ) (all : Partial Sym) (next : Links) → next ≡ rest.value → (event ≡ e → ⊥) → at (partial_of n l) e ≡ at all e → AreLinked n next × (at (partial_of n next) e ≡ at all e)
   other_entry e all next q s t = (
@@ -72,7 +73,7 @@ module _ (n event : ℕ) (entry : Rc CodeEntry Global) (rest : Rc Links Global) 
     λ f y h t.
         let k = ap (λ (k : Links). at (partial_of n k) f) (sym is) ∙ from f y h t in
         elim (eqb_tells f event) [
-          | inl r ↦ (let same : f ≡ event = r.1 in let k2 : at (partial_of n (Link event entry rest)) event ≡ Some y = ap (λ (j : ℕ). at (partial_of n (Link event entry rest)) j) (sym same) ∙ k in
+          | inl r ↦ (let same : f ≡ event = r.1 in let k2 : at (partial_of n (Link known event entry rest)) event ≡ Some y = ap (λ (j : ℕ). at (partial_of n (Link known event entry rest)) j) (sym same) ∙ k in
               let both : entry_of entry.value ≡ y = some_same (sym here ∙ k2) in absurd (s (ap (λ (z : Entry Sym). z.arrival) both ∙ t)))
           | inr o ↦ ap (λ (k : Links). at (partial_of n k) f) q ∙ sym (other f o.1) ∙ k
         ],
@@ -82,15 +83,15 @@ module _ (n event : ℕ) (entry : Rc CodeEntry Global) (rest : Rc Links Global) 
       some_same e = cc
 
 -- no link has the arrival number
-pub none_given : (n : ℕ) (l all : Links) (arrival f : ℕ) → l ≡ End → ComesFrom n l all arrival → IfSome (at (partial_of n all) f) (λ y. y.arrival ≢ arrival)
-none_given n l all arrival f is from = some_if (at (partial_of n all) f) _ (λ y h t.
+pub none_given : (n : ℕ) (known : Known) (l all : Links) (arrival f : ℕ) → l ≡ End known → ComesFrom n l all arrival → IfSome (at (partial_of n all) f) (λ y. y.arrival ≢ arrival)
+none_given n known l all arrival f is from = some_if (at (partial_of n all) f) _ (λ y h t.
     let k : at (replicate n None) f ≡ Some y = ap (λ (k : Links). at (partial_of n k) f) (sym is) ∙ from f y h t in
     let free : Option (Entry Sym) = None in
     let unbound : at (replicate n None) f ≡ free = get-replicate n f free in
     absurd (cc))
 
-pub early_rest : (event : ℕ) (entry : Rc CodeEntry Global) (rest : Rc Links Global) (l next : Links) → l ≡ Link event entry rest → next ≡ rest.value → AreEarly l → AreEarly next
-early_rest event entry rest l next is q h = subst AreEarly (sym q) (let k : AreEarly (Link event entry rest) = subst AreEarly is h in k.1)
+pub early_rest : (known : Known) (event : ℕ) (entry : Rc CodeEntry Global) (rest : Rc Links Global) (l next : Links) → l ≡ Link known event entry rest → next ≡ rest.value → AreEarly l → AreEarly next
+early_rest known event entry rest l next is q h = subst AreEarly (sym q) (let k : AreEarly (Link known event entry rest) = subst AreEarly is h in k.1)
 
 -- all events are looked at
 pub all_listed : (n k : ℕ) (l : Links) (es : List (Rc CodeEntry Global)) → n ≤ k → AreListed (take k (partial_of n l)) es → AreListed (partial_of n l) es

@@ -17,7 +17,7 @@ ghost use Rattle.crs_instance.specs.Waits.{OthersCanCome, AnotherIsLate};
 use crate::bits::{are_all_set, is_set_at, with_bit};
 use crate::bound::body_is_bound;
 use crate::fit::Fit;
-use crate::links::{Links, date_of, entry_at, gives, linked, listed};
+use crate::links::{Known, Links, date_of, entry_at, gives, known_of, linked, listed};
 use crate::narrowing::{is_inside, is_not_before, narrowed};
 use crate::waiting::{deadline_of_level, earliest_deadline, others_can_be_from};
 use crs_base::{Entry, List, Steps};
@@ -29,21 +29,12 @@ use std::marker::Model;
 use std::rc::Rc;
 use std::sync::ledger::Ledger;
 
-/// What the bound events' entries tell: the symbols of variables, and the dates that are left to each
-/// point.
-#[derive(Drop)]
-struct Known {
-    binding: Binding,
-    windows: Vec<DateWindow>,
-}
-
 /// A partial instance of a chronicle: some of its events bound to entries, with the symbols that
 /// this gives to variables, and the dates that it leaves to each point. What one instance has of
 /// this is shared with those that are made from it. Bit e of `bound` is set where event e is bound.
 #[derive(Drop)]
 pub struct Instance {
     links: Rc<Links>,
-    known: Rc<Known>,
     progress: Vec<Progress>,
     bound: u16,
     count: u8,
@@ -53,14 +44,14 @@ pub struct Instance {
 
 impl Model for Instance {
     ghost use Rattle.crs_instance.specs.Instances.{InstanceState};
-    ghost use Rattle.crs_instance.specs.Links.{partial_of};
+    ghost use Rattle.crs_instance.specs.Links.{partial_of, known_in};
     ghost use Rattle.crs_instance.specs.Stored.{IsStored};
 
     ghost Value = { InstanceState };
 
-    ghost view = { λ i. record { partial = partial_of i.count i.links.value; binding = i.known.value.binding; windows = i.known.value.windows.items; progress = i.progress.items } };
+    ghost view = { λ i. record { partial = partial_of i.count i.links.value; binding = (known_in i.links.value).binding; windows = (known_in i.links.value).windows.items; progress = i.progress.items } };
 
-    ghost invariant = { λ i. IsStored i.count i.bound i.links.value i.known.value.windows.items i.last };
+    ghost invariant = { λ i. IsStored i.count i.bound i.links.value (known_in i.links.value).windows.items i.last };
 }
 
 /// As many windows without ends.
@@ -124,20 +115,27 @@ impl Instance {
         ensures none { IfOk result (λ i. i.partial ≡ replicate (length plan.now.chronicle.events) None) }
     {
         let events = plan.chronicle.events.len();
-        let links = Rc::new(alloc, Links::End)?;
         let binding = Binding::new(plan.chronicle.variables.len() as u8);
         let windows = no_windows(alloc, events + plan.chronicle.free.len())?;
-        let known = Rc::new(alloc, Known { binding, windows })?;
+        let known = Known { binding, windows };
+        let links = Rc::new(alloc, Links::End { known })?;
         let progress = no_progress(alloc, plan.chronicle.windows.len())?;
         Ok(Instance {
             links,
-            known,
             progress,
             bound: 0,
             count: events as u8,
             last: None,
             alloc,
         })
+    }
+
+    /// What the bound events' entries tell.
+    fn known(&self) -> &Known
+        ensures binding { result.now.binding ≡ self.now.binding }
+        ensures windows { result.now.windows.items ≡ self.now.windows }
+    {
+        known_of(&self.links)
     }
 
     /// The binding and the windows, where the event is bound to the entry too.
@@ -147,7 +145,7 @@ impl Instance {
         event: u8,
         entry: &Entry,
         steps: &mut Steps<L>,
-    ) -> Result<Option<Rc<Known>>, AllocError>
+    ) -> Result<Option<Known>, AllocError>
         requires proper { IsProper plan.now }
         requires of { IsOf plan.now self.now }
         requires event { event < length plan.now.chronicle.events }
@@ -156,7 +154,7 @@ impl Instance {
         ensures extended { IfOk result (IsExtended plan.now self.now event (entry_of entry.now)) }
         ensures step { steps.new ≡ steps.old + 1 }
     {
-        let known = &*self.known;
+        let known = self.known();
         if !is_inside(known.windows[event as usize], entry.date) {
             steps.tick();
             return Ok(None);
@@ -176,7 +174,7 @@ impl Instance {
             event,
             entry.date,
         )?;
-        Ok(Some(Rc::new(self.alloc, Known { binding, windows })?))
+        Ok(Some(Known { binding, windows }))
     }
 
     /// Binds the event to the entry, where the bound events can still be part of an assignment that
@@ -200,10 +198,11 @@ impl Instance {
         match self.extended(plan, event, &entry, steps)? {
             None => Ok(Fit::No),
             Some(known) => {
-                self.links = linked(self.alloc, &self.links, event, entry)?;
-                self.bound = with_bit(self.bound, event);
-                self.last = earliest_deadline(self.bound, self.count, known.windows.as_slice());
-                self.known = known;
+                let bound = with_bit(self.bound, event);
+                let last = earliest_deadline(bound, self.count, known.windows.as_slice());
+                self.links = linked(self.alloc, &self.links, event, entry, known)?;
+                self.bound = bound;
+                self.last = last;
                 Ok(Fit::Yes)
             }
         }
@@ -230,13 +229,12 @@ impl Instance {
         let Some(known) = self.extended(plan, event, entry, steps)? else {
             return Ok(None);
         };
-        let links = linked(self.alloc, &self.links, event, entry.clone()?)?;
         let bound = with_bit(self.bound, event);
         let last = earliest_deadline(bound, self.count, known.windows.as_slice());
+        let links = linked(self.alloc, &self.links, event, entry.clone()?, known)?;
         let progress = Vec::from_slice(self.alloc, self.progress.as_slice())?;
         Ok(Some(Instance {
             links,
-            known,
             progress,
             bound,
             count: self.count,
@@ -251,7 +249,7 @@ impl Instance {
         requires date { date < 2 ^ 40 }
         ensures { IsTrue result ↔ IsInside (window_at self.now.windows event) (pos date) }
     {
-        is_inside(self.known.windows[event as usize], date)
+        is_inside(self.known().windows[event as usize], date)
     }
 
     /// Whether the other unbound events of the event's level can still come at `h` or after, where
@@ -269,7 +267,7 @@ impl Instance {
         others_can_be_from(
             self.bound,
             self.count,
-            self.known.windows.as_slice(),
+            self.known().windows.as_slice(),
             plan,
             event,
             date,
@@ -284,7 +282,7 @@ impl Instance {
         requires { p < length self.now.windows }
         ensures { result ≡ window_at self.now.windows p }
     {
-        self.known.windows[p as usize]
+        self.known().windows[p as usize]
     }
 
     /// The last date at which each unbound event of the level can still come, in ticks, where there
@@ -300,7 +298,7 @@ impl Instance {
         deadline_of_level(
             self.bound,
             self.count,
-            self.known.windows.as_slice(),
+            self.known().windows.as_slice(),
             events,
             level,
         )
@@ -331,7 +329,7 @@ impl Instance {
     pub fn binding(&self) -> &Binding
         ensures { result.now ≡ self.now.binding }
     {
-        &self.known.binding
+        &self.known().binding
     }
 
     /// What is known of the window of this number, where there is one.
@@ -372,7 +370,7 @@ impl Instance {
         ensures { IsStretchAt plan.now self.now window result }
     {
         let window = &plan.chronicle.windows.as_slice()[window as usize];
-        if !body_is_bound(&window.body, &self.known.binding) {
+        if !body_is_bound(&window.body, &self.known().binding) {
             return None;
         }
         let Some(from) = self.date_from(window.from) else {
@@ -415,11 +413,9 @@ impl Instance {
         ensures { IfOk result (λ i. i ≡ self.now) }
     {
         let links = self.links.clone()?;
-        let known = self.known.clone()?;
         let progress = Vec::from_slice(self.alloc, self.progress.as_slice())?;
         Ok(Instance {
             links,
-            known,
             progress,
             bound: self.bound,
             count: self.count,
@@ -433,13 +429,13 @@ impl Instance {
 impl Instance {
     /// Whether all that the two know stands in the same memory.
     pub(crate) fn shares_all(&self, other: &Instance) -> bool {
-        Rc::ptr_eq(&self.links, &other.links) && Rc::ptr_eq(&self.known, &other.known)
+        Rc::ptr_eq(&self.links, &other.links)
     }
 
     /// Whether the entries bound before the last one stand where the other one has its entries.
     pub(crate) fn shares_rest(&self, other: &Instance) -> bool {
         match &*self.links {
-            Links::End => false,
+            Links::End { .. } => false,
             Links::Link { rest, .. } => Rc::ptr_eq(rest, &other.links),
         }
     }

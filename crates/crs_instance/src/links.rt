@@ -2,22 +2,43 @@ ghost use Rattle.std.specs.Prelude.{◌≡◌, ◌≢◌, ◌<◌, ◌≤◌, �
 ghost use Rattle.std.specs.Option.{option_copied, option_to_list};
 ghost use Rattle.crs_model.specs.Partial.{at};
 ghost use Rattle.crs_instance.specs.Instances.{seen_entry};
-ghost use Rattle.crs_instance.specs.Links.{partial_of, AreLinked, AreEarly, AreListed, IsLink, seen_entries};
+ghost use Rattle.crs_instance.specs.Links.{partial_of, AreLinked, AreEarly, AreListed, IsLink, seen_entries, known_in};
 
 use crs_base::{Entry, List};
-use crs_model::Anchor;
+use crs_model::{Anchor, Binding, DateWindow};
 use std::alloc::{AllocError, Global};
 use std::rc::Rc;
 
-/// The bound events with their entries, the last bound one first.
+/// What the bound events' entries tell: the symbols of variables, and the dates that are left to each
+/// point.
+#[derive(Drop)]
+pub(crate) struct Known {
+    pub(crate) binding: Binding,
+    pub(crate) windows: Vec<DateWindow>,
+}
+
+/// The bound events with their entries, the last bound one first, each with what they tell up to it.
 #[derive(Drop)]
 pub(crate) enum Links {
-    End,
+    End {
+        known: Known,
+    },
     Link {
+        known: Known,
         event: u8,
         entry: Rc<Entry>,
         rest: Rc<Links>,
     },
+}
+
+/// What all the entries tell.
+pub(crate) fn known_of(links: &Links) -> &Known
+    ensures { result.now ≡ known_in links.now }
+{
+    match links {
+        Links::End { known } => known,
+        Links::Link { known, .. } => known,
+    }
 }
 
 /// The entry of the event, where it is bound.
@@ -30,6 +51,7 @@ pub(crate) fn entry_at(links: &Links, event: u8) -> Option<&Rc<Entry>>
         event: bound,
         entry,
         rest,
+        ..
     } = here
     {
         if *bound == event {
@@ -97,9 +119,18 @@ pub(crate) fn linked(
     links: &Rc<Links>,
     event: u8,
     entry: Rc<Entry>,
+    known: Known,
 ) -> Result<Rc<Links>, AllocError>
-    ensures { IfOk result (λ r. (n : ℕ) → IsLink n links.now.value event entry.value r.value) }
+    ensures { IfOk result (λ r. (n : ℕ) → IsLink n links.now.value event entry.value known r.value) }
 {
     let rest = links.clone()?;
-    Ok(Rc::new(alloc, Links::Link { event, entry, rest })?)
+    Ok(Rc::new(
+        alloc,
+        Links::Link {
+            known,
+            event,
+            entry,
+            rest,
+        },
+    )?)
 }

@@ -1,7 +1,8 @@
 use Rattle.std.proofs.Common.{ap, map, length, ◌≡◌, arith, ◌∙◌}
 use Rattle.crs_model.specs.Seen.{event_of}
 use Rattle.crs_instance.specs.Instances.{InstanceState}
-use Rattle.crs_instance.specs.declared.instance.Known.{Known}
+use Rattle.crs_instance.specs.Links.{known_in}
+use Rattle.crs_instance.specs.declared.links.Known.{Known}
 use Rattle.crs_instance.proofs.Deadline.{last_is, unread_least, read}
 use Rattle.crs_instance.proofs.Kept.{kept_len, kept_bits}
 use Rattle.crs_instance.proofs.instance.Instance.deadline.Goals as goal
@@ -9,20 +10,20 @@ use Rattle.crs_instance.proofs.instance.Instance.deadline.Goals as goal
 pub returns-then-level-eq0 : goal.returns-then-level-eq0
 returns-then-level-eq0 c =
     unread_least c.args.self.now (map event_of c.args.plan.now.chronicle.events) c.args.focus c.args.level c.self.inside.last c.if-not-focus.true c.if-level-eq0.true
-    (last_is c.args.self.now c.self.inside.bound c.self.inside.count c.self.inside.known.value.windows.items c.self.inside.last
-    (kept_len c.args.self.now.partial c.self.inside.count c.self.inside.bound c.self.inside.links.value c.self.inside.known.value.windows.items c.self.inside.last c.self.invariant (ap (λ (s : InstanceState). s.partial) c.self.view_is))
-    (kept_bits c.args.self.now.partial c.self.inside.count c.self.inside.bound c.self.inside.links.value c.self.inside.known.value.windows.items c.self.inside.last c.self.invariant (ap (λ (s : InstanceState). s.partial) c.self.view_is))
+    (last_is c.args.self.now c.self.inside.bound c.self.inside.count (known_in c.self.inside.links.value).windows.items c.self.inside.last
+    (kept_len c.args.self.now.partial c.self.inside.count c.self.inside.bound c.self.inside.links.value (known_in c.self.inside.links.value).windows.items c.self.inside.last c.self.invariant (ap (λ (s : InstanceState). s.partial) c.self.view_is))
+    (kept_bits c.args.self.now.partial c.self.inside.count c.self.inside.bound c.self.inside.links.value (known_in c.self.inside.links.value).windows.items c.self.inside.last c.self.invariant (ap (λ (s : InstanceState). s.partial) c.self.view_is))
     (ap (λ (s : InstanceState). s.windows) c.self.view_is) c.self.invariant.deadline)
 
 pub deadline_of_level-requires-clause-events : goal.deadline_of_level-requires-clause-events
 deadline_of_level-requires-clause-events c =
-    let l = kept_len c.args.self.now.partial c.self.inside.count c.self.inside.bound c.self.inside.links.value c.self.inside.known.value.windows.items c.self.inside.last c.self.invariant (ap (λ (s : InstanceState). s.partial) c.self.view_is) in
+    let l = kept_len c.args.self.now.partial c.self.inside.count c.self.inside.bound c.self.inside.links.value (known_in c.self.inside.links.value).windows.items c.self.inside.last c.self.invariant (ap (λ (s : InstanceState). s.partial) c.self.view_is) in
     let m = c.requires.len in
     let k = ap length c.as_slice-events.ensures in omega arith
 
 pub returns : goal.returns
 returns c =
     read c.args.self.now c.as_slice-events.result.now c.args.plan.now.chronicle.events c.args.focus c.args.level c.self.inside.bound c.self.inside.count c.as_slice.result.now c.deadline_of_level.result
-    (kept_len c.args.self.now.partial c.self.inside.count c.self.inside.bound c.self.inside.links.value c.self.inside.known.value.windows.items c.self.inside.last c.self.invariant (ap (λ (s : InstanceState). s.partial) c.self.view_is))
-    (kept_bits c.args.self.now.partial c.self.inside.count c.self.inside.bound c.self.inside.links.value c.self.inside.known.value.windows.items c.self.inside.last c.self.invariant (ap (λ (s : InstanceState). s.partial) c.self.view_is))
-    c.if-not-focus.false c.as_slice-events.ensures (c.as_slice.ensures.value ∙ ap (λ (k : Known). k.windows.items) c.deref.ensures ∙ ap (λ (s : InstanceState). s.windows) c.self.view_is) c.deadline_of_level.ensures
+    (kept_len c.args.self.now.partial c.self.inside.count c.self.inside.bound c.self.inside.links.value (known_in c.self.inside.links.value).windows.items c.self.inside.last c.self.invariant (ap (λ (s : InstanceState). s.partial) c.self.view_is))
+    (kept_bits c.args.self.now.partial c.self.inside.count c.self.inside.bound c.self.inside.links.value (known_in c.self.inside.links.value).windows.items c.self.inside.last c.self.invariant (ap (λ (s : InstanceState). s.partial) c.self.view_is))
+    c.if-not-focus.false c.as_slice-events.ensures (c.as_slice.ensures.value ∙ c.known.ensures.windows) c.deadline_of_level.ensures

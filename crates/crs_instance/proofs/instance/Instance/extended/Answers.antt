@@ -1,14 +1,13 @@
 use Rattle.std.proofs.Common.{rules, ◌≡◌, length, ap, ◌∙◌, sym, List, ℕ, subst, ◌≢◌}
-use Rattle.std.specs.Prelude.{pos, Option, IsSomeAnd, IfSome, slice_index_or}
+use Rattle.std.specs.Prelude.{pos, IsSomeAnd, IfSome, slice_index_or}
 use Rattle.crs_stn.specs.Table.{most_of}
 use Rattle.crs_base.specs.declared.symbols.Sym.{Sym}
 use Rattle.crs_base.specs.Seen.{entry_of}
 use Rattle.crs_model.specs.declared.date_window.DateWindow.{DateWindow}
-use Rattle.crs_model.specs.Partial.{at, put}
+use Rattle.crs_model.specs.Partial.{Partial, at}
 use Rattle.crs_model.specs.Seen.{event_of}
-use Rattle.crs_instance.specs.declared.instance.Known.{Known}
 use Rattle.crs_instance.specs.declared.links.Links.{Links}
-use Rattle.crs_instance.specs.Instances.{InstanceState, IsOf}
+use Rattle.crs_instance.specs.Instances.{InstanceState}
 use Rattle.crs_instance.specs.Links.{partial_of, AreLinked}
 use Rattle.crs_instance.specs.Narrowed.{IsNarrowed}
 use Rattle.crs_instance.proofs.BindAnswers.{the_state, answer_twice, answer_unmatched, answer_outside, answer_yes, event_as, pattern_as, inside_as}
@@ -16,42 +15,41 @@ use Rattle.crs_instance.proofs.instance.Instance.extended.Goals as goal
 
 pub returns-then-gives-clause-extended : goal.returns-then-gives-clause-extended
 returns-then-gives-clause-extended g c =
-    let i : InstanceState = record { partial = partial_of c.self.inside.count c.self.inside.links.value; binding = c.deref-known.result.now.binding; windows = c.deref-known.result.now.windows.items; progress = c.self.inside.progress.items } in
-    let same : i ≡ c.args.self.now = ap (λ (k : Known). the_state (partial_of c.self.inside.count c.self.inside.links.value) k.binding k.windows.items c.self.inside.progress.items) c.deref-known.ensures ∙ c.self.view_is in
+    let i : InstanceState = the_state c.args.self.now.partial c.known-known.result.now.binding c.known-known.result.now.windows.items c.args.self.now.progress in
+    let same : i ≡ c.args.self.now = (λ t. the_state c.args.self.now.partial (c.known-known.ensures.binding t) (c.known-known.ensures.windows t) c.args.self.now.progress) in
     let linked : AreLinked c.self.inside.count c.deref.result.now = subst (AreLinked c.self.inside.count) (sym c.deref.ensures) c.self.invariant.linked in
+    let seen : partial_of c.self.inside.count c.deref.result.now ≡ c.args.self.now.partial = ap (λ (l : Links). partial_of c.self.inside.count l) c.deref.ensures ∙ ap (λ (s : InstanceState). s.partial) c.self.view_is in
     answer_twice c.args.plan.now c.requires.proper i c.args.self.now same c.requires.of c.args.event (entry_of c.args.entry.now) c.requires.event c.requires.unbound
-    (subst (λ (l : Links). (f : ℕ) × IsSomeAnd (at (partial_of c.self.inside.count l) f) (λ y. y.arrival ≡ c.args.entry.now.arrival)) c.deref.ensures (c.gives.ensures.present c.if-gives.true c.self.inside.count linked))
+    (subst (λ (a : Partial Sym). (f : ℕ) × IsSomeAnd (at a f) (λ y. y.arrival ≡ c.args.entry.now.arrival)) seen (c.gives.ensures.present c.if-gives.true c.self.inside.count linked))
 
 pub matched-requires : goal.matched-requires
 matched-requires g c =
-    let i : InstanceState = record { partial = partial_of c.self.inside.count c.self.inside.links.value; binding = c.deref-known.result.now.binding; windows = c.deref-known.result.now.windows.items; progress = c.self.inside.progress.items } in
-    let same : i ≡ c.args.self.now = ap (λ (k : Known). the_state (partial_of c.self.inside.count c.self.inside.links.value) k.binding k.windows.items c.self.inside.progress.items) c.deref-known.ensures ∙ c.self.view_is in
-    pattern_as (length c.args.plan.now.chronicle.variables) (length c.deref-known.result.now.binding) c.as_slice.result.now c.args.plan.now.chronicle.events c.args.event c.index-as_slice-event.result c.as_slice.ensures
-    (ap (λ (s : InstanceState). length s.binding) same ∙ c.requires.of.symbols) c.requires.event c.requires.proper.below
+    pattern_as (length c.args.plan.now.chronicle.variables) (length c.known-known.result.now.binding) c.as_slice.result.now c.args.plan.now.chronicle.events c.args.event c.index-as_slice-event.result c.as_slice.ensures
+    (ap length c.known-known.ensures.binding ∙ c.requires.of.symbols) c.requires.event c.requires.proper.below
 
 pub returns-in_default-clause-extended : goal.returns-in_default-clause-extended
 returns-in_default-clause-extended g c =
-    let i : InstanceState = record { partial = partial_of c.self.inside.count c.self.inside.links.value; binding = c.deref-known.result.now.binding; windows = c.deref-known.result.now.windows.items; progress = c.self.inside.progress.items } in
-    let same : i ≡ c.args.self.now = ap (λ (k : Known). the_state (partial_of c.self.inside.count c.self.inside.links.value) k.binding k.windows.items c.self.inside.progress.items) c.deref-known.ensures ∙ c.self.view_is in
+    let i : InstanceState = the_state c.args.self.now.partial c.known-known.result.now.binding c.known-known.result.now.windows.items c.args.self.now.progress in
+    let same : i ≡ c.args.self.now = (λ t. the_state c.args.self.now.partial (c.known-known.ensures.binding t) (c.known-known.ensures.windows t) c.args.self.now.progress) in
     answer_unmatched c.args.plan.now c.requires.proper i c.args.self.now same c.requires.of c.args.event (entry_of c.args.entry.now) c.requires.event c.requires.unbound
     (event_of (slice_index_or c.as_slice.result.now c.args.event c.index-as_slice-event.result)) (event_as c.as_slice.result.now c.args.plan.now.chronicle.events c.args.event c.index-as_slice-event.result c.as_slice.ensures c.requires.event)
     c.matched.result (search rules) c.matched.ensures.bound
 
 pub returns-then-not-is_inside-clause-extended : goal.returns-then-not-is_inside-clause-extended
 returns-then-not-is_inside-clause-extended g c =
-    let i : InstanceState = record { partial = partial_of c.self.inside.count c.self.inside.links.value; binding = c.deref-known.result.now.binding; windows = c.deref-known.result.now.windows.items; progress = c.self.inside.progress.items } in
-    let same : i ≡ c.args.self.now = ap (λ (k : Known). the_state (partial_of c.self.inside.count c.self.inside.links.value) k.binding k.windows.items c.self.inside.progress.items) c.deref-known.ensures ∙ c.self.view_is in
-    answer_outside c.args.plan.now c.requires.proper i c.args.self.now same c.requires.of c.args.event (entry_of c.args.entry.now) c.requires.event c.requires.unbound c.is_inside.result (inside_as c.deref-known.result.now.windows.items c.args.event c.index.result.now (pos c.args.entry.now.date) c.is_inside.result c.index.ensures (search rules) c.is_inside.ensures) (search rules)
+    let i : InstanceState = the_state c.args.self.now.partial c.known-known.result.now.binding c.known-known.result.now.windows.items c.args.self.now.progress in
+    let same : i ≡ c.args.self.now = (λ t. the_state c.args.self.now.partial (c.known-known.ensures.binding t) (c.known-known.ensures.windows t) c.args.self.now.progress) in
+    answer_outside c.args.plan.now c.requires.proper i c.args.self.now same c.requires.of c.args.event (entry_of c.args.entry.now) c.requires.event c.requires.unbound c.is_inside.result (inside_as c.known-known.result.now.windows.items c.args.event c.index.result.now (pos c.args.entry.now.date) c.is_inside.result c.index.ensures (search rules) c.is_inside.ensures) (search rules)
 
 pub returns-clause-extended : goal.returns-clause-extended
 returns-clause-extended g c =
-    let i : InstanceState = record { partial = partial_of c.self.inside.count c.self.inside.links.value; binding = c.deref-known.result.now.binding; windows = c.deref-known.result.now.windows.items; progress = c.self.inside.progress.items } in
-    let same : i ≡ c.args.self.now = ap (λ (k : Known). the_state (partial_of c.self.inside.count c.self.inside.links.value) k.binding k.windows.items c.self.inside.progress.items) c.deref-known.ensures ∙ c.self.view_is in
+    let i : InstanceState = the_state c.args.self.now.partial c.known-known.result.now.binding c.known-known.result.now.windows.items c.args.self.now.progress in
+    let same : i ≡ c.args.self.now = (λ t. the_state c.args.self.now.partial (c.known-known.ensures.binding t) (c.known-known.ensures.windows t) c.args.self.now.progress) in
     let linked : AreLinked c.self.inside.count c.deref.result.now = subst (AreLinked c.self.inside.count) (sym c.deref.ensures) c.self.invariant.linked in
-    subst (λ (k : Known). IsOf c.args.plan.now (the_state (put c.args.self.now.partial c.args.event (entry_of c.args.entry.now)) k.binding k.windows.items c.args.self.now.progress)) (sym (c.in_ok-new.ensures {u = tt}).ok)
-    (answer_yes c.args.plan.now c.requires.proper i c.args.self.now same c.requires.of c.args.event (entry_of c.args.entry.now) c.requires.event c.requires.unbound
+    let seen : partial_of c.self.inside.count c.deref.result.now ≡ c.args.self.now.partial = ap (λ (l : Links). partial_of c.self.inside.count l) c.deref.ensures ∙ ap (λ (s : InstanceState). s.partial) c.self.view_is in
+    answer_yes c.args.plan.now c.requires.proper i c.args.self.now same c.requires.of c.args.event (entry_of c.args.entry.now) c.requires.event c.requires.unbound
     (event_of (slice_index_or c.as_slice.result.now c.args.event c.index-as_slice-event.result)) (event_as c.as_slice.result.now c.args.plan.now.chronicle.events c.args.event c.index-as_slice-event.result c.as_slice.ensures c.requires.event)
     c.matched.result c.in-Some.binding (search rules) c.matched.ensures.bound
-    (subst (λ (l : Links). (f : ℕ) → IfSome (at (partial_of c.self.inside.count l) f) (λ y. y.arrival ≢ c.args.entry.now.arrival)) c.deref.ensures (λ f. c.gives.ensures.absent c.if-gives.false c.self.inside.count f linked))
-    c.is_inside.result (inside_as c.deref-known.result.now.windows.items c.args.event c.index.result.now (pos c.args.entry.now.date) c.is_inside.result c.index.ensures (search rules) c.is_inside.ensures) (search rules) c.in_ok-windows.windows.items
-    (subst (λ (ws : List DateWindow). IsNarrowed c.args.plan.now.network.points (most_of c.args.plan.now.network) c.args.event (pos c.args.entry.now.date) ws c.in_ok-windows.windows.items) c.as_slice-2.ensures.value (c.in_ok-windows.ensures {u = tt})))
+    (subst (λ (a : Partial Sym). (f : ℕ) → IfSome (at a f) (λ y. y.arrival ≢ c.args.entry.now.arrival)) seen (λ f. c.gives.ensures.absent c.if-gives.false c.self.inside.count f linked))
+    c.is_inside.result (inside_as c.known-known.result.now.windows.items c.args.event c.index.result.now (pos c.args.entry.now.date) c.is_inside.result c.index.ensures (search rules) c.is_inside.ensures) (search rules) c.in_ok-windows.windows.items
+    (subst (λ (ws : List DateWindow). IsNarrowed c.args.plan.now.network.points (most_of c.args.plan.now.network) c.args.event (pos c.args.entry.now.date) ws c.in_ok-windows.windows.items) c.as_slice-2.ensures.value (c.in_ok-windows.ensures {u = tt}))
