@@ -1,6 +1,6 @@
 -- What an instance keeps beside what contracts see.
 use Rattle.std.proofs.Common.{◌≡◌, ℕ, ◌<◌, ◌≤◌, ◌+◌, ◌^◌, List, length, refl, sym, ap, subst, ◌∙◌, arith, true, false}
-use Rattle.std.specs.Prelude.{ℤ, Option, Some, None, Bool, is_some, replicate, ◌==◌}
+use Rattle.std.specs.Prelude.{ℤ, Option, None, Bool, is_some, replicate, ◌==◌}
 use Rattle.std.specs.List.{list_all}
 use Rattle.std.proofs.Math.Pow.{pow_mono}
 use Rattle.std.proofs.lemmas.Nat.{pow_pos}
@@ -11,15 +11,13 @@ use Rattle.crs_base.specs.Entry.{Entry}
 use Rattle.crs_base.specs.Seen.{entry_of}
 use Rattle.crs_model.specs.Bits.{HasBits}
 use Rattle.crs_model.specs.declared.date_window.DateWindow.{DateWindow}
-use Rattle.crs_model.specs.declared.plan.Plan.{Plan}
 use Rattle.crs_model.specs.Partial.{Partial, at, put}
-use Rattle.crs_model.specs.Plans.{IsProper}
 use Rattle.crs_instance.specs.declared.links.Known.{Known}
 use Rattle.crs_instance.specs.declared.links.Links.{Links, End}
 use Rattle.crs_instance.specs.Links.{partial_of, AreLinked, AreEarly, IsLink, known_in}
 use Rattle.crs_instance.specs.Bits.{is_set}
 use Rattle.crs_instance.specs.Deadlines.{end_if}
-use Rattle.crs_instance.specs.Instances.{InstanceState, IsOf, window_at, no_window}
+use Rattle.crs_instance.specs.Instances.{window_at, no_window}
 use Rattle.crs_instance.specs.Stored.{IsStored, last_of}
 use Rattle.crs_instance.proofs.Masks.{IsSet, set_more, all_set, bits_unbound}
 use Rattle.crs_instance.proofs.Linked.{linked_len}

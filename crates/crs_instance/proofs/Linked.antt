@@ -1,5 +1,5 @@
 -- Linked entries, one after another.
-use Rattle.std.proofs.Common.{◌≡◌, ◌≢◌, ℕ, ◌<◌, ◌≤◌, List, take, take_all, sym, ap, subst, ◌∙◌, length, length-set, inl, inr, arith}
+use Rattle.std.proofs.Common.{◌≡◌, ◌≢◌, ℕ, ◌≤◌, List, take, take_all, sym, ap, subst, ◌∙◌, length, length-set, inl, inr, arith}
 use Rattle.std.specs.Prelude.{Option, Some, None, IfSome, IsSomeAnd, replicate}
 use Rattle.std.proofs.lemmas.List.{length-replicate}
 use Rattle.std.proofs.lemmas.Bool.Decides.{eqb_tells}
@@ -9,7 +9,7 @@ use Rattle.crs_base.specs.declared.symbols.Sym.{Sym}
 use Rattle.crs_base.specs.declared.entry.Entry.{Entry as CodeEntry}
 use Rattle.crs_base.specs.Entry.{Entry}
 use Rattle.crs_base.specs.Seen.{entry_of}
-use Rattle.crs_model.specs.Partial.{Partial, at, put}
+use Rattle.crs_model.specs.Partial.{Partial, at}
 use Rattle.crs_model.proofs.Parts.{put_same, put_other}
 use Rattle.crs_instance.specs.declared.links.Known.{Known}
 use Rattle.crs_instance.specs.declared.links.Links.{Links, End, Link'}

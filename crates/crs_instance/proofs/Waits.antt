@@ -21,7 +21,6 @@ use Rattle.crs_model.proofs.Parts.{agrees_part, agrees_at, extends_put, put_same
 use Rattle.crs_instance.specs.Instances.{InstanceState, IsOf, IsInside, window_at}
 use Rattle.crs_instance.specs.Narrowed.{most_with, IsFrom}
 use Rattle.crs_model.specs.Bits.{HasBits}
-use Rattle.crs_instance.specs.Bits.{is_set}
 use Rattle.crs_instance.specs.Waits.{IsOther, IsOtherUnset, OthersCanCome, AnotherIsLate}
 use Rattle.crs_instance.proofs.BindSteps.{most_is, least_is, below, pairwise}
 use Rattle.crs_instance.proofs.Narrow.{latest_more}

@@ -1,5 +1,5 @@
 -- What linked entries give to the events.
-use Rattle.std.specs.Prelude.{◌≡◌, ◌<◌, ◌^◌, ℕ, List, length, map, replicate, Some, None, is_some, true}
+use Rattle.std.specs.Prelude.{◌≡◌, ◌<◌, ◌^◌, ℕ, List, map, replicate, Some, None, is_some, true}
 use Rattle.std.specs.List.{list_all}
 use Rattle.std.specs.declared.rc.Rc.{Rc}
 use Rattle.std.proofs.Common.{Global}

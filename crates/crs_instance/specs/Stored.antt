@@ -13,6 +13,7 @@ use Rattle.crs_instance.specs.Instances.{window_at}
 abbrev pub last_of : ℕ → ℕ → List DateWindow → Option ℤ
 last_of bound count ws = least_of (λ e. end_if true (is_set bound e) (window_at ws e)) count
 
+-- the links are sound, `bound` has exactly the bits of their events, and `last` is the deadline of all events that they leave unbound
 pub record IsStored (count bound : ℕ) (links : Links) (ws : List DateWindow) (last : Option ℤ) : Type 0 where
   pub few : count ≤ 16
   pub windowed : count ≤ length ws

@@ -31,7 +31,8 @@ use std::sync::ledger::Ledger;
 
 /// A partial instance of a chronicle: some of its events bound to entries, with the symbols that
 /// this gives to variables, and the dates that it leaves to each point. What one instance has of
-/// this is shared with those that are made from it. Bit e of `bound` is set where event e is bound.
+/// this is shared with those that are made from it. Bit e of `bound` is set where event e is bound,
+/// and `last` is the last date at which each unbound event can still come, where there is one.
 #[derive(Drop)]
 pub struct Instance {
     links: Rc<Links>,

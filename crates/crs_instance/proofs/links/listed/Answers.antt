@@ -1,4 +1,4 @@
-use Rattle.std.proofs.Common.{rules, ◌<◌, ◌≡◌, length, arith}
+use Rattle.std.proofs.Common.{arith}
 use Rattle.std.specs.Option.{option_copied}
 use Rattle.crs_instance.specs.Instances.{seen_entry}
 use Rattle.crs_instance.specs.Links.{partial_of}

@@ -1,6 +1,5 @@
-use Rattle.std.proofs.Common.{rules, ap, subst, sym, ◌∙◌, ◌≡◌, ◌<◌, ◌≤◌, length, refl, List, arith}
+use Rattle.std.proofs.Common.{ap, subst, ◌∙◌, ◌<◌, ◌≤◌, length, refl, List, arith}
 use Rattle.std.specs.Prelude.{Option}
-use Rattle.crs_base.specs.declared.entry.Entry.{Entry as CodeEntry}
 use Rattle.crs_base.specs.Seen.{entry_of}
 use Rattle.crs_model.specs.Partial.{put}
 use Rattle.crs_model.specs.declared.date_window.DateWindow.{DateWindow}
@@ -9,7 +8,7 @@ use Rattle.crs_instance.specs.Extended.{IsExtended}
 use Rattle.crs_instance.specs.Instances.{InstanceState, IsOf}
 use Rattle.crs_instance.specs.Links.{known_in}
 use Rattle.crs_instance.specs.Stored.{last_of}
-use Rattle.crs_instance.proofs.BindAnswers.{the_state, bound_as}
+use Rattle.crs_instance.proofs.BindAnswers.{the_state}
 use Rattle.crs_instance.proofs.Kept.{kept_len, kept_room, kept_more}
 use Rattle.crs_instance.proofs.instance.Instance.bind.Goals as goal
 

@@ -1,7 +1,6 @@
 use Rattle.std.proofs.Common.{ap, sym, ◌∙◌}
 use Rattle.crs_model.specs.Levels.{level_in}
 use Rattle.crs_model.specs.Plans.{chronicle}
-use Rattle.crs_instance.specs.declared.links.Known.{Known}
 use Rattle.crs_instance.specs.Instances.{InstanceState}
 use Rattle.crs_instance.specs.Links.{known_in}
 use Rattle.crs_instance.proofs.Kept.{kept_len, kept_bits}

@@ -1,8 +1,7 @@
-use Rattle.std.proofs.Common.{ap, map, length, ◌≡◌, arith, ◌∙◌}
+use Rattle.std.proofs.Common.{ap, map, length, arith, ◌∙◌}
 use Rattle.crs_model.specs.Seen.{event_of}
 use Rattle.crs_instance.specs.Instances.{InstanceState}
 use Rattle.crs_instance.specs.Links.{known_in}
-use Rattle.crs_instance.specs.declared.links.Known.{Known}
 use Rattle.crs_instance.proofs.Deadline.{last_is, unread_least, read}
 use Rattle.crs_instance.proofs.Kept.{kept_len, kept_bits}
 use Rattle.crs_instance.proofs.instance.Instance.deadline.Goals as goal

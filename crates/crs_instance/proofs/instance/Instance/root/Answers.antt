@@ -1,4 +1,4 @@
-use Rattle.std.proofs.Common.{rules, ap, ◌∙◌, ◌≡◌, length, arith}
+use Rattle.std.proofs.Common.{rules, ap, ◌∙◌, arith}
 use Rattle.std.specs.Prelude.{replicate, None}
 use Rattle.crs_instance.specs.declared.links.Links.{Links}
 use Rattle.crs_instance.specs.Links.{partial_of, known_in}
