@@ -2,7 +2,7 @@
 use crate::pieces::{Kind, Piece};
 use crs_base::{integer, number};
 use crs_model::ModelWord;
-use crs_model::limits::{ARITY_LIMIT, TICK_LIMIT};
+use crs_model::limits::{ARITY_LIMIT, LEVEL_LIMIT, TICK_LIMIT};
 
 /// The sentence of a word.
 pub fn sentence_of(word: ModelWord) -> &'static str {
@@ -106,6 +106,20 @@ fn large_arity(line: &[Piece<'_>]) -> Option<usize> {
         Some(piece.start)
     } else {
         None
+    }
+}
+
+/// The level of an event, where it is too large.
+pub fn large_level(line: &[Piece<'_>]) -> Option<usize> {
+    match line {
+        [first, .., keyword, piece] if first.is_word(b"event") && keyword.is_word(b"level") => {
+            if number(piece.word()?)? > LEVEL_LIMIT {
+                Some(piece.start)
+            } else {
+                None
+            }
+        }
+        _ => None,
     }
 }
 

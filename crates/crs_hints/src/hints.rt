@@ -1,6 +1,6 @@
-use crate::faults::{column_of, sentence_of};
+use crate::faults::{column_of, large_level, sentence_of};
 use crate::pieces::{Piece, pieces};
-use crate::statements::{is_declared, statement};
+use crate::statements::{LEVEL, is_declared, statement};
 use crate::walking::Stop;
 use crs_base::{RawLine, first_line, is_long, line_bytes};
 use crs_model::ModelWord;
@@ -90,6 +90,20 @@ fn word_hint<'a>(line: &'a [u8], word: ModelWord, column: Option<usize>) -> Hint
     }
 }
 
+/// The hint of what is above a limit: its level, where that is too large.
+fn limit_hint<'a>(line: &'a [u8], found: &[Piece<'a>]) -> Hint<'a> {
+    let word = ModelWord::Limit;
+    match large_level(found) {
+        Some(column) => Hint {
+            sentence: LEVEL,
+            byte: None,
+            column: Some(column),
+            line,
+        },
+        None => word_hint(line, word, column_of(found, word)),
+    }
+}
+
 /// The hint where the text has no such line: it is too long, or ends inside a chronicle.
 fn endless_hint<'a>(word: ModelWord) -> Hint<'a> {
     let hint = word_hint(b"", word, None);
@@ -125,6 +139,7 @@ pub fn hint_of<'a>(
     let found = pieces(alloc, line)?;
     Ok(match word {
         ModelWord::Form => form_hint(line, &found),
+        ModelWord::Limit => limit_hint(line, &found),
         _ => word_hint(line, word, column_of(&found, word)),
     })
 }

@@ -14,7 +14,12 @@ const BOUND_END: &str =
 
 const DIFFERENCE: &str = "blanks stand on both sides of a bound's '-': t2 - t1 in [LOW, HIGH]";
 
+const TWO_POINTS: &str = "a bound is between two points: t2 - t1 in [LOW, HIGH]";
+
 const EVENT: &str = "an event is written event(PATTERN, POINT)";
+
+/// What a level is.
+pub const LEVEL: &str = "a level is a number from 0 to 7";
 
 const NO_EVENT: &str = "this is written noevent(PATTERN, (FROM, TO))";
 
@@ -94,7 +99,7 @@ fn point(rest: &[Piece<'_>]) -> Result<(), Stop> {
 fn level(rest: &[Piece<'_>]) -> Result<(), Stop> {
     match rest {
         [piece, more @ ..] if piece.is_word(b"level") => {
-            let rest = count(more, "a level is a number from 0 to 7")?;
+            let rest = count(more, LEVEL)?;
             end(rest, BEHIND)
         }
         _ => end(rest, "behind an event stands 'level NUMBER' or nothing"),
@@ -154,10 +159,7 @@ fn hold(rest: &[Piece<'_>]) -> Result<(), Stop> {
 /// A bound, behind its first point.
 fn bound(rest: &[Piece<'_>]) -> Result<(), Stop> {
     let rest = keyword(rest, b"-", DIFFERENCE)?;
-    let rest = name(
-        rest,
-        "a bound is between two points: t2 - t1 in [LOW, HIGH]",
-    )?;
+    let rest = name(rest, TWO_POINTS)?;
     let rest = keyword(rest, b"in", BOUND)?;
     let rest = mark(rest, b'[', BOUND)?;
     let rest = limit(rest, b"-inf", BOUND_END)?;
@@ -229,6 +231,9 @@ fn unknown(word: &[u8], line: &[Piece<'_>], rest: &[Piece<'_>]) -> Stop {
         [piece, ..] if piece.is_word(b"in") && word.contains(&b'-') => stop_before(
             line, DIFFERENCE,
         ),
+        [piece, more @ ..] if piece.is_word(b"in") && !is_next(more, b'(') => {
+            stop_before(rest, TWO_POINTS)
+        }
         [piece, ..] if piece.is_mark(b'(') => stop_before(
             line,
             "no statement begins so: there are event(..), noevent(..), occurs(..) and hold(..)",

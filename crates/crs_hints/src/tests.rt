@@ -49,7 +49,7 @@ fn all_are_told(rt: &impl Abort, alloc: Global, rows: &[Mistake]) -> Result<(), 
 
 #[test]
 fn natural_mistakes_are_told(rt: HostRuntime) -> Result<(), Fail> {
-    let rows: [Mistake; 49] = [
+    let rows: [Mistake; 55] = [
         row(
             b"t2 - t1 <= 5",
             ModelWord::Form,
@@ -97,6 +97,18 @@ fn natural_mistakes_are_told(rt: HostRuntime) -> Result<(), Fail> {
             ModelWord::Form,
             Some(3),
             "blanks stand on both sides",
+        ),
+        row(
+            b"t2 in [0, 5]",
+            ModelWord::Form,
+            Some(3),
+            "a bound is between two points: t2 - t1 in [LOW, HIGH]",
+        ),
+        row(
+            b"x in (b1, b2)",
+            ModelWord::Form,
+            Some(0),
+            "no statement begins so",
         ),
         row(
             b"t2 >= t1",
@@ -317,6 +329,30 @@ fn natural_mistakes_are_told(rt: HostRuntime) -> Result<(), Fail> {
             b"message d 9",
             ModelWord::Limit,
             Some(10),
+            "more than a models text may have",
+        ),
+        row(
+            b"message level 9",
+            ModelWord::Limit,
+            Some(14),
+            "more than a models text may have",
+        ),
+        row(
+            b"event(a, t3) level 8",
+            ModelWord::Limit,
+            Some(19),
+            "a level is a number from 0 to 7",
+        ),
+        row(
+            b"  event(charge[*]: (part, low), t3) level 12",
+            ModelWord::Limit,
+            Some(42),
+            "a level is a number from 0 to 7",
+        ),
+        row(
+            b"event(a, t3) level 7",
+            ModelWord::Limit,
+            None,
             "more than a models text may have",
         ),
     ];
