@@ -70,8 +70,7 @@ module _ (plan : Plan) (proper : IsProper plan) (i : InstanceState) (of : IsOf p
     goes_on d is l =
         let joint = joint_demand plan.chronicle.bounds (length i.partial) (dates_of i.partial) (λ r. asked (at i.partial r) (level r) n) (pos h) of.dates
         (λ r k t.
-        let a = asked_is (at i.partial r) (level r) n t in
-        by_window (window_at i.windows r).most r (of.most r (point r k)) (all_above n d is l r k a.0 a.1)) in
+        let a = asked_is (at i.partial r) (level r) n t in by_window (window_at i.windows r).most r (of.most r (point r k)) (all_above n d is l r k a.0 a.1)) in
         (joint.0, joint.1, joint.2, λ f w. joint.3 f w.within (is_asked (at i.partial f) (level f) n w.unbound (same f w)))
 
     goes_on_back : (d : Option ℤ) → IsDeadline level n i d → CanGoOn (chronicle plan) level i.partial h → IfSome d (λ v. pos h ≤ℤ v)

@@ -63,8 +63,7 @@ module _ (plan : Plan) (proper : IsProper plan) (i : InstanceState) (of : IsOf p
       by x b date part awaited k =
           let l = point w.0 (w.1).within in
           let agrees = agrees_part i.partial b k.0 (λ f y m. part f y (extends_put i.partial e x free f y m)) k.1 in
-          let dated : k.0 e ≡ pos d = agrees_at b k.0 e x k.1 (part e x (put_same i.partial e x within)) ∙ ap pos date in
-          lesser_from (window_at i.windows w.0).most (after (Some (pos d)) (most_of plan.network e w.0)) h (k.0 w.0) (k.3 w.0 awaited)
+          let dated : k.0 e ≡ pos d = agrees_at b k.0 e x k.1 (part e x (put_same i.partial e x within)) ∙ ap pos date in lesser_from (window_at i.windows w.0).most (after (Some (pos d)) (most_of plan.network e w.0)) h (k.0 w.0) (k.3 w.0 awaited)
           (latest_above (window_at i.windows w.0).most plan.chronicle.bounds (dates_of i.partial) w.0 k.0 (of.most w.0 l) agrees k.2)
           (after_above (most_of plan.network e w.0) plan.chronicle.bounds e w.0 d k.0 (proper.minimal e w.0 event_point l) k.2 dated)
 
@@ -83,8 +82,7 @@ module _ (plan : Plan) (proper : IsProper plan) (i : InstanceState) (of : IsOf p
       let pairs : IsPairwiseWithin most (given_also given e (pos d)) =
       given_also_pairwise plan.chronicle.bounds n most given proper.within proper.consistent proper.minimal (below plan proper i of) (pairwise plan proper i of) e (pos d) event_point
       (subst (λ (o : Option ℤ). IfSome o (λ v. pos d ≤ℤ v)) (most_is plan proper i of e event_point) w.not_late)
-      (subst (λ (o : Option ℤ). IfSome o (λ v. v ≤ℤ pos d)) (least_is plan proper i of e event_point) w.not_soon) in
-      can_be_late (latest n most (given_also given e (pos d)) g) plan.chronicle.bounds (given_also given e (pos d)) g h
+      (subst (λ (o : Option ℤ). IfSome o (λ v. v ≤ℤ pos d)) (least_is plan proper i of e event_point) w.not_soon) in can_be_late (latest n most (given_also given e (pos d)) g) plan.chronicle.bounds (given_also given e (pos d)) g h
       (IsLatest-latest plan.chronicle.bounds n most (given_also given e (pos d)) proper.within proper.consistent proper.minimal also_below pairs g l)
       (subst (λ (o : Option ℤ). IsFrom o h) is (each g other))
 
