@@ -1,4 +1,4 @@
-ghost use Rattle.std.specs.Prelude.{◌≡◌, ◌<◌, ◌++◌, ◌↔◌, [], ◌∷◌, length, OnOk, OnErr, IsNone, slice_get, slice_set};
+ghost use Rattle.std.specs.Prelude.{◌≡◌, ◌<◌, ◌++◌, ◌↔◌, [], ◌∷◌, length, IfOk, OnOk, OnErr, IsNone, slice_get, slice_set};
 ghost use Rattle.std.specs.Option.{option_copied, option_to_list};
 
 use std::alloc::{AllocError, Global};
@@ -26,6 +26,38 @@ impl<T> List<T> {
         List {
             items: Vec::new(alloc),
         }
+    }
+
+    /// The empty list, with memory for as many items.
+    pub fn with_capacity(alloc: Global, items: usize) -> Result<List<T>, AllocError>
+        ensures { IfOk result (λ l. l ≡ []) }
+    {
+        let items = Vec::with_capacity(alloc, items)?;
+        Ok(List { items })
+    }
+
+    /// The items in order, in the same memory.
+    pub fn from_vec(items: Vec<T>) -> List<T>
+        ensures { result ≡ items.items }
+    {
+        List { items }
+    }
+
+    /// Adds the items of another list at the end. To the empty list it gives the other one's memory.
+    /// After a refusal the list is as it was, and those items are dropped.
+    pub fn append(&mut self, more: List<T>) -> Result<(), AllocError>
+    where
+        T: Drop,
+        ensures ok { OnOk result (self.new ≡ self.old ++ more) }
+        ensures err { OnErr result (self.new ≡ self.old) }
+    {
+        let List { mut items } = more;
+        if self.items.is_empty() {
+            self.items = items;
+            return Ok(());
+        }
+        self.items.append(&mut items)?;
+        Ok(())
     }
 
     /// Adds an item at the end. After a refusal the list is as it was, and the item is dropped.
