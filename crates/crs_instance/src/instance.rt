@@ -326,6 +326,14 @@ impl Instance {
         entry_at(&self.links, event)
     }
 
+    /// Whether the event is bound.
+    pub fn is_bound(&self, event: u8) -> bool
+        requires { event < length self.now.partial }
+        ensures { result ≡ is_some (at self.now.partial event) }
+    {
+        is_set_at(self.bound, event)
+    }
+
     /// The symbols of the variables of the bound events.
     pub fn binding(&self) -> &Binding
         ensures { result.now ≡ self.now.binding }
