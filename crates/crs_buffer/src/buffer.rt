@@ -6,28 +6,36 @@ ghost use Rattle.crs_model.specs.Order.{put_in_order};
 ghost use Rattle.crs_buffer.specs.Entries.{released, left, IsNewKey};
 
 use crate::held::Held;
+use crate::queue::{compare_before, first_of, place_of, put_at, put_before, take_first};
 use crs_base::Entry;
 use std::alloc::{AllocError, Global};
-use std::collections::BTreeSet;
+use std::cmp::Ordering;
+use std::collections::{BTreeSet, VecDeque};
 use std::marker::Model;
 use std::rc::Rc;
 
-/// Entries, in key order: by date, then by canonical text, then by arrival number. A call takes
-/// time logarithmic in how many there are.
+/// Entries, in key order: by date, then by canonical text, then by arrival number. A log is nearly
+/// sorted, so most entries go to the end of a queue or near it. Over all calls, a call takes time
+/// logarithmic in how many there are.
 #[derive(Drop)]
 pub struct Buffer {
+    /// The entries that come before all of the queue.
     set: BTreeSet<Held>,
+    queue: VecDeque<Held>,
 }
 
 impl Model for Buffer {
-    ghost use Rattle.std.specs.Prelude.{List};
+    ghost use Rattle.std.specs.Prelude.{List, ◌++◌};
+    ghost use Rattle.std.specs.List.Sorted.{IsStrictlySortedBy};
     ghost use Rattle.crs_base.specs.declared.symbols.Sym.{Sym};
     ghost use Rattle.crs_base.specs.Entry.{Entry as LogEntry};
-    ghost use Rattle.crs_buffer.specs.Held.{entries_of};
+    ghost use Rattle.crs_buffer.specs.Held.{entries_of, held_cmp};
 
     ghost Value = { List (LogEntry Sym) };
 
-    ghost view = { λ b. entries_of b.set.keys };
+    ghost view = { λ b. entries_of (b.set.keys ++ b.queue.items) };
+
+    ghost invariant = { λ b. IsStrictlySortedBy held_cmp (b.set.keys ++ b.queue.items) };
 }
 
 impl Buffer {
@@ -37,6 +45,7 @@ impl Buffer {
     {
         Buffer {
             set: BTreeSet::new(alloc),
+            queue: VecDeque::new(alloc),
         }
     }
 
@@ -47,8 +56,13 @@ impl Buffer {
         ensures err { OnErr result (self.new ≡ self.old) }
         ensures sorted { IsInKeyOrder self.new }
     {
-        let _ = self.set.insert(Held { entry })?;
-        Ok(())
+        let held = Held { entry };
+        let place = place_of(&self.queue, &held);
+        match compare_before(&self.set, &self.queue, place, &held) {
+            Ordering::Greater => put_at(&mut self.set, &mut self.queue, place, held),
+            Ordering::Equal => Ok(()),
+            Ordering::Less => put_before(&mut self.set, &mut self.queue, place, held),
+        }
     }
 
     /// The date of the entry of least key.
@@ -57,10 +71,7 @@ impl Buffer {
         ensures none { IsNone result ↔ (self.now ≡ []) }
         ensures least { IfSome result (λ d. AllByRecursion (λ e. d ≤ e.date) self.now) }
     {
-        if self.set.len() == 0 {
-            return None;
-        }
-        let first = self.set.first()?;
+        let first = first_of(&self.set, &self.queue)?;
         Some(first.entry.date)
     }
 
@@ -71,16 +82,11 @@ impl Buffer {
         ensures none { IsNone result ↔ AllByRecursion (λ e. h ≤ e.date) self.old }
         ensures sorted { IsInKeyOrder self.new }
     {
-        if self.set.len() == 0 {
-            return None;
-        }
-        let first = self.set.first()?;
+        let first = first_of(&self.set, &self.queue)?;
         if first.entry.date >= h {
             return None;
         }
-        match self.set.pop_first() {
-            Some(held) => Some(held.entry),
-            None => None,
-        }
+        let held = take_first(&mut self.set, &mut self.queue)?;
+        Some(held.entry)
     }
 }

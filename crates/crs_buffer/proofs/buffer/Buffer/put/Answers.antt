@@ -1,20 +1,37 @@
-use Rattle.std.proofs.Common.{◌∙◌, sym, ap, subst}
-use Rattle.crs_base.specs.Seen.{entry_of}
-use Rattle.crs_model.specs.Order.{put_in_order}
-use Rattle.crs_buffer.specs.Held.{entries_of}
-use Rattle.crs_buffer.specs.Entries.{IsNewKey}
-use Rattle.crs_buffer.proofs.Inserted.{inserted}
+use Rattle.std.proofs.Common.{◌++◌, subst}
+use Rattle.crs_base.specs.Entry.{IsInKeyOrder}
+use Rattle.crs_buffer.proofs.Queued.{put_sorted, put_shown}
 use Rattle.crs_buffer.proofs.Sorted.{ascends}
 use Rattle.crs_buffer.proofs.buffer.Buffer.put.Goals as goal
 
-pub returns-clause-ok : goal.returns-clause-ok
-returns-clause-ok c = λ new.
-    ap entries_of c.in_ok-insert.ensures.keys
-    ∙ inserted c.self.inside.set.keys (record { entry = c.args.entry }) (subst (λ es. IsNewKey (entry_of c.args.entry.value) es) (sym c.self.view_is) new)
-    ∙ ap (put_in_order (entry_of c.args.entry.value)) c.self.view_is
+pub invariant_of-self : goal.invariant_of-self
+invariant_of-self c = put_sorted c.put_at.result (record { entry = c.args.entry }) (c.self.inside.set.keys ++ c.self.inside.queue.items)
+    (c.put_at.new.set.keys ++ c.put_at.new.queue.items) c.put_at.ensures.ok c.put_at.ensures.err c.self.invariant
 
-pub returns-clause-sorted : goal.returns-clause-sorted
-returns-clause-sorted c = ascends c.insert.new.self.keys c.insert.ensures.ordered
+pub invariant_of-self-in-Less : goal.invariant_of-self-in-Less
+invariant_of-self-in-Less c = put_sorted c.put_before.result (record { entry = c.args.entry }) (c.self.inside.set.keys ++
+    c.self.inside.queue.items) (c.put_before.new.set.keys ++ c.put_before.new.queue.items) c.put_before.ensures.ok
+    c.put_before.ensures.err c.self.invariant
 
-pub returns-in_err-insert-clause-sorted : goal.returns-in_err-insert-clause-sorted
-returns-in_err-insert-clause-sorted c = ascends c.insert.new.self.keys c.insert.ensures.ordered
+pub returns-in-Greater-clause-ok : goal.returns-in-Greater-clause-ok
+returns-in-Greater-clause-ok c = put_shown c.put_at.result (record { entry = c.args.entry }) (c.self.inside.set.keys ++
+    c.self.inside.queue.items) (c.put_at.new.set.keys ++ c.put_at.new.queue.items) c.args.self.now c.put_at.ensures.ok c.self.view_is
+
+pub returns-in-Greater-clause-sorted : goal.returns-in-Greater-clause-sorted
+returns-in-Greater-clause-sorted c = ascends (c.put_at.new.set.keys ++ c.put_at.new.queue.items) (put_sorted c.put_at.result
+    (record { entry = c.args.entry }) (c.self.inside.set.keys ++ c.self.inside.queue.items) (c.put_at.new.set.keys ++
+    c.put_at.new.queue.items) c.put_at.ensures.ok c.put_at.ensures.err c.self.invariant)
+
+pub returns-in-Equal-clause-sorted : goal.returns-in-Equal-clause-sorted
+returns-in-Equal-clause-sorted c = subst IsInKeyOrder c.self.view_is (ascends (c.self.inside.set.keys ++ c.self.inside.queue.items)
+    c.self.invariant)
+
+pub returns-in-Less-clause-ok : goal.returns-in-Less-clause-ok
+returns-in-Less-clause-ok c = put_shown c.put_before.result (record { entry = c.args.entry }) (c.self.inside.set.keys ++
+    c.self.inside.queue.items) (c.put_before.new.set.keys ++ c.put_before.new.queue.items) c.args.self.now c.put_before.ensures.ok
+    c.self.view_is
+
+pub returns-in-Less-clause-sorted : goal.returns-in-Less-clause-sorted
+returns-in-Less-clause-sorted c = ascends (c.put_before.new.set.keys ++ c.put_before.new.queue.items) (put_sorted c.put_before.result
+    (record { entry = c.args.entry }) (c.self.inside.set.keys ++ c.self.inside.queue.items) (c.put_before.new.set.keys ++
+    c.put_before.new.queue.items) c.put_before.ensures.ok c.put_before.ensures.err c.self.invariant)
