@@ -17,7 +17,7 @@ pub(crate) fn is_awaited(plan: &Plan, focus: bool, instance: &Instance, event: u
     requires event { event < length plan.now.chronicle.events }
     ensures { IsTrue result ↔ IsAwaited (levels_in plan.now focus) instance.now.partial event }
 {
-    if instance.entry(event).is_some() {
+    if instance.is_bound(event) {
         return false;
     }
     if !focus {
