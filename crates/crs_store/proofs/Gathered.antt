@@ -140,6 +140,12 @@ pub record IsSwept (plan : Plan) (focus : Bool) (history : HistoryState) (x : En
   pub image : ComeOf (IsForkWith (levels_in plan focus) x e) plan focus history x until (members slots.slots) done out
   pub cost : focus ≡ false → now ≤ start + length done
 
+-- the list grew by that
+pub record AddsSwept (plan : Plan) (focus : Bool) (history : HistoryState) (x : Entry Sym) (until : ℕ) (slots : SlotsState) (e : ℕ) (all rest : List ℕ) (old new : List InstanceState) (start now : ℕ) : Type 0 where
+  pub more : List InstanceState
+  pub grown : new ≡ old ++ more
+  pub swept : IsSwept plan focus history x until slots e all rest more start now
+
 standing_back : (xs : List (Option InstanceState)) (ps : List ℕ) (i : InstanceState) → IsIn i (standing xs ps) → IsIn i (members xs)
 standing_back xs [] i j = absurd j
 standing_back xs (p ∷ ps) i j = elim (in_append (option_to_list (slice_index_or xs p None)) (standing xs ps) i j) [
@@ -224,6 +230,34 @@ module _ (plan : Plan) (focus : Bool) (history : HistoryState) (x : Entry Sym) (
   pub swept_whole : (all rest : List ℕ) (out : List InstanceState) (start now : ℕ) → rest ≡ [] → IsSwept plan focus history x until slots e all rest out start now → AreForksOfPlaces plan focus history x until slots e all out
   swept_whole all rest out start now s h =
       subst (λ (t : List InstanceState). ComeOf (IsForkWith (levels_in plan focus) x e) plan focus history x until (members slots.slots) t out) (sym (h.split ∙ ap (λ (t : List ℕ). h.done ++ standing slots.slots t) s ∙ append-nil h.done)) h.image
+
+  -- ---- the same, where it is added to a list
+
+  pub adds_swept_none : (all : List ℕ) (old : List InstanceState) (start : ℕ) → AddsSwept plan focus history x until slots e all all old old start start
+  adds_swept_none all old start = record {
+    more = [];
+    grown = sym (append-nil old);
+    swept = record {
+      done = [];
+      split = refl;
+      sorted = λ o. o;
+      of = tt;
+      able = tt;
+      image = λ entries now later over ready. (record { distinct = tt; sound = λ y k. absurd k; complete = λ a y k f. absurd k }, tt);
+      cost = λ flat. omega arith;
+    };
+  }
+
+  pub adds_swept_more : (all : List ℕ) (p : ℕ) (rest left : List ℕ) (i : InstanceState) (old out new : List InstanceState) (start now next : ℕ) → rest ≡ p ∷ left → AllByRecursion (λ q. p < q) left → Ascends left → slot_at slots p ≡ Some i → (focus ≡ false → next ≤ now + 1)
+      → Adds plan focus until (AreForksAt plan focus history x until i e) out new → AddsSwept plan focus history x until slots e all rest old out start now → AddsSwept plan focus history x until slots e all left old new start next
+  adds_swept_more all p rest left i old out new start now next s above ascends here step adds h = record {
+    more = h.more ++ adds.more;
+    grown = adds.grown ∙ ap (λ (t : List InstanceState). t ++ adds.more) h.grown ∙ append_assoc old h.more adds.more;
+    swept = swept_more all p rest left i h.more (h.more ++ adds.more) start now next s above ascends here step (record { more = adds.more; grown = refl; of = adds.of; able = adds.able; are = adds.are }) h.swept;
+  }
+
+  pub adds_swept_whole : (all rest : List ℕ) (old new : List InstanceState) (start now : ℕ) → rest ≡ [] → AddsSwept plan focus history x until slots e all rest old new start now → Adds plan focus until (AreForksOfPlaces plan focus history x until slots e all) old new
+  adds_swept_whole all rest old new start now s h = record { more = h.more; grown = h.grown; of = h.swept.of; able = h.swept.able; are = swept_whole all rest h.more start now s h.swept }
 
   -- ---- from the candidates to all
 
@@ -356,9 +390,3 @@ hook_there plan hooks e h = by (chronicle plan).events hooks e h
     by (v ∷ vs) [] k z = absurd z
     by (v ∷ vs) (h ∷ hs) zero z = z.0
     by (v ∷ vs) (h ∷ hs) (suc k) z = by vs hs k z.1
-
--- the candidates' forks, where there was memory for them
-pub all_found_ok : (plan : Plan) (focus : Bool) (history : HistoryState) (x : Entry Sym) (until : ℕ) (slots : SlotsState) (e : ℕ) → IsProper plan → AllOf plan (members slots.slots) → e < length plan.chronicle.events → (hook : Hook) → IsHookAt plan e hook → (index : IndexState) (places : List ℕ) → AreLinkedAt plan focus hook slots index e x.date
-    → AreCandidates slots index (key_with e None) e x.date places → AreCandidates slots index (key_with e (picked_argument hook.pick x.args)) e x.date places → {V E : Type 0} (items : V → List InstanceState) (r : Result V E) → IfOk r (λ v. AreForksOfPlaces plan focus history x until slots e places (items v)) → IfOk r (λ v. AreForksOfEvent plan focus history x until slots e (items v))
-all_found_ok plan focus history x until slots e proper all inside hook hooked index places linked lacking having items (Ok v) h = all_found plan focus history x until slots e proper all inside hook hooked index places (items v) linked lacking having h
-all_found_ok plan focus history x until slots e proper all inside hook hooked index places linked lacking having items (Err a) h = tt

@@ -145,7 +145,7 @@ fn note_candidates(
     Ok(())
 }
 
-/// The forks at the event of what stands in the places.
+/// Adds the forks at the event of what stands in the places.
 fn forks_at<L: Ledger>(
     alloc: Global,
     plan: &Plan,
@@ -157,7 +157,8 @@ fn forks_at<L: Ledger>(
     entry: &Rc<Entry>,
     until: u64,
     steps: &mut Steps<L>,
-) -> Result<Vec<Instance>, AllocError>
+    out: &mut Vec<Instance>,
+) -> Result<(), AllocError>
     requires proper { IsProper plan.now }
     requires of { AllOf plan.now (members slots.now.slots) }
     requires event { event < length plan.now.chronicle.events }
@@ -165,24 +166,21 @@ fn forks_at<L: Ledger>(
     requires date { entry.now.value.date < 2 ^ 40 }
     requires small { until ≤ 2 ^ 42 }
     requires ordered { IsStrictlySortedBy nat_cmp places.now }
-    ensures of { IfOk result (λ v. AllOf plan.now v.items) }
-    ensures able { IfOk result (λ v. AllByRecursion (IsAble plan.now focus until) v.items) }
-    ensures image { IfOk result (λ v. AreForksOfPlaces plan.now focus history.now (entry_of entry.now.value) until slots.now event places.now v.items) }
+    ensures forks { OnOk result (Adds plan.now focus until (AreForksOfPlaces plan.now focus history.now (entry_of entry.now.value) until slots.now event places.now) out.old.items out.new.items) }
     ensures cost { focus ≡ false → steps.new ≤ steps.old + length (members slots.now.slots) }
 {
-    let mut out = Vec::new(alloc);
     for place in places {
         let Some(instance) = slots.get(*place) else {
             continue;
         };
         push_forks(
-            alloc, plan, focus, instance, event, history, entry, until, steps, &mut out,
+            alloc, plan, focus, instance, event, history, entry, until, steps, out,
         )?;
     }
-    Ok(out)
+    Ok(())
 }
 
-/// The forks of all instances at the event, for which such a hook looks; the entry has its name.
+/// Adds the forks of all instances at the event, for which such a hook looks; the entry has its name.
 fn forks_of_event<L: Ledger>(
     alloc: Global,
     plan: &Plan,
@@ -195,7 +193,8 @@ fn forks_of_event<L: Ledger>(
     entry: &Rc<Entry>,
     until: u64,
     steps: &mut Steps<L>,
-) -> Result<Vec<Instance>, AllocError>
+    out: &mut Vec<Instance>,
+) -> Result<(), AllocError>
     requires proper { IsProper plan.now }
     requires of { AllOf plan.now (members slots.now.slots) }
     requires event { event < length plan.now.chronicle.events }
@@ -206,9 +205,7 @@ fn forks_of_event<L: Ledger>(
     requires small { until ≤ 2 ^ 42 }
     ensures fresh { KeepsFresh slots.now.serials waiting.old waiting.new }
     ensures standing { KeepsStanding slots.now waiting.old waiting.new }
-    ensures of { IfOk result (λ v. AllOf plan.now v.items) }
-    ensures able { IfOk result (λ v. AllByRecursion (IsAble plan.now focus until) v.items) }
-    ensures image { IfOk result (λ v. AreForksOfEvent plan.now focus history.now (entry_of entry.now.value) until slots.now event v.items) }
+    ensures forks { OnOk result (Adds plan.now focus until (AreForksOfEvent plan.now focus history.now (entry_of entry.now.value) until slots.now event) out.old.items out.new.items) }
     ensures cost { focus ≡ false → steps.new ≤ steps.old + length (members slots.now.slots) }
 {
     let mut places = Vec::new(alloc);
@@ -216,7 +213,7 @@ fn forks_of_event<L: Ledger>(
     sort_places(&mut places);
     let places = places.as_slice();
     forks_at(
-        alloc, plan, focus, slots, places, event, history, entry, until, steps,
+        alloc, plan, focus, slots, places, event, history, entry, until, steps, out,
     )
 }
 
@@ -254,10 +251,9 @@ pub(crate) fn forks<L: Ledger>(
         if hook.name != entry.name {
             continue;
         }
-        let mut more = forks_of_event(
-            alloc, plan, focus, hook, slots, waiting, event, history, entry, until, steps,
+        forks_of_event(
+            alloc, plan, focus, hook, slots, waiting, event, history, entry, until, steps, &mut out,
         )?;
-        out.append(&mut more)?;
     }
     Ok(out)
 }

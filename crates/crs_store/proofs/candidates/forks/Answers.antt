@@ -12,16 +12,13 @@ bounds-hooks-event g c = let h = hooks_long c.args.plan.now c.args.hooks.now c.r
 pub forks_of_event-requires-clause-hook : goal.forks_of_event-requires-clause-hook
 forks_of_event-requires-clause-hook g c = hook_there c.args.plan.now c.args.hooks.now c.loop-event.event c.requires.hooks
 
-pub returns-in_err-more-clause-standing : goal.returns-in_err-more-clause-standing
-returns-in_err-more-clause-standing g c = λ k p i s w. c.forks_of_event.ensures.standing k p i s (c.loop-event.invariant.standing k p i s w)
-
-pub returns-in_err-append-clause-standing : goal.returns-in_err-append-clause-standing
-returns-in_err-append-clause-standing g c = λ k p i s w. c.forks_of_event.ensures.standing k p i s (c.loop-event.invariant.standing k p i s w)
+pub returns-in_err-forks_of_event-clause-standing : goal.returns-in_err-forks_of_event-clause-standing
+returns-in_err-forks_of_event-clause-standing g c = λ k p i s w. c.forks_of_event.ensures.standing k p i s (c.loop-event.invariant.standing k p i s w)
 
 pub loop-event-preserved : goal.loop-event-preserved
 loop-event-preserved g c = record {
-  gathered = gathered_more c.args.plan.now c.args.focus c.args.history.now (entry_of c.args.entry.now.value) c.args.until c.args.slots.now c.loop-event.event c.loop-event.out.items c.in_ok-more.more.items c.append.new.self.items (search rules)
-      c.in_ok-more.ensures.of c.in_ok-more.ensures.able c.in_ok-more.ensures.image c.loop-event.invariant.gathered;
+  gathered = let adds = (c.in_ok-forks_of_event.ensures {u = tt}).forks in
+      gathered_more c.args.plan.now c.args.focus c.args.history.now (entry_of c.args.entry.now.value) c.args.until c.args.slots.now c.loop-event.event c.loop-event.out.items adds.more c.forks_of_event.new.out.items adds.grown adds.of adds.able adds.are c.loop-event.invariant.gathered;
   fresh = λ k h f w. c.forks_of_event.ensures.fresh k h f (c.loop-event.invariant.fresh k h f w);
   standing = λ k p i s w. c.forks_of_event.ensures.standing k p i s (c.loop-event.invariant.standing k p i s w);
   cost = events_cost c.args.focus c.args.steps.now c.loop-event.steps c.forks_of_event.new.steps c.loop-event.event (length (members c.args.slots.now.slots)) c.loop-event.invariant.cost c.forks_of_event.ensures.cost;
