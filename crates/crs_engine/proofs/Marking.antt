@@ -36,6 +36,10 @@ use Rattle.crs_engine.proofs.Order.{numbers_few, ordered_left, ordered_right, or
 abbrev pub AllStand : List StoreState → List (Entry Sym) → List (Entry Sym) → ℕ → ℕ → Type 0
 AllStand ss was pool d g = AllByRecursion (λ s. Stands s was pool pool d g) ss
 
+-- each was judged at a date that isn't after d
+abbrev pub AllStandBy : List StoreState → List (Entry Sym) → List (Entry Sym) → ℕ → ℕ → Type 0
+AllStandBy ss was pool d g = AllByRecursion (λ s. (n : ℕ) × (n ≤ d) × Stands s was pool pool n g) ss
+
 abbrev pub AllFar : List StoreState → ℕ → ℤ → Type 0
 AllFar ss g floor = AllByRecursion (λ s. IsFarBack s.plan.reach g floor) ss
 
@@ -61,17 +65,20 @@ same_far g floor (o ∷ olds) (n ∷ news) s k = (subst (λ (q : Plan). IsFarBac
 -- ---- offered
 
 offered_one : (olds news : List StoreState) (put : HistoryState) (x : Entry Sym) (until : ℕ) (was pool : List (Entry Sym)) (d g : ℕ)
-    → AllStand olds was pool d g → AreOffered olds put x until news → HistoryStandsFor (pool ++ x ∷ []) put → AllFar olds g put.floor
+    → AllStandBy olds was pool d g → AreOffered olds put x until news → HistoryStandsFor (pool ++ x ∷ []) put → AllFar olds g put.floor
     → length (pool ++ x ∷ []) < 2 ^ 32 → IsFresh pool x → d ≤ x.date →
-    AllStand news was (pool ++ x ∷ []) until g
+    AllStandBy news was (pool ++ x ∷ []) until g
 offered_one [] [] put x until was pool d g h k kept far few fresh later = tt
 offered_one [] (n ∷ news) put x until was pool d g h k kept far few fresh later = absurd k
 offered_one (o ∷ olds) [] put x until was pool d g h k kept far few fresh later = absurd k
-offered_one (o ∷ olds) (n ∷ news) put x until was pool d g h k kept far few fresh later = (k.0 was pool d g h.0 kept far.0 few fresh later, offered_one olds news put x until was pool d g h.1 k.1 kept far.1 few fresh later)
+offered_one (o ∷ olds) (n ∷ news) put x until was pool d g h k kept far few fresh later =
+    let one = h.0 in
+    let r = k.0 was pool one.0 g one.2 kept far.0 few fresh (let l = one.1 in omega arith) in
+    ((r.0, r.2, r.4), offered_one olds news put x until was pool d g h.1 k.1 kept far.1 few fresh later)
 
 -- the stores and the history stand for what is settled, and the history goes far enough back
 pub record StandTogether (ss : List StoreState) (past : HistoryState) (was pool : List (Entry Sym)) (d g : ℕ) : Type 0 where
-  pub stores : AllStand ss was pool d g
+  pub stores : AllStandBy ss was pool d g
   pub history : HistoryStandsFor pool past
   pub far : AllFar ss g past.floor
 
@@ -126,7 +133,7 @@ answer_as p n o mark was pool g h first sp sn sw a =
 
 module _ (history : HistoryState) (mark : Mark) (was pool : List (Entry Sym)) (d g h : ℕ) (sw : before g pool ≡ was) (kept : HistoryStandsFor pool history) (few : length pool < 2 ^ 32) (apart : AreDistinct pool) (later : d ≤ h) (dated : (e : Entry Sym) → IsIn e pool → e.date < h) (dates : Ordered (λ x y. x.date ≤ y.date) pool) where
   advanced_all : (focus : Bool) (ps : List Plan) (n : ℕ) (olds news : List StoreState) (answer : List Recognition)
-      → AreStoresOf focus ps n olds → AllStand olds was pool d g → AllFar olds g history.floor → AreAdvanced history h mark olds news answer
+      → AreStoresOf focus ps n olds → AllStandBy olds was pool d g → AllFar olds g history.floor → AreAdvanced history h mark olds news answer
       → AllStand news pool pool h h × ListsAllNew ps n mark was g pool h answer
   advanced_all focus [] n [] news answer of stand far k = (subst (λ (t : List StoreState). AllStand t pool pool h h) (sym k.0) tt, k.1)
   advanced_all focus [] n (o ∷ olds) news answer of stand far k = absurd of
@@ -136,7 +143,7 @@ module _ (history : HistoryState) (mark : Mark) (was pool : List (Entry Sym)) (d
       let rest = k.1 in
       let first = k.2 in
       let more = k.3 in
-      let marked : IsMarked o new_one mark was pool pool g h first = k.6 was pool pool d g stand.0 kept far.0 few apart later dated dates in
+      let marked : IsMarked o new_one mark was pool pool g h first = k.6 was pool pool (stand.0).0 g (stand.0).2 kept far.0 few apart (let l = (stand.0).1 in omega arith) dated dates in
       let r = advanced_all focus ps (suc n) olds rest more of.1 stand.1 far.1 k.7 in (
         subst (λ (t : List StoreState). AllStand t pool pool h h) (sym k.4) (marked.stands, r.0),
         (first, more, k.5, answer_as p n o mark was pool g h first (of.0).plan (of.0).number sw marked.answers, r.1),
@@ -157,11 +164,11 @@ stores_same focus (p ∷ ps) n (o ∷ olds) [] h k = absurd k
 stores_same focus (p ∷ ps) n (o ∷ olds) (x ∷ news) h k = (same_store_of focus p n o x h.0 k.0, stores_same focus ps (suc n) olds news h.1 k.1)
 
 pub all_stand : (focus : Bool) (settled : List (Entry Sym)) (h : ℕ) (ps : List Plan) (ss : List StoreState)
-    → AllZip (IsStoreAt focus settled h) ps ss → AllStand ss settled settled h h
+    → AllZip (IsStoreAt focus settled h) ps ss → AllStandBy ss settled settled h h
 all_stand focus settled h [] [] z = tt
 all_stand focus settled h [] (s ∷ ss) z = absurd z
 all_stand focus settled h (p ∷ ps) [] z = absurd z
-all_stand focus settled h (p ∷ ps) (s ∷ ss) z = ((z.0).stands, all_stand focus settled h ps ss z.1)
+all_stand focus settled h (p ∷ ps) (s ∷ ss) z = ((h, omega arith, (z.0).stands), all_stand focus settled h ps ss z.1)
 
 pub stores_at : (focus : Bool) (settled : List (Entry Sym)) (h : ℕ) (ps : List Plan) (n : ℕ) (ss : List StoreState)
     → AreStoresOf focus ps n ss → AllStand ss settled settled h h → AllZip (IsStoreAt focus settled h) ps ss

@@ -12,7 +12,7 @@ use Rattle.crs_store.specs.Answers.{IsAdvanced}
 abbrev pub AreSameStores : List StoreState → List StoreState → Type 0
 AreSameStores olds news = AllZip IsSameStore olds news
 
--- each was offered x, which the history has as its last, and all that it holds was judged at a date
+-- each was offered x, which the history has as its last, and all that it holds was judged at a date that isn't after `until`
 abbrev pub AreOffered : List StoreState → HistoryState → Entry Sym → ℕ → List StoreState → Type 0
 AreOffered olds history x until news = AllZip (λ o n. IsOfferedUntil o history x until n) olds news
 
@@ -26,8 +26,8 @@ pub record HasPut (past : HistoryState) (x : Entry Sym) (now : HistoryState) : T
   pub floor : now.floor ≡ past.floor
   pub stands : (es : List (Entry Sym)) → StandsFor es past → StandsFor (es ++ x ∷ []) now
 
--- Each entry in turn was put last in the history, and each store was offered it and judged all at the date of the entry after it, or at h
--- where that is the lesser or there is none. The rest comes after these entries.
+-- Each entry in turn was put last in the history, and each store was offered it and judged all no later than at the date of the entry after it,
+-- or than at h where that is the lesser or there is none. The rest comes after these entries.
 abbrev pub AreOfferedAll : ℕ → List (Entry Sym) → List StoreState → HistoryState → List (Entry Sym) → List StoreState → HistoryState
     → Type 0
 AreOfferedAll h rest olds past [] news now = (news ≡ olds) × (now ≡ past)

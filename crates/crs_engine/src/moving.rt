@@ -84,16 +84,6 @@ pub(crate) fn settle<L: Ledger>(
     Ok(())
 }
 
-/// Adds the items at the end of the list.
-fn push_all(list: &mut List<Recognition>, items: List<Recognition>) -> Result<(), AllocError>
-    ensures { OnOk result (list.new ≡ list.old ++ items) }
-{
-    for item in items.into_vec() {
-        list.push(item)?;
-    }
-    Ok(())
-}
-
 /// Moves each store on to the horizon `h`, and adds their answers in turn.
 fn advance_all(
     answer: &mut List<Recognition>,
@@ -109,7 +99,7 @@ fn advance_all(
     match stores.split_first_mut() {
         None => Ok(()),
         Some((first, rest)) => {
-            push_all(answer, first.advance(history, h, mark)?)?;
+            answer.append(first.advance(history, h, mark)?)?;
             advance_all(answer, rest, history, h, mark)
         }
     }

@@ -29,3 +29,4 @@ pub mod Registering
 pub mod Held
 pub mod Moved
 pub mod Assembled
+pub mod Passing

@@ -23,7 +23,7 @@ use Rattle.crs_instance.specs.Instances.{InstanceState, IsOf}
 use Rattle.crs_instance.specs.Followed.{Follows}
 use Rattle.crs_instance.proofs.GoesOn.{root_goes_on}
 use Rattle.crs_instance.proofs.BindAnswers.{get-replicate}
-use Rattle.crs_store.specs.Stores.{parts, AllOf, StoreState, IsStore, Stands, IsSameStore, levels_of, IsOfferedUntil}
+use Rattle.crs_store.specs.Stores.{parts, AllOf, StoreState, IsStore, Stands, IsSameStore, levels_of, IsOfferedAt}
 use Rattle.crs_store.specs.Levels.{levels_in}
 use Rattle.crs_store.specs.Windows.{IsAble, IsOver, IsOpenAt, IsSameInstance}
 use Rattle.crs_store.specs.Sweeps.{IsFree, IsReady, TakesIn}
@@ -83,7 +83,7 @@ same_levels old new same was pool entries d g held h =
     subst (λ (b : Bool). StandsFor (chronicle new.plan) (levels_in new.plan b) held was pool entries d g) (sym same.focus)
     (subst (λ (p : Plan). StandsFor (chronicle p) (levels_in p old.focus) held was pool entries d g) (sym same.plan) h)
 
-pub store_offered : (old new : StoreState) (history : HistoryState) (x : Entry Sym) (until : ℕ) → x.date ≤ until → IsStore old → IsSameStore old new → new.date ≡ until → TakesIn old.plan old.focus history x until old.date old.held new.held → IsOfferedUntil old history x until new
+pub store_offered : (old new : StoreState) (history : HistoryState) (x : Entry Sym) (until : ℕ) → x.date ≤ until → IsStore old → IsSameStore old new → new.date ≡ until → TakesIn old.plan old.focus history x until old.date old.held new.held → IsOfferedAt old history x until new
 store_offered old new history x until up is same judged takes was settled d g stands kept far few fresh later =
     let c = chronicle old.plan in
     let level = levels_of old in
@@ -98,9 +98,9 @@ store_offered old new history x until up is same judged takes was settled d g st
       judged = judged;
     }
 
-pub offered_from : (seen old new : StoreState) (history : HistoryState) (x : Entry Sym) (until : ℕ) → x.date ≤ until → (p : Plan) → seen ≡ old → IsStore seen → p ≡ seen.plan → IsSameStore seen new → new.date ≡ until → TakesIn p seen.focus history x until seen.date seen.held new.held → IsOfferedUntil old history x until new
+pub offered_from : (seen old new : StoreState) (history : HistoryState) (x : Entry Sym) (until : ℕ) → x.date ≤ until → (p : Plan) → seen ≡ old → IsStore seen → p ≡ seen.plan → IsSameStore seen new → new.date ≡ until → TakesIn p seen.focus history x until seen.date seen.held new.held → IsOfferedAt old history x until new
 offered_from seen old new history x until up p view is sp same judged takes =
-    subst (λ (o : StoreState). IsOfferedUntil o history x until new) view
+    subst (λ (o : StoreState). IsOfferedAt o history x until new) view
     (store_offered seen new history x until up is same judged (subst (λ (t : Plan). TakesIn t seen.focus history x until seen.date seen.held new.held) sp takes))
 
 -- ---- the root alone

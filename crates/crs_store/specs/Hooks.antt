@@ -1,5 +1,5 @@
 -- Under which keys instances wait for entries.
-use Rattle.std.specs.Prelude.{◌≡◌, ◌+◌, ◌*◌, ℕ, true, List, Option, Some, None, IfSome, slice_get}
+use Rattle.std.specs.Prelude.{◌≡◌, ◌⊎◌, ◌+◌, ◌*◌, ℕ, true, List, map, Option, Some, None, IfSome, slice_get}
 use Rattle.std.specs.List.{AllZip}
 use Rattle.crs_agenda.specs.declared.timed.Handle.{Handle}
 use Rattle.crs_agenda.specs.Freshness.{is_fresh}
@@ -8,7 +8,7 @@ use Rattle.crs_base.specs.Words.{IsIn}
 use Rattle.crs_index.specs.declared.key.Key.{Key}
 use Rattle.crs_index.specs.Indexes.{IndexState, bucket_of}
 use Rattle.crs_model.specs.declared.plan.Plan.{Plan}
-use Rattle.crs_model.specs.Models.{Body, NoEvent, Occurs, Hold, EventDef, Window, Term, Var}
+use Rattle.crs_model.specs.Models.{Chronicle, Body, NoEvent, Occurs, Hold, EventDef, Window, Term, Var}
 use Rattle.crs_model.specs.Plans.{chronicle}
 use Rattle.crs_store.specs.declared.hooks.Hook.{Hook}
 use Rattle.crs_store.specs.declared.hooks.Pick.{Pick}
@@ -18,6 +18,10 @@ abbrev pub name_of : Body Sym → Sym
 name_of (NoEvent p) = p.name
 name_of (Occurs least most p) = p.name
 name_of (Hold name terms value) = name
+
+-- an event or a window of the chronicle looks for entries of the name
+abbrev pub LooksFor : Chronicle Sym → Sym → Type 0
+LooksFor c s = IsIn s (map (λ v. v.pattern.name) c.events) ⊎ IsIn s (map (λ w. name_of w.body) c.windows)
 
 abbrev pub terms_of : Body Sym → List (Term Sym)
 terms_of (NoEvent p) = p.terms

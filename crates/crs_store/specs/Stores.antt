@@ -11,6 +11,7 @@ use Rattle.crs_model.specs.Open.{StandsFor}
 use Rattle.crs_history.specs.Histories.{HistoryState, IsFarBack, StandsFor as HistoryStandsFor}
 use Rattle.crs_instance.specs.Instances.{InstanceState, IsOf}
 use Rattle.crs_instance.specs.Followed.{Follows}
+use Rattle.crs_store.specs.Hooks.{LooksFor}
 use Rattle.crs_store.specs.Levels.{levels_in}
 
 -- a store, as contracts see it
@@ -52,12 +53,19 @@ pub record IsSameStore (old new : StoreState) : Type 0 where
   pub focus : new.focus ≡ old.focus
 
 -- After x was offered, whose arrival number is new, whose date isn't before d, and which the history has as its last, and all was judged at a date. The pool is what is settled, which are fewer than 2^32, and g is the horizon of the last mark.
+abbrev pub IsOfferedAt : StoreState → HistoryState → Entry Sym → ℕ → StoreState → Type 0
+IsOfferedAt old history x n new =
+    (was settled : List (Entry Sym)) (d g : ℕ) → Stands old was settled settled d g →
+    HistoryStandsFor (settled ++ x ∷ []) history → IsFarBack old.plan.reach g history.floor → length (settled ++ x ∷ []) < 2 ^ 32 → IsFresh settled x → d ≤ x.date →
+    Stands new was (settled ++ x ∷ []) (settled ++ x ∷ []) n g
+
+-- the same, judged at the date of x
+abbrev pub IsOffered : StoreState → HistoryState → Entry Sym → StoreState → Type 0
+IsOffered old history x new = IsOfferedAt old history x x.date new
+
+-- the same, judged at a date that isn't before d nor after `until`, and at `until` where the chronicle looks for entries of the name of x
 abbrev pub IsOfferedUntil : StoreState → HistoryState → Entry Sym → ℕ → StoreState → Type 0
 IsOfferedUntil old history x until new =
     (was settled : List (Entry Sym)) (d g : ℕ) → Stands old was settled settled d g →
     HistoryStandsFor (settled ++ x ∷ []) history → IsFarBack old.plan.reach g history.floor → length (settled ++ x ∷ []) < 2 ^ 32 → IsFresh settled x → d ≤ x.date →
-    Stands new was (settled ++ x ∷ []) (settled ++ x ∷ []) until g
-
--- the same, judged at the date of x
-abbrev pub IsOffered : StoreState → HistoryState → Entry Sym → StoreState → Type 0
-IsOffered old history x new = IsOfferedUntil old history x x.date new
+    (n : ℕ) × (d ≤ n) × (n ≤ until) × (LooksFor (chronicle old.plan) x.name → n ≡ until) × Stands new was (settled ++ x ∷ []) (settled ++ x ∷ []) n g

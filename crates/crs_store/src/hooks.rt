@@ -1,11 +1,12 @@
 //! Under which keys instances wait for entries.
-ghost use Rattle.std.specs.Prelude.{◌≡◌, ◌*◌, ◌<◌, ◌^◌, Some, slice_get, map, IfOk, IfSome};
-ghost use Rattle.std.specs.List.{AllZip};
+ghost use Rattle.std.specs.Prelude.{◌≡◌, ◌*◌, ◌<◌, ◌^◌, ◌↔◌, ◌==◌, Some, slice_get, map, IsTrue, IfOk, IfSome};
+ghost use Rattle.std.specs.List.{AllZip, list_any};
+ghost use Rattle.crs_model.specs.declared.plan.Plan.{Plan as Planned};
 ghost use Rattle.crs_model.specs.Bindings.{look_of};
 ghost use Rattle.crs_model.specs.Models.{Var};
 ghost use Rattle.crs_model.specs.Plans.{chronicle};
 ghost use Rattle.crs_model.specs.Seen.{term_of, body_of, event_of, window_of};
-ghost use Rattle.crs_store.specs.Hooks.{name_of, terms_of, IsHookOf, IsHookOfEvent, IsHookOfWindow, AreHooks, key_with, key_of, picked_argument};
+ghost use Rattle.crs_store.specs.Hooks.{name_of, terms_of, IsHookOf, IsHookOfEvent, IsHookOfWindow, AreHooks, LooksFor, key_with, key_of, picked_argument};
 
 use crs_base::{Entry, Sym};
 use crs_index::Key;
@@ -80,6 +81,13 @@ fn window_hooks(alloc: Global, windows: &[Window]) -> Result<Vec<Hook>, AllocErr
     Ok(hooks)
 }
 
+/// Whether one of the hooks looks for entries of the name.
+fn is_among(hooks: &[Hook], name: Sym) -> bool
+    ensures { result ≡ list_any (λ h. h.name.0 == name.0) hooks.now }
+{
+    hooks.iter().any(|hook| hook.name.0 == name.0)
+}
+
 /// What the events and the windows of a chronicle look for.
 #[derive(Drop)]
 pub(crate) struct Hooks {
@@ -94,6 +102,13 @@ impl Hooks {
         let events = event_hooks(alloc, plan.chronicle.events.as_slice())?;
         let windows = window_hooks(alloc, plan.chronicle.windows.as_slice())?;
         Ok(Hooks { events, windows })
+    }
+
+    /// Whether an event or a window looks for entries of the name.
+    pub(crate) fn look_for(&self, name: Sym) -> bool
+        ensures { (plan : Planned) → AreHooks plan self.now.events.items self.now.windows.items → IsTrue result ↔ LooksFor (chronicle plan) name }
+    {
+        is_among(self.events.as_slice(), name) || is_among(self.windows.as_slice(), name)
     }
 }
 

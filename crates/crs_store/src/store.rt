@@ -4,7 +4,7 @@ ghost use Rattle.crs_base.specs.Seen.{entry_of};
 ghost use Rattle.crs_history.specs.Histories.{EndsWith};
 ghost use Rattle.crs_model.specs.Plans.{IsProper};
 ghost use Rattle.crs_instance.specs.Instances.{InstanceState, IsOf};
-ghost use Rattle.crs_store.specs.Stores.{Stands, IsStore, IsSameStore, IsOffered, IsOfferedUntil};
+ghost use Rattle.crs_store.specs.Stores.{Stands, IsStore, IsSameStore, IsOffered, IsOfferedAt, IsOfferedUntil};
 ghost use Rattle.crs_store.specs.Sweeps.{TakesIn};
 ghost use Rattle.crs_store.specs.Answers.{IsAdvanced, MovesOn};
 ghost use Rattle.crs_store.specs.Hooks.{AreHooks};
@@ -132,8 +132,7 @@ fn move_on(
         mark,
     )?;
     put_in_order(&mut found);
-    let listed = list_of(alloc, found)?;
-    Ok(listed)
+    Ok(List::from_vec(found))
 }
 
 /// What is held at first: the root alone.
@@ -153,17 +152,6 @@ fn first_holding(
     born.push(Instance::root(alloc, plan)?)?;
     hold_all(&mut holding, plan, focus, hooks, born, 0)?;
     Ok(holding)
-}
-
-/// The same items in order.
-fn list_of(alloc: Global, items: Vec<Recognition>) -> Result<List<Recognition>, AllocError>
-    ensures { IfOk result (λ l. l ≡ items.items) }
-{
-    let mut list = List::new(alloc);
-    for item in items {
-        list.push(item)?;
-    }
-    Ok(list)
 }
 
 impl Store {
@@ -208,11 +196,11 @@ impl Store {
         ensures stands { OnOk result (IsOffered self.old history.now (entry_of entry.now.value) self.new) }
         ensures cost { self.old.focus ≡ false → steps.new ≤ steps.old + 2 * length self.old.plan.chronicle.events * length self.old.held }
     {
-        self.offer_until(history, entry, entry.date, steps)
+        self.take(history, entry, entry.date, steps)
     }
 
     /// Takes in an entry as `offer` does, and judges all that is held at the date `until`, which no
-    /// later entry is before.
+    /// later entry is before. It passes over an entry for which the chronicle doesn't look.
     pub fn offer_until<L: Ledger>(
         &mut self,
         history: &History,
@@ -228,6 +216,30 @@ impl Store {
         ensures raised { IsTrue self.new.stopped ↔ (IsTrue self.old.stopped ⊎ (result ≡ Err Memory)) }
         ensures same { IsSameStore self.old self.new }
         ensures stands { OnOk result (IsOfferedUntil self.old history.now (entry_of entry.now.value) until self.new) }
+        ensures cost { self.old.focus ≡ false → steps.new ≤ steps.old + 2 * length self.old.plan.chronicle.events * length self.old.held }
+    {
+        if !self.stopped && !self.hooks.look_for(entry.name) {
+            return Ok(());
+        }
+        self.take(history, entry, until, steps)
+    }
+
+    /// Takes in an entry of any name, and judges all that is held at the date `until`.
+    fn take<L: Ledger>(
+        &mut self,
+        history: &History,
+        entry: &Rc<Entry>,
+        until: u64,
+        steps: &mut Steps<L>,
+    ) -> Result<(), StoreRefused>
+        requires last { self.old.stopped ≡ false → EndsWith (entry_of entry.now.value) history.now.entries }
+        requires date { entry.now.value.date < 2 ^ 40 }
+        requires later { entry.now.value.date ≤ until }
+        requires small { until ≤ 2 ^ 42 }
+        ensures stopped { (result ≡ Err Stopped) ↔ IsTrue self.old.stopped }
+        ensures raised { IsTrue self.new.stopped ↔ (IsTrue self.old.stopped ⊎ (result ≡ Err Memory)) }
+        ensures same { IsSameStore self.old self.new }
+        ensures stands { OnOk result (IsOfferedAt self.old history.now (entry_of entry.now.value) until self.new) }
         ensures cost { self.old.focus ≡ false → steps.new ≤ steps.old + 2 * length self.old.plan.chronicle.events * length self.old.held }
     {
         if self.stopped {

@@ -16,7 +16,7 @@ returns-clause-tidy c = left_tidy c.args.plan.now c.args.focus c.args.hooks.now 
 pub returns-clause-moved : goal.returns-clause-moved
 returns-clause-moved c =
     let left = (c.in_ok-found.ensures {u = tt}).left in
-    moves_on c.args.plan.now c.args.focus c.args.history.now c.args.since c.args.h c.args.number c.args.mark (members c.args.holding.now.slots.slots) (members c.pass.new.holding.slots.slots) (members c.take_ripe.new.slots.slots) c.in_ok-listed.listed (tidy_all c.args.plan.now c.args.focus c.args.hooks.now c.args.holding.now c.args.since c.requires.tidy) ((c.in_ok-pass.ensures {u = tt}).renews)
-    (subst (λ (a : List Recognition). AreFoundInOrder c.args.plan.now c.args.h c.args.number c.args.mark (members c.pass.new.holding.slots.slots) a) (sym (c.in_ok-listed.ensures {u = tt}))
+    moves_on c.args.plan.now c.args.focus c.args.history.now c.args.since c.args.h c.args.number c.args.mark (members c.args.holding.now.slots.slots) (members c.pass.new.holding.slots.slots) (members c.take_ripe.new.slots.slots) c.from_vec.result (tidy_all c.args.plan.now c.args.focus c.args.hooks.now c.args.holding.now c.args.since c.requires.tidy) ((c.in_ok-pass.ensures {u = tt}).renews)
+    (subst (λ (a : List Recognition). AreFoundInOrder c.args.plan.now c.args.h c.args.number c.args.mark (members c.pass.new.holding.slots.slots) a) (sym c.from_vec.ensures)
     (record { found = c.in_ok-found.found.items; are = (c.in_ok-found.ensures {u = tt}).found; moved = c.put_in_order.ensures.moved; sorted = c.put_in_order.ensures.sorted }))
     (left_sifts c.args.plan.now c.args.h c.pass.new.holding.slots.slots c.take_ripe.new.slots.slots left.places left.each)

@@ -1,19 +1,18 @@
-use Rattle.std.proofs.Common.{refl, subst}
+use Rattle.std.proofs.Common.{sym, subst, true≢false, ◌∙◌}
+use Rattle.crs_base.specs.declared.entry.Entry.{Entry as CodeEntry}
 use Rattle.crs_base.specs.Seen.{entry_of}
-use Rattle.crs_model.specs.declared.plan.Plan.{Plan}
+use Rattle.crs_model.specs.Plans.{chronicle}
+use Rattle.crs_store.specs.Hooks.{LooksFor}
 use Rattle.crs_store.specs.Slots.{members}
-use Rattle.crs_store.specs.Tidy.{IsTidyHolding}
-use Rattle.crs_store.proofs.Assembled.{tidy_at_mark}
-use Rattle.crs_store.proofs.Standing.{offered_from}
+use Rattle.crs_store.proofs.Passing.{offered_other, offered_so}
 use Rattle.crs_store.proofs.store.Store.offer_until.Goals as goal
 
-pub invariant_of-self : goal.invariant_of-self
-invariant_of-self g c =
-    tidy_at_mark c.self.inside.plan.value c.self.inside.hooks c.self.inside.number c.self.inside.focus c.self.inside.stopped (members c.self.inside.holding.slots.slots) c.self.inside.date c.self.invariant.0 c.self.invariant.1 c.take_in.new.holding c.args.until c.requires.small
-    (subst (λ (p : Plan). IsTidyHolding p c.self.inside.focus c.self.inside.hooks c.take_in.new.holding c.args.until) c.deref-2.ensures ((c.in-Ok.ensures {u = tt}).tidy))
+pub returns-then-not-look_for-clause-stands : goal.returns-then-not-look_for-clause-stands
+returns-then-not-look_for-clause-stands g c =
+    let plan = c.self.inside.plan.value in
+    offered_other (record { plan = plan; number = c.self.inside.number; focus = c.self.inside.focus; held = members c.self.inside.holding.slots.slots; date = c.self.inside.date; stopped = c.self.inside.stopped }) c.args.self.now c.args.history.now (entry_of c.args.entry.now.value) c.args.until c.requires.later
+    c.self.view_is c.self.invariant.0
+    (λ looked. true≢false (sym ((c.look_for.ensures plan c.self.invariant.1).1 (subst (λ (e : CodeEntry). LooksFor (chronicle plan) e.name) (sym c.deref.ensures) looked)) ∙ c.if-not-look_for.true))
 
-pub returns-in-Ok-clause-stands : goal.returns-in-Ok-clause-stands
-returns-in-Ok-clause-stands g c =
-    offered_from (record { plan = c.self.inside.plan.value; number = c.self.inside.number; focus = c.self.inside.focus; held = members c.self.inside.holding.slots.slots; date = c.self.inside.date; stopped = c.self.inside.stopped }) c.args.self.now
-    (record { plan = c.self.inside.plan.value; number = c.self.inside.number; focus = c.self.inside.focus; held = members c.take_in.new.holding.slots.slots; date = c.args.until; stopped = c.self.inside.stopped }) c.args.history.now (entry_of c.args.entry.now.value) c.args.until c.requires.later c.deref-2.result.now
-    c.self.view_is c.self.invariant.0 c.deref-2.ensures (record { plan = refl; number = refl; focus = refl }) refl ((c.in-Ok.ensures {u = tt}).taken)
+pub returns-clause-stands : goal.returns-clause-stands
+returns-clause-stands g c = offered_so c.take.result c.args.self.now c.take.new.self c.args.history.now (entry_of c.args.entry.now.value) c.args.until c.requires.later c.take.ensures.stands

@@ -1,0 +1,154 @@
+-- What a store stands for where it passes over an entry that its chronicle doesn't look for.
+use Rattle.std.proofs.Common.{Bool, ◌≡◌, ℕ, zero, suc, ◌<◌, ◌≤◌, ◌^◌, List, [], ◌∷◌, ◌++◌, length, map, refl, sym, ap, subst, ◌∙◌, inl, inr, ◌⊎◌, arith, true, false, true≢false}
+use Rattle.std.specs.Prelude.{ℤ, Some, slice_get, IsTrue, ◌↔◌, ◌==◌, Result, OnOk}
+use Rattle.std.specs.List.{AllByRecursion, AllZip, list_any}
+use Rattle.std.proofs.lemmas.Result.{on_ok_weaker}
+use Rattle.crs_base.specs.declared.symbols.Sym.{Sym}
+use Rattle.crs_base.specs.Words.{IsIn, Ordered}
+use Rattle.crs_base.specs.Entry.{Entry}
+use Rattle.crs_base.proofs.Words.{each_from_in, in_from_each, in_map, in_map_back, in_append_left}
+use Rattle.crs_history.specs.Histories.{HistoryState}
+use Rattle.crs_model.specs.declared.plan.Plan.{Plan}
+use Rattle.crs_model.specs.Models.{Body, NoEvent, Occurs, Hold, EventDef, Window}
+use Rattle.crs_model.specs.Matching.{Binding, PatternIs}
+use Rattle.crs_model.specs.Bindings.{look_of}
+use Rattle.crs_model.specs.Images.{IsImage}
+use Rattle.crs_model.specs.Partial.{Partial, put}
+use Rattle.crs_model.specs.Plans.{chronicle}
+use Rattle.crs_model.specs.Scans.{GrowsTo, GoesOnByLevel}
+use Rattle.crs_model.specs.Steps.{IsFresh}
+use Rattle.crs_model.specs.HasProgress.{Hits, Spares}
+use Rattle.crs_model.proofs.AllowedSays.{among_says}
+use Rattle.crs_model.proofs.ByLevel.{offered_until}
+use Rattle.crs_model.proofs.Opened.{in_place}
+use Rattle.crs_model.proofs.Options.{of_some, some_if}
+use Rattle.crs_model.proofs.Parts.{at_within, put_same}
+use Rattle.crs_instance.specs.Instances.{InstanceState, IsOf}
+use Rattle.crs_instance.specs.Followed.{Follows}
+use Rattle.crs_store.specs.declared.hooks.Hook.{Hook}
+use Rattle.crs_store.specs.Dues.{IsUntouched}
+use Rattle.crs_store.specs.Hooks.{name_of, IsHookOfEvent, IsHookOfWindow, AreHooks, LooksFor}
+use Rattle.crs_store.specs.Levels.{levels_in}
+use Rattle.crs_store.specs.Stores.{StoreState, IsStore, Stands, parts, levels_of, IsOfferedAt, IsOfferedUntil}
+use Rattle.crs_store.specs.Windows.{IsOver, IsOpenAt}
+use Rattle.crs_store.proofs.Overs.{open_able}
+use Rattle.crs_store.proofs.Standing.{over_of, given_held, closed_held}
+use Rattle.crs_store.proofs.Unmoved.{untouched_follows}
+
+-- ---- the names of hooks
+
+names_any : (hs : List Hook) (s : Sym) → list_any (λ h. h.name.0 == s.0) hs ≡ list_any (λ y. y.0 == s.0) (map (λ h. h.name) hs)
+names_any [] s = refl
+names_any (h ∷ hs) s = rw (names_any hs s) refl
+
+pub names_say : (hs : List Hook) (s : Sym) (b : Bool) → b ≡ list_any (λ h. h.name.0 == s.0) hs → IsTrue b ↔ IsIn s (map (λ h. h.name) hs)
+names_say hs s b e = rw (e, names_any hs s) (among_says (map (λ h. h.name) hs) s)
+
+module _ {A : Type 0} (name : A → Sym) (Is : A → Hook → Type 0) (named : (v : A) (h : Hook) → Is v h → h.name ≡ name v) where
+  same_names : (vs : List A) (hs : List Hook) → AllZip Is vs hs → map (λ h. h.name) hs ≡ map name vs
+  same_names [] [] z = refl
+  same_names [] (h ∷ hs) z = absurd z
+  same_names (v ∷ vs) [] z = absurd z
+  same_names (v ∷ vs) (h ∷ hs) z = rw (named v h z.0, same_names vs hs z.1) refl
+
+pub looked_for : (plan : Plan) (events windows : List Hook) (s : Sym) → AreHooks plan events windows →
+    (IsIn s (map (λ h. h.name) events) ⊎ IsIn s (map (λ h. h.name) windows)) ↔ LooksFor (chronicle plan) s
+looked_for plan events windows s are =
+    rw (
+      same_names (λ v. v.pattern.name) IsHookOfEvent (λ v h k. k.named) (chronicle plan).events events are.of_events,
+      same_names (λ w. name_of w.body) IsHookOfWindow (λ w h k. k.named) (chronicle plan).windows windows are.of_windows,
+    ) (λ k. k, λ k. k)
+
+-- where an event's hook has the name
+pub looks_first : (plan : Plan) (events windows these : List Hook) (s : Sym) (b : Bool) → these ≡ events → (IsTrue b ↔ IsIn s (map (λ h. h.name) these)) → b ≡ true → AreHooks plan events windows → IsTrue b ↔ LooksFor (chronicle plan) s
+looks_first plan events windows these s b e says is are = (λ t. (looked_for plan events windows s are).0 (inl (subst (λ (hs : List Hook). IsIn s (map (λ h. h.name) hs)) e (says.0 t))), λ l. is)
+
+-- where none has it
+pub looks_later : (plan : Plan) (events windows these those : List Hook) (s : Sym) (b c : Bool) → these ≡ events → those ≡ windows → (IsTrue b ↔ IsIn s (map (λ h. h.name) these)) → (IsTrue c ↔ IsIn s (map (λ h. h.name) those)) → b ≡ false → AreHooks plan events windows → IsTrue c ↔ LooksFor (chronicle plan) s
+looks_later plan events windows these those s b c e f says too not are = (
+  λ t. (looked_for plan events windows s are).0 (inr (subst (λ (hs : List Hook). IsIn s (map (λ h. h.name) hs)) f (too.0 t))),
+  λ l. elim ((looked_for plan events windows s are).1 l) [
+    | inl i ↦ absurd (true≢false (sym (says.1 (subst (λ (hs : List Hook). IsIn s (map (λ h. h.name) hs)) (sym e) i)) ∙ not))
+    | inr i ↦ too.1 (subst (λ (hs : List Hook). IsIn s (map (λ h. h.name) hs)) (sym f) i)
+  ],
+)
+
+-- ---- an entry of another name
+
+no_hit : (look : Binding Sym) (body : Body Sym) (from to : ℤ) (x : Entry Sym) → (name_of body ≡ x.name → ⊥) → Hits look body from to x → ⊥
+no_hit look (NoEvent p) from to x other h = other (h.1).name
+no_hit look (Occurs least most p) from to x other h = other (h.1).name
+no_hit look (Hold name terms value) from to x other h = h
+
+spared : (look : Binding Sym) (body : Body Sym) (from to : ℤ) (x : Entry Sym) → (name_of body ≡ x.name → ⊥) → Spares look body from to x
+spared look (NoEvent p) from to x other = tt
+spared look (Occurs least most p) from to x other = tt
+spared look (Hold name terms value) from to x other = λ a v is change dated. absurd (other (sym (change.named ∙ is.name_is)))
+
+item_at : {A : Type 0} (xs : List A) (k : ℕ) → k < length xs → (x : A) × (slice_get xs k ≡ Some x)
+item_at [] k l = absurd (omega arith)
+item_at (x ∷ xs) zero l = (x, refl)
+item_at (x ∷ xs) (suc k) l = item_at xs k (omega arith)
+
+module _ (plan : Plan) (x : Entry Sym) (other : LooksFor (chronicle plan) x.name → ⊥) where
+  no_event : (e : ℕ) (v : EventDef Sym) → slice_get (chronicle plan).events e ≡ Some v → v.pattern.name ≡ x.name → ⊥
+  no_event e v is n = other (inl (subst (λ (s : Sym). IsIn s (map (λ u. u.pattern.name) (chronicle plan).events)) n (in_map (λ u. u.pattern.name) (chronicle plan).events v (in_place (chronicle plan).events e v is))))
+
+  no_window : (k : ℕ) (w : Window Sym) → slice_get (chronicle plan).windows k ≡ Some w → name_of w.body ≡ x.name → ⊥
+  no_window k w is n = other (inr (subst (λ (s : Sym). IsIn s (map (λ u. name_of u.body) (chronicle plan).windows)) n (in_map (λ u. name_of u.body) (chronicle plan).windows w (in_place (chronicle plan).windows k w is))))
+
+  untouched : (i : InstanceState) → IsUntouched plan i x
+  untouched i k = some_if (slice_get (chronicle plan).windows k) _ (λ w is from to stretch bound. (
+    no_hit (look_of i.binding) w.body from to x (no_window k w is),
+    spared (look_of i.binding) w.body from to x (no_window k w is),
+  ))
+
+  module _ (focus : Bool) (pool entries : List (Entry Sym)) (n : ℕ) where
+    -- nothing that is open has the entry at an event
+    no_fork : (l e : ℕ) (a b : Partial Sym) → e < length a → GrowsTo (levels_in plan focus) l (put a e x) b → IsOpenAt plan focus pool entries n b → ⊥
+    no_fork l e a b within grows fine =
+        let has = grows.part e x (put_same a e x within) in
+        let inside : e < length (chronicle plan).events = let m = at_within b e x has in let c = fine.partial.len in omega arith in
+        let v = item_at (chronicle plan).events e inside in
+        no_event e v.0 v.1 (of_some _ x (λ y. PatternIs fine.look (v.0).pattern y) has (of_some (slice_get (chronicle plan).events e) v.0 _ v.1 (fine.partial.binding.equal e))).name
+
+    same_image : (held : List (Partial Sym)) → Ordered (λ a b. a ≡ b → ⊥) held → ((a : Partial Sym) → IsIn a held → IsOpenAt plan focus pool entries n a) → IsImage (GoesOnByLevel (levels_in plan focus) (IsOpenAt plan focus pool entries n) x) held held
+    same_image held distinct fine = record {
+      distinct = distinct;
+      sound = λ y i. (y, i, inl (refl, fine y i));
+      complete = λ a y i g. elim g [ inl s ↦ subst (λ (z : Partial Sym). IsIn z held) (sym s.0) i | inr f ↦ absurd (no_fork _ f.0 a y (f.1).within f.2 f.3) ];
+    }
+
+-- ---- the store
+
+-- what is held stands for the entry too, judged at the same date
+passed_over : (s : StoreState) → IsStore s → (x : Entry Sym) → (LooksFor (chronicle s.plan) x.name → ⊥) → (was settled : List (Entry Sym)) (d g : ℕ) → Stands s was settled settled d g → IsFresh settled x → d ≤ x.date
+    → Stands s was (settled ++ x ∷ []) (settled ++ x ∷ []) d g
+passed_over s is x other was settled d g stands fresh later =
+    let plan = s.plan in
+    let focus = s.focus in
+    let now = settled ++ x ∷ [] in
+    let one = stands.stands in
+    let over = over_of plan focus settled settled d s.held (given_held (chronicle plan) (levels_of s) (parts s.held) was settled settled d g one) (closed_held (chronicle plan) (levels_of s) (parts s.held) was settled settled d g one) stands.follows in
+    let follows : (i : InstanceState) → IsIn i s.held → Follows plan now d i = (λ i j. untouched_follows plan i x d later settled (untouched plan x other i) (in_from_each (Follows plan settled d) s.held stands.follows i j)) in
+    let fine : (a : Partial Sym) → IsIn a (parts s.held) → IsOpenAt plan focus now now d a = (λ a j.
+    let r = in_map_back (λ (i : InstanceState). i.partial) s.held a j in
+    let of = in_from_each (IsOf plan) s.held is.instances r.0 r.1 in
+    let was_over = in_from_each (IsOver plan focus settled settled d) s.held over r.0 r.1 in
+    let is_over : IsOver plan focus now now d r.0 = record { given = λ e y k. in_append_left settled (x ∷ []) y (was_over.given e y k); closed = was_over.closed; follows = follows r.0 r.1 } in
+    subst (IsOpenAt plan focus now now d) (sym r.2) ((open_able plan focus now now d r.0 of is_over).1 ((open_able plan focus settled settled d r.0 of was_over).0 (subst (IsOpenAt plan focus settled settled d) r.2 (one.each a j).0)))) in
+    record {
+      stands = offered_until (chronicle plan) (levels_of s) (parts s.held) (parts s.held) was settled settled d d g x one fresh later (omega arith) (same_image plan x other focus now now d (parts s.held) one.distinct fine);
+      follows = each_from_in (Follows plan now d) s.held follows;
+      judged = stands.judged;
+    }
+
+-- so it was offered the entry
+pub offered_other : (seen old : StoreState) (history : HistoryState) (x : Entry Sym) (until : ℕ) → x.date ≤ until → seen ≡ old → IsStore seen → (LooksFor (chronicle seen.plan) x.name → ⊥) → IsOfferedUntil old history x until old
+offered_other seen old history x until up view is other =
+    subst (λ (o : StoreState). IsOfferedUntil o history x until o) view
+    (λ was settled d g stands kept far few fresh later. (d, omega arith, omega arith, λ looked. absurd (other looked), passed_over seen is x other was settled d g stands fresh later))
+
+-- what was judged at `until` was offered the entry
+pub offered_so : {E : Type 0} (r : Result Unit E) (old new : StoreState) (history : HistoryState) (x : Entry Sym) (until : ℕ) → x.date ≤ until → OnOk r (IsOfferedAt old history x until new) → OnOk r (IsOfferedUntil old history x until new)
+offered_so r old new history x until up = on_ok_weaker r (λ h was settled d g stands kept far few fresh later. (until, omega arith, omega arith, λ looked. refl, h was settled d g stands kept far few fresh later))
