@@ -329,6 +329,13 @@ module _ (plan : Plan) (focus : Bool) (history : HistoryState) (x : Entry Sym) (
   member_long : AllOf plan (members slots.slots) → (a : Partial Sym) → IsIn a (parts (members slots.slots)) → length a ≡ length plan.chronicle.events
   member_long all a j = let r = in_map_back (λ (s : InstanceState). s.partial) (members slots.slots) a j in ap length r.2 ∙ (in_from_each (IsOf plan) (members slots.slots) all r.0 r.1).len
 
+  pub gathered_none : (out : List InstanceState) → out ≡ [] → AreGathered plan focus history x until slots 0 out
+  gathered_none out none = rw none (record {
+    of = tt;
+    able = tt;
+    image = λ entries now later over ready. (record { distinct = tt; sound = λ y k. absurd k; complete = λ a y k f. absurd (let l = f.1 in omega arith) }, tt);
+  })
+
   pub gathered_more : (n : ℕ) → (out more new : List InstanceState) → new ≡ out ++ more → AllOf plan more → AllByRecursion (IsAble plan focus until) more → AreForksOfEvent plan focus history x until slots n more → AreGathered plan focus history x until slots n out → AreGathered plan focus history x until slots (n + 1) new
   gathered_more n out more new is of able image h = rw is (record {
     of = all_append (IsOf plan) out more h.of of;

@@ -193,6 +193,7 @@ fn forks_of_event<L: Ledger>(
     entry: &Rc<Entry>,
     until: u64,
     steps: &mut Steps<L>,
+    places: &mut Vec<u32>,
     out: &mut Vec<Instance>,
 ) -> Result<(), AllocError>
     requires proper { IsProper plan.now }
@@ -208,17 +209,17 @@ fn forks_of_event<L: Ledger>(
     ensures forks { OnOk result (Adds plan.now focus until (AreForksOfEvent plan.now focus history.now (entry_of entry.now.value) until slots.now event) out.old.items out.new.items) }
     ensures cost { focus ≡ false → steps.new ≤ steps.old + length (members slots.now.slots) }
 {
-    let mut places = Vec::new(alloc);
-    note_candidates(waiting, slots, event, hook, entry, &mut places)?;
-    sort_places(&mut places);
+    places.clear();
+    note_candidates(waiting, slots, event, hook, entry, places)?;
+    sort_places(places);
     let places = places.as_slice();
     forks_at(
         alloc, plan, focus, slots, places, event, history, entry, until, steps, out,
     )
 }
 
-/// What comes of all instances where one of their awaited events is bound to the entry, judged at the
-/// date `until`.
+/// Fills `out` with what comes of all instances where one of their awaited events is bound to the
+/// entry, judged at the date `until`.
 pub(crate) fn forks<L: Ledger>(
     alloc: Global,
     plan: &Plan,
@@ -230,7 +231,9 @@ pub(crate) fn forks<L: Ledger>(
     entry: &Rc<Entry>,
     until: u64,
     steps: &mut Steps<L>,
-) -> Result<Vec<Instance>, AllocError>
+    places: &mut Vec<u32>,
+    out: &mut Vec<Instance>,
+) -> Result<(), AllocError>
     requires proper { IsProper plan.now }
     requires hooks { AllZip IsHookOfEvent (chronicle plan.now).events hooks.now }
     requires of { AllOf plan.now (members slots.now.slots) }
@@ -240,20 +243,21 @@ pub(crate) fn forks<L: Ledger>(
     requires small { until ≤ 2 ^ 42 }
     ensures fresh { KeepsFresh slots.now.serials waiting.old waiting.new }
     ensures standing { KeepsStanding slots.now waiting.old waiting.new }
-    ensures of { IfOk result (λ v. AllOf plan.now v.items) }
-    ensures able { IfOk result (λ v. AllByRecursion (IsAble plan.now focus until) v.items) }
-    ensures image { IfOk result (λ v. AreForksOfAll plan.now focus history.now (entry_of entry.now.value) until (members slots.now.slots) v.items) }
+    ensures of { OnOk result (AllOf plan.now out.new.items) }
+    ensures able { OnOk result (AllByRecursion (IsAble plan.now focus until) out.new.items) }
+    ensures image { OnOk result (AreForksOfAll plan.now focus history.now (entry_of entry.now.value) until (members slots.now.slots) out.new.items) }
     ensures cost { focus ≡ false → steps.new ≤ steps.old + length plan.now.chronicle.events * length (members slots.now.slots) }
 {
-    let mut out = Vec::new(alloc);
+    out.clear();
     for event in 0..plan.chronicle.events.len() as u8 {
         let hook = hooks[event as usize];
         if hook.name != entry.name {
             continue;
         }
         forks_of_event(
-            alloc, plan, focus, hook, slots, waiting, event, history, entry, until, steps, &mut out,
+            alloc, plan, focus, hook, slots, waiting, event, history, entry, until, steps, places,
+            out,
         )?;
     }
-    Ok(out)
+    Ok(())
 }

@@ -159,17 +159,17 @@ pub(crate) fn hold_all(
     plan: &Plan,
     focus: bool,
     hooks: &Hooks,
-    mut born: Vec<Instance>,
+    born: &mut Vec<Instance>,
     h: u64,
 ) -> Result<(), AllocError>
     requires proper { IsProper plan.now }
     requires hooks { AreHooks plan.now hooks.now.events.items hooks.now.windows.items }
-    requires of { AllOf plan.now born.items }
-    requires able { AllByRecursion (IsAble plan.now focus h) born.items }
+    requires of { AllOf plan.now born.old.items }
+    requires able { AllByRecursion (IsAble plan.now focus h) born.old.items }
     requires tidy { IsTidyHolding plan.now focus hooks.now holding.old h }
     requires small { h ≤ 2 ^ 42 }
     ensures tidy { OnOk result (IsTidyHolding plan.now focus hooks.now holding.new h) }
-    ensures joins { OnOk result (Joins (members holding.old.slots.slots) born.items (members holding.new.slots.slots)) }
+    ensures joins { OnOk result (Joins (members holding.old.slots.slots) born.old.items (members holding.new.slots.slots)) }
 {
     while let Some(instance) = born.pop() {
         hold(holding, plan, focus, hooks, instance, h)?;
@@ -212,7 +212,6 @@ fn settle_places(
 /// Takes in an entry: what it touches and what is due before its date is judged anew at its date,
 /// and what can't be recognised any more goes.
 pub(crate) fn follow(
-    alloc: Global,
     holding: &mut Holding,
     plan: &Plan,
     focus: bool,
@@ -220,6 +219,7 @@ pub(crate) fn follow(
     history: &History,
     entry: &Entry,
     since: u64,
+    places: &mut Vec<u32>,
 ) -> Result<(), AllocError>
     requires proper { IsProper plan.now }
     requires hooks { AreHooks plan.now hooks.now.events.items hooks.now.windows.items }
@@ -230,17 +230,11 @@ pub(crate) fn follow(
     ensures renews { OnOk result (Renews (IsFollowed plan.now history.now (entry_of entry.now) since) (IsAble plan.now focus entry.now.date) (members holding.old.slots.slots) (members holding.new.slots.slots)) }
 {
     sweep(holding);
-    let mut places = Vec::new(alloc);
-    collect_due(&mut holding.dues, entry.date, &mut places)?;
+    places.clear();
+    collect_due(&mut holding.dues, entry.date, places)?;
     let windows = hooks.windows.as_slice();
-    note_touched(
-        &mut holding.waiting,
-        &holding.slots,
-        windows,
-        entry,
-        &mut places,
-    )?;
-    sort_places(&mut places);
+    note_touched(&mut holding.waiting, &holding.slots, windows, entry, places)?;
+    sort_places(places);
     let places = places.as_slice();
     follow_places(
         plan,
@@ -258,7 +252,6 @@ pub(crate) fn follow(
 /// Passes the dates up to `h`: what is due before is judged anew at `h`, and what can't be
 /// recognised any more goes.
 pub(crate) fn pass(
-    alloc: Global,
     holding: &mut Holding,
     plan: &Plan,
     focus: bool,
@@ -266,6 +259,7 @@ pub(crate) fn pass(
     history: &History,
     since: u64,
     h: u64,
+    places: &mut Vec<u32>,
 ) -> Result<(), AllocError>
     requires proper { IsProper plan.now }
     requires hooks { AreHooks plan.now hooks.now.events.items hooks.now.windows.items }
@@ -276,9 +270,9 @@ pub(crate) fn pass(
     ensures renews { OnOk result (Renews (IsPassed plan.now history.now since h) (IsAble plan.now focus h) (members holding.old.slots.slots) (members holding.new.slots.slots)) }
 {
     sweep(holding);
-    let mut places = Vec::new(alloc);
-    collect_due(&mut holding.dues, h, &mut places)?;
-    sort_places(&mut places);
+    places.clear();
+    collect_due(&mut holding.dues, h, places)?;
+    sort_places(places);
     let places = places.as_slice();
     pass_places(plan, focus, &mut holding.slots, places, history, since, h);
     settle_places(holding, plan, focus, hooks, places, since, h)?;

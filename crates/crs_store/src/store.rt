@@ -37,6 +37,9 @@ pub struct Store {
     holding: Holding,
     date: u64,
     stopped: bool,
+    /// Filled anew at each entry, where they keep their memory.
+    places: Vec<u32>,
+    born: Vec<Instance>,
     alloc: Global,
 }
 
@@ -67,6 +70,8 @@ fn take_in<L: Ledger>(
     entry: &Rc<Entry>,
     until: u64,
     steps: &mut Steps<L>,
+    places: &mut Vec<u32>,
+    born: &mut Vec<Instance>,
 ) -> Result<(), AllocError>
     requires proper { IsProper plan.now }
     requires hooks { AreHooks plan.now hooks.now.events.items hooks.now.windows.items }
@@ -80,8 +85,8 @@ fn take_in<L: Ledger>(
     ensures taken { OnOk result (TakesIn plan.now focus history.now (entry_of entry.now.value) until since (members holding.old.slots.slots) (members holding.new.slots.slots)) }
     ensures cost { focus ≡ false → steps.new ≤ steps.old + 2 * length plan.now.chronicle.events * length (members holding.old.slots.slots) }
 {
-    follow(alloc, holding, plan, focus, hooks, history, entry, since)?;
-    let born = forks(
+    follow(holding, plan, focus, hooks, history, entry, since, places)?;
+    forks(
         alloc,
         plan,
         focus,
@@ -92,9 +97,11 @@ fn take_in<L: Ledger>(
         entry,
         until,
         steps,
+        places,
+        born,
     )?;
     pass(
-        alloc, holding, plan, focus, hooks, history, entry.date, until,
+        holding, plan, focus, hooks, history, entry.date, until, places,
     )?;
     hold_all(holding, plan, focus, hooks, born, until)?;
     Ok(())
@@ -112,6 +119,7 @@ fn move_on(
     h: u64,
     number: u32,
     mark: Mark,
+    places: &mut Vec<u32>,
 ) -> Result<List<Recognition>, AllocError>
     requires proper { IsProper plan.now }
     requires hooks { AreHooks plan.now hooks.now.events.items hooks.now.windows.items }
@@ -121,7 +129,7 @@ fn move_on(
     ensures tidy { IfOk result (λ _. IsTidyHolding plan.now focus hooks.now holding.new h) }
     ensures moved { IfOk result (MovesOn plan.now focus history.now since h number mark (members holding.old.slots.slots) (members holding.new.slots.slots)) }
 {
-    pass(alloc, holding, plan, focus, hooks, history, since, h)?;
+    pass(holding, plan, focus, hooks, history, since, h, places)?;
     let mut found = take_ripe(
         alloc,
         plan,
@@ -150,7 +158,7 @@ fn first_holding(
     let mut holding = no_holding(alloc);
     let mut born = Vec::new(alloc);
     born.push(Instance::root(alloc, plan)?)?;
-    hold_all(&mut holding, plan, focus, hooks, born, 0)?;
+    hold_all(&mut holding, plan, focus, hooks, &mut born, 0)?;
     Ok(holding)
 }
 
@@ -175,6 +183,8 @@ impl Store {
             holding,
             date: 0,
             stopped: false,
+            places: Vec::new(alloc),
+            born: Vec::new(alloc),
             alloc,
         })
     }
@@ -259,6 +269,8 @@ impl Store {
             entry,
             until,
             steps,
+            &mut self.places,
+            &mut self.born,
         ) {
             Ok(()) => {
                 self.date = until;
@@ -303,6 +315,7 @@ impl Store {
             h,
             self.number,
             mark,
+            &mut self.places,
         ) {
             Ok(found) => {
                 self.date = h;

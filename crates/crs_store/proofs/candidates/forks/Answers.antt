@@ -3,7 +3,7 @@ use Rattle.std.proofs.lemmas.List.{append-nil}
 use Rattle.crs_base.specs.Seen.{entry_of}
 use Rattle.crs_store.specs.Links.{hook_at}
 use Rattle.crs_store.specs.Slots.{members}
-use Rattle.crs_store.proofs.Gathered.{hooks_long, hook_there, none_named, gathered_more, gathered_all, events_cost}
+use Rattle.crs_store.proofs.Gathered.{hooks_long, hook_there, none_named, gathered_none, gathered_more, gathered_all, events_cost}
 use Rattle.crs_store.proofs.candidates.forks.Goals as goal
 
 pub bounds-hooks-event : goal.bounds-hooks-event
@@ -14,6 +14,14 @@ forks_of_event-requires-clause-hook g c = hook_there c.args.plan.now c.args.hook
 
 pub returns-in_err-forks_of_event-clause-standing : goal.returns-in_err-forks_of_event-clause-standing
 returns-in_err-forks_of_event-clause-standing g c = λ k p i s w. c.forks_of_event.ensures.standing k p i s (c.loop-event.invariant.standing k p i s w)
+
+pub loop-event-init : goal.loop-event-init
+loop-event-init g c = record {
+  gathered = gathered_none c.args.plan.now c.args.focus c.args.history.now (entry_of c.args.entry.now.value) c.args.until c.args.slots.now c.clear.new.self.items (search rules);
+  fresh = λ k h f w. w;
+  standing = λ k p i s w. w;
+  cost = λ flat. omega arith;
+}
 
 pub loop-event-preserved : goal.loop-event-preserved
 loop-event-preserved g c = record {

@@ -12,8 +12,8 @@ use Rattle.crs_store.proofs.store.take_in.Goals as goal
 pub forks-requires-clause-of : goal.forks-requires-clause-of
 forks-requires-clause-of g c = tidy_all c.args.plan.now c.args.focus c.args.hooks.now c.follow.new.holding c.deref.result.now.date ((c.in_ok-follow.ensures {u = tt}).tidy)
 
-pub returns-in_err-born-clause-cost : goal.returns-in_err-born-clause-cost
-returns-in_err-born-clause-cost g c = λ flat.
+pub returns-in_err-forks-clause-cost : goal.returns-in_err-forks-clause-cost
+returns-in_err-forks-clause-cost g c = λ flat.
     few_ticks (IsFollowed c.args.plan.now c.args.history.now (entry_of c.deref.result.now) c.args.since) (IsAble c.args.plan.now c.args.focus c.deref.result.now.date) (length c.args.plan.now.chronicle.events) c.args.steps.now c.forks.new.steps (members c.args.holding.now.slots.slots) (members c.follow.new.holding.slots.slots) ((c.in_ok-follow.ensures {u = tt}).renews) (c.forks.ensures.cost flat)
 
 pub pass-requires-clause-tidy : goal.pass-requires-clause-tidy
@@ -40,7 +40,7 @@ returns-clause-taken g c =
     let stay = members c.pass.new.holding.slots.slots in
     let renews = subst (λ (e : CodeEntry). Renews (IsFollowed plan history (entry_of e) c.args.since) (IsAble plan focus e.date) held kept) c.deref.ensures ((c.in_ok-follow.ensures {u = tt}).renews) in
     let passes = subst (λ (e : CodeEntry). Renews (IsPassed plan history e.date c.args.until) (IsAble plan focus c.args.until) kept stay) c.deref-2.ensures ((c.in_ok-pass.ensures {u = tt}).renews) in
-    taken_anew plan focus c.requires.proper history (entry_of x) c.args.until c.args.since held kept c.in_ok-born.born.items stay (members c.hold_all.new.holding.slots.slots) (tidy_all plan focus c.args.hooks.now c.args.holding.now c.args.since c.requires.tidy) renews ((c.in_ok-born.ensures {u = tt}).image) passes ((c.in_ok-hold_all.ensures {u = tt}).joins)
+    taken_anew plan focus c.requires.proper history (entry_of x) c.args.until c.args.since held kept c.forks.new.out.items stay (members c.hold_all.new.holding.slots.slots) (tidy_all plan focus c.args.hooks.now c.args.holding.now c.args.since c.requires.tidy) renews ((c.in_ok-forks.ensures {u = tt}).image) passes ((c.in_ok-hold_all.ensures {u = tt}).joins)
 
 pub returns-clause-cost : goal.returns-clause-cost
 returns-clause-cost g c = λ flat.
