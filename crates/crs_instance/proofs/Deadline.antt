@@ -11,10 +11,9 @@ use Rattle.crs_model.specs.declared.date_window.DateWindow.{DateWindow}
 use Rattle.crs_model.specs.Levels.{level_in}
 use Rattle.crs_model.specs.Partial.{at}
 use Rattle.crs_model.specs.Seen.{event_of}
-use Rattle.crs_model.specs.Bits.{HasBits}
+use Rattle.crs_model.specs.Bits.{HasBits, is_set}
 use Rattle.crs_model.specs.Steps.{flat}
 use Rattle.crs_instance.specs.Instances.{InstanceState, IsDeadline, window_at}
-use Rattle.crs_instance.specs.Bits.{is_set}
 use Rattle.crs_instance.specs.Deadlines.{end_if}
 use Rattle.crs_instance.specs.Stored.{last_of}
 use Rattle.crs_model.specs.Models.{EventDef}

@@ -9,13 +9,12 @@ use Rattle.crs_base.specs.declared.symbols.Sym.{Sym}
 use Rattle.crs_base.specs.declared.entry.Entry.{Entry as CodeEntry}
 use Rattle.crs_base.specs.Entry.{Entry}
 use Rattle.crs_base.specs.Seen.{entry_of}
-use Rattle.crs_model.specs.Bits.{HasBits}
+use Rattle.crs_model.specs.Bits.{HasBits, is_set}
 use Rattle.crs_model.specs.declared.date_window.DateWindow.{DateWindow}
 use Rattle.crs_model.specs.Partial.{Partial, at, put}
 use Rattle.crs_instance.specs.declared.links.Known.{Known}
 use Rattle.crs_instance.specs.declared.links.Links.{Links, End}
 use Rattle.crs_instance.specs.Links.{partial_of, AreLinked, AreEarly, IsLink, known_in}
-use Rattle.crs_instance.specs.Bits.{is_set}
 use Rattle.crs_instance.specs.Deadlines.{end_if}
 use Rattle.crs_instance.specs.Instances.{window_at, no_window}
 use Rattle.crs_instance.specs.Stored.{IsStored, last_of}

@@ -8,8 +8,7 @@ use Rattle.std.proofs.lemmas.Bool.Decides.{eqb_tells}
 use Rattle.crs_base.specs.declared.symbols.Sym.{Sym}
 use Rattle.crs_base.specs.Entry.{Entry}
 use Rattle.crs_model.specs.Partial.{Partial, at, put}
-use Rattle.crs_model.specs.Bits.{bit_of, HasBits}
-use Rattle.crs_instance.specs.Bits.{is_set}
+use Rattle.crs_model.specs.Bits.{bit_of, HasBits, is_set}
 use Rattle.crs_instance.proofs.BindAnswers.{get-replicate}
 
 small : (o : Option (Entry Sym)) → bit_of o < 2

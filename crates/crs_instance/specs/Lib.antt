@@ -1,6 +1,5 @@
 pub mod Instances
 pub mod Links
-pub mod Bits
 pub mod Stored
 pub mod Deadlines
 pub mod Narrowed

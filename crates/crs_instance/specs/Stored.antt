@@ -1,11 +1,10 @@
 -- How an instance is stored: linked entries, and the bits of the bound events.
 use Rattle.std.specs.Prelude.{◌≡◌, ◌<◌, ◌≤◌, ◌^◌, ℕ, ℤ, List, length, Option, true}
 use Rattle.crs_stn.specs.DateWindow.{least_of}
-use Rattle.crs_model.specs.Bits.{HasBits}
+use Rattle.crs_model.specs.Bits.{HasBits, is_set}
 use Rattle.crs_model.specs.declared.date_window.DateWindow.{DateWindow}
 use Rattle.crs_instance.specs.declared.links.Links.{Links}
 use Rattle.crs_instance.specs.Links.{partial_of, AreLinked, AreEarly}
-use Rattle.crs_instance.specs.Bits.{is_set}
 use Rattle.crs_instance.specs.Deadlines.{end_if}
 use Rattle.crs_instance.specs.Instances.{window_at}
 

@@ -6,7 +6,7 @@ use Rattle.crs_stn.specs.DateWindow.{given_also, CanBeFrom}
 use Rattle.crs_model.specs.declared.plan.Plan.{Plan}
 use Rattle.crs_model.specs.Partial.{Partial, at, put, dates_of, IsAwaited, CanGoOn}
 use Rattle.crs_model.specs.Plans.{chronicle}
-use Rattle.crs_instance.specs.Bits.{is_set}
+use Rattle.crs_model.specs.Bits.{is_set}
 
 -- g is another unbound event of the level of e
 pub record IsOther (level : ℕ → ℕ) (a : Partial Sym) (e g : ℕ) : Type 0 where

@@ -1,13 +1,4 @@
 ghost use Rattle.std.specs.Prelude.{◌≡◌, ◌+◌, ◌<◌, ◌≤◌, ◌^◌, ◌==◌};
-ghost use Rattle.crs_instance.specs.Bits.{is_set};
-
-/// Whether the bit of this number, from the least, is set.
-pub(crate) fn is_set_at(bits: u16, place: u8) -> bool
-    requires { place < 16 }
-    ensures { result ≡ is_set bits place }
-{
-    (bits >> place) % 2 == 1
-}
 
 /// The same bits and one more.
 pub(crate) fn with_bit(bits: u16, place: u8) -> u16

@@ -14,7 +14,7 @@ ghost use Rattle.crs_instance.specs.Followed.{IsStretchAt};
 ghost use Rattle.crs_instance.specs.Instances.{no_window, no_progress as none_yet, progress_at, seen_entry, IsBoundBy, IsOf, IsInside, IsAnswered, IsForked, IsDeadline, AreAllEntries, window_at};
 ghost use Rattle.crs_instance.specs.Waits.{OthersCanCome, AnotherIsLate};
 
-use crate::bits::{are_all_set, is_set_at, with_bit};
+use crate::bits::{are_all_set, with_bit};
 use crate::bound::body_is_bound;
 use crate::fit::Fit;
 use crate::links::{Known, Links, date_of, entry_at, gives, known_of, linked, listed};
@@ -22,7 +22,8 @@ use crate::narrowing::{is_inside, is_not_before, narrowed};
 use crate::waiting::{deadline_of_level, earliest_deadline, others_can_be_from};
 use crs_base::{Entry, List, Steps};
 use crs_model::{
-    Anchor, Binding, Chronicle, DateWindow, Pattern, Plan, Progress, Stretch, allowed, bind_if_fits,
+    Anchor, Binding, Chronicle, DateWindow, Pattern, Plan, Progress, Stretch, allowed,
+    bind_if_fits, is_set_at,
 };
 use std::alloc::{AllocError, Global};
 use std::marker::Model;

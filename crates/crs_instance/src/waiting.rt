@@ -4,15 +4,14 @@ ghost use Rattle.crs_stn.specs.Table.{most_of};
 ghost use Rattle.crs_model.specs.Levels.{level_in};
 ghost use Rattle.crs_model.specs.Plans.{chronicle};
 ghost use Rattle.crs_model.specs.Seen.{event_of};
-ghost use Rattle.crs_instance.specs.Bits.{is_set};
+ghost use Rattle.crs_model.specs.Bits.{is_set};
 ghost use Rattle.crs_instance.specs.Deadlines.{end_if};
 ghost use Rattle.crs_instance.specs.Instances.{window_at};
 ghost use Rattle.crs_instance.specs.Narrowed.{most_with, IsFrom};
 ghost use Rattle.crs_instance.specs.Waits.{IsOtherUnset};
 
-use crate::bits::is_set_at;
 use crate::narrowing::{can_be_from, earlier};
-use crs_model::{DateWindow, EventDef, Plan};
+use crs_model::{DateWindow, EventDef, Plan, is_set_at};
 
 /// The level of the event at a place, which is 0 where levels aren't read.
 fn level_at(events: &[EventDef], place: u8, focus: bool) -> u8

@@ -14,6 +14,7 @@ pub mod StaysMet
 pub mod Marks
 pub mod Matches
 pub mod MatchLists
+pub mod HeldSays
 pub mod FitSays
 pub mod AllowedSays
 pub mod Wholes

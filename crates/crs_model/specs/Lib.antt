@@ -13,6 +13,7 @@ pub mod Proper
 pub mod ProperModels
 pub mod Seen
 pub mod Bindings
+pub mod Held
 pub mod Reach
 pub mod Plans
 pub mod Renaming

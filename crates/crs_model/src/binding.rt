@@ -1,23 +1,27 @@
 ghost use Rattle.std.specs.Prelude.{◌≡◌, ◌<◌, ◌≤◌, List, length, replicate, Option, Some, None, take, slice_set};
 ghost use Rattle.crs_model.specs.Bindings.{look_of};
 
+use crate::bits::is_set_at;
 use crs_base::Sym;
 use std::marker::Model;
 
 /// The symbols of at most 16 variables, held in place.
 #[derive(Drop)]
 pub struct Binding {
-    values: [Option<Sym>; 16],
+    symbols: [Sym; 16],
+    /// Bit i is set where variable i is bound.
+    bound: u16,
     count: u8,
 }
 
 impl Model for Binding {
-    ghost use Rattle.std.specs.Prelude.{List, Option, ◌≤◌, take};
+    ghost use Rattle.std.specs.Prelude.{List, Option, ◌≤◌};
     ghost use Rattle.crs_base.specs.declared.symbols.Sym.{Sym};
+    ghost use Rattle.crs_model.specs.Held.{held};
 
     ghost Value = { List (Option Sym) };
 
-    ghost view = { λ b. take b.count b.values };
+    ghost view = { λ b. held b.count b.symbols b.bound };
 
     ghost invariant = { λ b. b.count ≤ 16 };
 }
@@ -29,7 +33,8 @@ impl Binding {
         ensures { result ≡ replicate variables None }
     {
         Binding {
-            values: [None; 16],
+            symbols: [Sym(0); 16],
+            bound: 0,
             count: variables,
         }
     }
@@ -38,8 +43,11 @@ impl Binding {
     pub fn get(&self, i: u8) -> Option<Sym>
         ensures { result ≡ look_of self.now i }
     {
-        if i < self.count {
-            self.values[i as usize]
+        if i >= self.count {
+            return None;
+        }
+        if is_set_at(self.bound, i) {
+            Some(self.symbols[i as usize])
         } else {
             None
         }
@@ -50,7 +58,8 @@ impl Binding {
         ensures { result ≡ self.now }
     {
         Binding {
-            values: self.values,
+            symbols: self.symbols,
+            bound: self.bound,
             count: self.count,
         }
     }
@@ -60,6 +69,7 @@ impl Binding {
         requires { i < length self.old }
         ensures { self.new ≡ slice_set self.old i (Some symbol) }
     {
-        self.values[i as usize] = Some(symbol);
+        self.symbols[i as usize] = symbol;
+        self.bound |= 1 << i;
     }
 }

@@ -3,6 +3,7 @@
 
 mod allowing;
 mod binding;
+mod bits;
 mod chronicle;
 mod date_window;
 mod laws;
@@ -16,6 +17,7 @@ mod recognition;
 
 pub use allowing::allowed;
 pub use binding::Binding;
+pub use bits::is_set_at;
 pub use chronicle::{Anchor, Body, Chronicle, EventDef, VarSet, Window};
 pub use date_window::DateWindow;
 pub use laws::recognised_stays;

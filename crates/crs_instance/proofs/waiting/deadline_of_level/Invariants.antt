@@ -3,7 +3,7 @@ use Rattle.std.specs.Prelude.{◌==◌}
 use Rattle.crs_stn.specs.DateWindow.{least_of}
 use Rattle.crs_model.specs.Levels.{level_in}
 use Rattle.crs_model.specs.Seen.{event_of}
-use Rattle.crs_instance.specs.Bits.{is_set}
+use Rattle.crs_model.specs.Bits.{is_set}
 use Rattle.crs_instance.specs.Instances.{window_at}
 use Rattle.crs_instance.specs.Deadlines.{end_if}
 use Rattle.crs_instance.proofs.waiting.deadline_of_level.Given as goal

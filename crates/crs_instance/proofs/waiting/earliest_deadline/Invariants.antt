@@ -1,6 +1,6 @@
 use Rattle.std.proofs.Common.{◌≡◌, true}
 use Rattle.crs_stn.specs.DateWindow.{least_of}
-use Rattle.crs_instance.specs.Bits.{is_set}
+use Rattle.crs_model.specs.Bits.{is_set}
 use Rattle.crs_instance.specs.Instances.{window_at}
 use Rattle.crs_instance.specs.Deadlines.{end_if}
 use Rattle.crs_instance.proofs.waiting.earliest_deadline.Given as goal

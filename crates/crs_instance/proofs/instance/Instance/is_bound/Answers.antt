@@ -1,4 +1,4 @@
-use Rattle.std.proofs.Common.{◌≡◌, ◌<◌, ℕ, length, ap, ◌∙◌, arith}
+use Rattle.std.proofs.Common.{◌≡◌, length, ap, ◌∙◌, arith}
 use Rattle.crs_instance.specs.Instances.{InstanceState}
 use Rattle.crs_instance.specs.Links.{known_in}
 use Rattle.crs_instance.proofs.Kept.{kept_len, kept_bits}
