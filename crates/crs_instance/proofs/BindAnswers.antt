@@ -2,7 +2,7 @@
 use Rattle.std.proofs.Common.{◌≡◌, ◌≢◌, ℕ, zero, suc, ◌<◌, ◌+◌, List, [], ◌∷◌, length, map, refl, sym, ap, subst, ◌∙◌, arith}
 use Rattle.std.specs.Prelude.{ℤ, pos, Option, Some, None, option_map, IfSome, IsSomeAnd, slice_get, slice_index_or, Bool, true, false, IsTrue, ◌↔◌, replicate}
 use Rattle.std.specs.List.{AllByRecursion}
-use Rattle.std.proofs.lemmas.List.{get_or_default, length-replicate}
+use Rattle.std.proofs.lemmas.List.{length-replicate, length-map}
 use Rattle.crs_base.specs.declared.symbols.Sym.{Sym}
 use Rattle.crs_stn.specs.Table.{most_of}
 use Rattle.crs_stn.specs.DateWindow.{least_of, after, greatest_of, before, IsLatest, IsSoonest}
@@ -21,6 +21,9 @@ use Rattle.crs_model.specs.Seen.{event_of, pattern_of}
 use Rattle.crs_model.proofs.Options.{some_if, none_if}
 use Rattle.crs_base.proofs.Words.{each_from_in}
 use Rattle.crs_instance.specs.Instances.{InstanceState, IsOf, IsInside, CanBe, window_at, no_window, no_progress, IsBoundBy}
+use Rattle.crs_instance.specs.declared.span.Span.{Span}
+use Rattle.crs_instance.specs.Spans.{window_of, windows_of}
+use Rattle.crs_instance.proofs.SpanSays.{window_from}
 use Rattle.crs_instance.specs.Narrowed.{IsNarrowed}
 use Rattle.crs_instance.proofs.BindSteps.{bound_now, not_matched, not_inside, not_twice}
 
@@ -132,5 +135,5 @@ bound_as plan a new e x b ws ps qs s w h = (
   w,
 )
 
-pub inside_as : (ws : List DateWindow) (e : ℕ) (w : DateWindow) (d : ℤ) (b : Bool) → w ≡ slice_index_or ws e w → e < length ws → (IsTrue b ↔ IsInside w d) → IsTrue b ↔ IsInside (window_at ws e) d
-inside_as ws e w d b s l h = subst (λ (v : DateWindow). IsTrue b ↔ IsInside v d) (s ∙ get_or_default ws e w no_window l) h
+pub inside_as : (ss : List Span) (e : ℕ) (s : Span) (d : ℤ) (b : Bool) → s ≡ slice_index_or ss e s → e < length (windows_of ss) → (IsTrue b ↔ IsInside (window_of s) d) → IsTrue b ↔ IsInside (window_at (windows_of ss) e) d
+inside_as ss e s d b is l h = subst (λ (v : DateWindow). IsTrue b ↔ IsInside v d) (window_from ss e s is (let n = length-map ss window_of in omega arith)) h

@@ -21,6 +21,7 @@ use Rattle.crs_instance.specs.Stored.{IsStored, last_of}
 use Rattle.crs_instance.proofs.Masks.{IsSet, set_more, all_set, bits_unbound}
 use Rattle.crs_instance.proofs.Linked.{linked_len}
 use Rattle.crs_instance.proofs.BindAnswers.{get-replicate, least_none}
+use Rattle.crs_instance.specs.Spans.{windows_of}
 
 module _ (a : Partial Sym) (count bound : ℕ) (links : Links) (ws : List DateWindow) (last : Option ℤ) (kept : IsStored count bound links ws last) (same : partial_of count links ≡ a) where
   pub kept_len : length a ≡ count
@@ -52,9 +53,9 @@ module _ (a : Partial Sym) (count bound : ℕ) (links : Links) (ws : List DateWi
     kept_room = let b = below in let m = pow_mono kept.few in omega arith
 
     -- what is kept where the event is bound too
-    pub kept_more : (new : Links) (entry : CodeEntry) (known : Known) (b : ℕ) (vs : List DateWindow) (l : Option ℤ) → IsLink count links e entry known new → x ≡ entry_of entry → entry.date < 2 ^ 40 → b ≡ bound + 2 ^ e → vs ≡ known.windows.items → count ≤ length vs → l ≡ last_of b count vs → IsStored count b new (known_in new).windows.items l
+    pub kept_more : (new : Links) (entry : CodeEntry) (known : Known) (b : ℕ) (vs : List DateWindow) (l : Option ℤ) → IsLink count links e entry known new → x ≡ entry_of entry → entry.date < 2 ^ 40 → b ≡ bound + 2 ^ e → vs ≡ (windows_of known.spans.items) → count ≤ length vs → l ≡ last_of b count vs → IsStored count b new (windows_of (known_in new).spans.items) l
     kept_more new entry known b vs l link q early is told wide deadline =
-        let s : vs ≡ (known_in new).windows.items = told ∙ sym (ap (λ (k : Known). k.windows.items) link.knows) in record {
+        let s : vs ≡ (windows_of (known_in new).spans.items) = told ∙ sym (ap (λ (k : Known). (windows_of k.spans.items)) link.knows) in record {
           few = kept.few;
           windowed = subst (λ (us : List DateWindow). count ≤ length us) s wide;
           linked = link.linked inside unbound kept.linked;

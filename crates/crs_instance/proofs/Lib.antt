@@ -1,6 +1,7 @@
 pub mod Masks
 pub mod Linked
 pub mod Windows
+pub mod SpanSays
 pub mod Narrow
 pub mod BindSteps
 pub mod BindAnswers

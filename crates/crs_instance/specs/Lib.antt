@@ -1,5 +1,6 @@
 pub mod Instances
 pub mod Links
+pub mod Spans
 pub mod Stored
 pub mod Deadlines
 pub mod Narrowed

@@ -11,7 +11,8 @@ ghost use Rattle.crs_model.specs.Steps.{flat};
 ghost use Rattle.crs_model.specs.Levels.{level_in};
 ghost use Rattle.crs_model.specs.declared.plan.Plan.{Plan};
 ghost use Rattle.crs_instance.specs.Followed.{IsStretchAt};
-ghost use Rattle.crs_instance.specs.Instances.{no_window, no_progress as none_yet, progress_at, seen_entry, IsBoundBy, IsOf, IsInside, IsAnswered, IsForked, IsDeadline, AreAllEntries, window_at};
+ghost use Rattle.crs_instance.specs.Instances.{no_progress as none_yet, progress_at, seen_entry, IsBoundBy, IsOf, IsInside, IsAnswered, IsForked, IsDeadline, AreAllEntries, window_at};
+ghost use Rattle.crs_instance.specs.Spans.{no_span, windows_of};
 ghost use Rattle.crs_instance.specs.Waits.{OthersCanCome, AnotherIsLate};
 
 use crate::bits::{are_all_set, with_bit};
@@ -19,6 +20,7 @@ use crate::bound::body_is_bound;
 use crate::fit::Fit;
 use crate::links::{Known, Links, date_of, entry_at, gives, known_of, linked, listed};
 use crate::narrowing::{is_inside, is_not_before, narrowed};
+use crate::span::{NO_LEAST, NO_MOST, Span, most_at};
 use crate::waiting::{deadline_of_level, earliest_deadline, others_can_be_from};
 use crs_base::{Entry, List, Steps};
 use crs_model::{
@@ -33,41 +35,42 @@ use std::sync::ledger::Ledger;
 /// A partial instance of a chronicle: some of its events bound to entries, with the symbols that
 /// this gives to variables, and the dates that it leaves to each point. What one instance has of
 /// this is shared with those that are made from it. Bit e of `bound` is set where event e is bound,
-/// and `last` is the last date at which each unbound event can still come, where there is one.
+/// and `last` is the last date at which each unbound event can still come, or `NO_MOST`.
 #[derive(Drop)]
 pub struct Instance {
     links: Rc<Links>,
     progress: Vec<Progress>,
     bound: u16,
     count: u8,
-    last: Option<i64>,
+    last: i64,
     alloc: Global,
 }
 
 impl Model for Instance {
     ghost use Rattle.crs_instance.specs.Instances.{InstanceState};
     ghost use Rattle.crs_instance.specs.Links.{partial_of, known_in};
+    ghost use Rattle.crs_instance.specs.Spans.{windows_of, end_of};
     ghost use Rattle.crs_instance.specs.Stored.{IsStored};
 
     ghost Value = { InstanceState };
 
-    ghost view = { λ i. record { partial = partial_of i.count i.links.value; binding = (known_in i.links.value).binding; windows = (known_in i.links.value).windows.items; progress = i.progress.items } };
+    ghost view = { λ i. record { partial = partial_of i.count i.links.value; binding = (known_in i.links.value).binding; windows = windows_of (known_in i.links.value).spans.items; progress = i.progress.items } };
 
-    ghost invariant = { λ i. IsStored i.count i.bound i.links.value (known_in i.links.value).windows.items i.last };
+    ghost invariant = { λ i. IsStored i.count i.bound i.links.value (windows_of (known_in i.links.value).spans.items) (end_of i.last) };
 }
 
-/// As many windows without ends.
-fn no_windows(alloc: Global, count: usize) -> Result<Vec<DateWindow>, AllocError>
-    ensures { IfOk result (λ v. v.items ≡ replicate count no_window) }
+/// As many spans without ends.
+fn no_spans(alloc: Global, count: usize) -> Result<Vec<Span>, AllocError>
+    ensures { IfOk result (λ v. v.items ≡ replicate count no_span) }
 {
-    let mut windows = Vec::new(alloc);
+    let mut spans = Vec::new(alloc);
     for _i in 0..count {
-        windows.push(DateWindow {
-            least: None,
-            most: None,
+        spans.push(Span {
+            least: NO_LEAST,
+            most: NO_MOST,
         })?;
     }
-    Ok(windows)
+    Ok(spans)
 }
 
 /// As many times the progress of a window that hasn't begun.
@@ -118,8 +121,8 @@ impl Instance {
     {
         let events = plan.chronicle.events.len();
         let binding = Binding::new(plan.chronicle.variables.len() as u8);
-        let windows = no_windows(alloc, events + plan.chronicle.free.len())?;
-        let known = Known { binding, windows };
+        let spans = no_spans(alloc, events + plan.chronicle.free.len())?;
+        let known = Known { binding, spans };
         let links = Rc::new(alloc, Links::End { known })?;
         let progress = no_progress(alloc, plan.chronicle.windows.len())?;
         Ok(Instance {
@@ -127,7 +130,7 @@ impl Instance {
             progress,
             bound: 0,
             count: events as u8,
-            last: None,
+            last: NO_MOST,
             alloc,
         })
     }
@@ -135,7 +138,7 @@ impl Instance {
     /// What the bound events' entries tell.
     fn known(&self) -> &Known
         ensures binding { result.now.binding ≡ self.now.binding }
-        ensures windows { result.now.windows.items ≡ self.now.windows }
+        ensures windows { windows_of result.now.spans.items ≡ self.now.windows }
     {
         known_of(&self.links)
     }
@@ -157,7 +160,7 @@ impl Instance {
         ensures step { steps.new ≡ steps.old + 1 }
     {
         let known = self.known();
-        if !is_inside(known.windows[event as usize], entry.date) {
+        if !is_inside(known.spans[event as usize], entry.date) {
             steps.tick();
             return Ok(None);
         }
@@ -169,14 +172,14 @@ impl Instance {
         let Some(binding) = matched(&plan.chronicle, pattern, &known.binding, entry, steps) else {
             return Ok(None);
         };
-        let windows = narrowed(
+        let spans = narrowed(
             self.alloc,
-            known.windows.as_slice(),
+            known.spans.as_slice(),
             &plan.network,
             event,
             entry.date,
         )?;
-        Ok(Some(Known { binding, windows }))
+        Ok(Some(Known { binding, spans }))
     }
 
     /// Binds the event to the entry, where the bound events can still be part of an assignment that
@@ -201,7 +204,7 @@ impl Instance {
             None => Ok(Fit::No),
             Some(known) => {
                 let bound = with_bit(self.bound, event);
-                let last = earliest_deadline(bound, self.count, known.windows.as_slice());
+                let last = earliest_deadline(bound, self.count, known.spans.as_slice());
                 self.links = linked(self.alloc, &self.links, event, entry, known)?;
                 self.bound = bound;
                 self.last = last;
@@ -232,7 +235,7 @@ impl Instance {
             return Ok(None);
         };
         let bound = with_bit(self.bound, event);
-        let last = earliest_deadline(bound, self.count, known.windows.as_slice());
+        let last = earliest_deadline(bound, self.count, known.spans.as_slice());
         let links = linked(self.alloc, &self.links, event, entry.clone()?, known)?;
         let progress = Vec::from_slice(self.alloc, self.progress.as_slice())?;
         Ok(Some(Instance {
@@ -251,7 +254,7 @@ impl Instance {
         requires date { date < 2 ^ 40 }
         ensures { IsTrue result ↔ IsInside (window_at self.now.windows event) (pos date) }
     {
-        is_inside(self.known().windows[event as usize], date)
+        is_inside(self.known().spans[event as usize], date)
     }
 
     /// Whether the other unbound events of the event's level can still come at `h` or after, where
@@ -269,7 +272,7 @@ impl Instance {
         others_can_be_from(
             self.bound,
             self.count,
-            self.known().windows.as_slice(),
+            self.known().spans.as_slice(),
             plan,
             event,
             date,
@@ -284,7 +287,7 @@ impl Instance {
         requires { p < length self.now.windows }
         ensures { result ≡ window_at self.now.windows p }
     {
-        self.known().windows[p as usize]
+        self.known().spans[p as usize].window()
     }
 
     /// The last date at which each unbound event of the level can still come, in ticks, where there
@@ -294,16 +297,16 @@ impl Instance {
         ensures { IsDeadline (level_in (chronicle plan.now).events focus) level self.now result }
     {
         if !focus {
-            return if level == 0 { self.last } else { None };
+            return if level == 0 { most_at(self.last) } else { None };
         }
         let events = plan.chronicle.events.as_slice();
-        deadline_of_level(
+        most_at(deadline_of_level(
             self.bound,
             self.count,
-            self.known().windows.as_slice(),
+            self.known().spans.as_slice(),
             events,
             level,
-        )
+        ))
     }
 
     /// Whether dates that meet the bounds exist with each unbound event at or after the date `h`.

@@ -7,6 +7,7 @@ mod fit;
 mod instance;
 mod links;
 mod narrowing;
+mod span;
 mod waiting;
 
 pub use fit::Fit;

@@ -4,8 +4,9 @@ ghost use Rattle.crs_model.specs.Partial.{at};
 ghost use Rattle.crs_instance.specs.Instances.{seen_entry};
 ghost use Rattle.crs_instance.specs.Links.{partial_of, AreLinked, AreEarly, AreListed, IsLink, seen_entries, known_in};
 
+use crate::span::Span;
 use crs_base::{Entry, List};
-use crs_model::{Anchor, Binding, DateWindow};
+use crs_model::{Anchor, Binding};
 use std::alloc::{AllocError, Global};
 use std::rc::Rc;
 
@@ -14,7 +15,7 @@ use std::rc::Rc;
 #[derive(Drop)]
 pub(crate) struct Known {
     pub(crate) binding: Binding,
-    pub(crate) windows: Vec<DateWindow>,
+    pub(crate) spans: Vec<Span>,
 }
 
 /// The bound events with their entries, the last bound one first, each with what they tell up to it.

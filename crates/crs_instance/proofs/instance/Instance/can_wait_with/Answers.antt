@@ -5,24 +5,25 @@ use Rattle.crs_instance.specs.Instances.{InstanceState}
 use Rattle.crs_instance.specs.Links.{known_in}
 use Rattle.crs_instance.proofs.Kept.{kept_len, kept_bits}
 use Rattle.crs_instance.proofs.Waits.{wait_yes, wait_no}
+use Rattle.crs_instance.specs.Spans.{end_of, windows_of}
 use Rattle.crs_instance.proofs.instance.Instance.can_wait_with.Goals as goal
 
 pub others_can_be_from-requires-clause-events : goal.others_can_be_from-requires-clause-events
 others_can_be_from-requires-clause-events c =
-    sym (kept_len c.args.self.now.partial c.self.inside.count c.self.inside.bound c.self.inside.links.value (known_in c.self.inside.links.value).windows.items c.self.inside.last c.self.invariant (ap (λ (s : InstanceState). s.partial) c.self.view_is)) ∙ c.requires.of.len
+    sym (kept_len c.args.self.now.partial c.self.inside.count c.self.inside.bound c.self.inside.links.value (windows_of (known_in c.self.inside.links.value).spans.items) (end_of c.self.inside.last) c.self.invariant (ap (λ (s : InstanceState). s.partial) c.self.view_is)) ∙ c.requires.of.len
 
 pub returns-clause-yes : goal.returns-clause-yes
 returns-clause-yes c t =
     wait_yes c.args.plan.now c.requires.proper c.args.self.now c.requires.of (level_in (chronicle c.args.plan.now).events c.args.focus) c.args.event c.args.date c.args.h c.requires.event c.requires.unbound c.self.inside.bound c.self.inside.count
-    (kept_bits c.args.self.now.partial c.self.inside.count c.self.inside.bound c.self.inside.links.value (known_in c.self.inside.links.value).windows.items c.self.inside.last c.self.invariant (ap (λ (s : InstanceState). s.partial) c.self.view_is))
-    (kept_len c.args.self.now.partial c.self.inside.count c.self.inside.bound c.self.inside.links.value (known_in c.self.inside.links.value).windows.items c.self.inside.last c.self.invariant (ap (λ (s : InstanceState). s.partial) c.self.view_is))
-    c.as_slice.result.now (c.as_slice.ensures.value ∙ c.known.ensures.windows)
+    (kept_bits c.args.self.now.partial c.self.inside.count c.self.inside.bound c.self.inside.links.value (windows_of (known_in c.self.inside.links.value).spans.items) (end_of c.self.inside.last) c.self.invariant (ap (λ (s : InstanceState). s.partial) c.self.view_is))
+    (kept_len c.args.self.now.partial c.self.inside.count c.self.inside.bound c.self.inside.links.value (windows_of (known_in c.self.inside.links.value).spans.items) (end_of c.self.inside.last) c.self.invariant (ap (λ (s : InstanceState). s.partial) c.self.view_is))
+    (windows_of c.as_slice.result.now) (ap windows_of c.as_slice.ensures.value ∙ c.known.ensures.windows)
     (c.others_can_be_from.ensures.yes t)
 
 pub returns-clause-no : goal.returns-clause-no
 returns-clause-no c f =
     wait_no c.args.plan.now c.requires.proper c.args.self.now c.requires.of (level_in (chronicle c.args.plan.now).events c.args.focus) c.args.event c.args.date c.args.h c.requires.event c.requires.unbound c.self.inside.bound c.self.inside.count
-    (kept_bits c.args.self.now.partial c.self.inside.count c.self.inside.bound c.self.inside.links.value (known_in c.self.inside.links.value).windows.items c.self.inside.last c.self.invariant (ap (λ (s : InstanceState). s.partial) c.self.view_is))
-    (kept_len c.args.self.now.partial c.self.inside.count c.self.inside.bound c.self.inside.links.value (known_in c.self.inside.links.value).windows.items c.self.inside.last c.self.invariant (ap (λ (s : InstanceState). s.partial) c.self.view_is))
-    c.as_slice.result.now (c.as_slice.ensures.value ∙ c.known.ensures.windows)
+    (kept_bits c.args.self.now.partial c.self.inside.count c.self.inside.bound c.self.inside.links.value (windows_of (known_in c.self.inside.links.value).spans.items) (end_of c.self.inside.last) c.self.invariant (ap (λ (s : InstanceState). s.partial) c.self.view_is))
+    (kept_len c.args.self.now.partial c.self.inside.count c.self.inside.bound c.self.inside.links.value (windows_of (known_in c.self.inside.links.value).spans.items) (end_of c.self.inside.last) c.self.invariant (ap (λ (s : InstanceState). s.partial) c.self.view_is))
+    (windows_of c.as_slice.result.now) (ap windows_of c.as_slice.ensures.value ∙ c.known.ensures.windows)
     (c.others_can_be_from.ensures.no f)
