@@ -75,6 +75,13 @@ module _ (plan : Plan) (focus : Bool) (proper : IsProper plan) (hooks : Hooks) (
           undue_able plan focus i d h (apart_undue plan focus proper hooks.events.items hooks.windows.items d h later small old.slots slots len old.waiting between new.waiting keeps settles.grown old.dues dues places collected_all all old.ripe.items new.ripe.items settles.kept tidy p i is apart) later proper (tidy.known p i is).of (tidy.known p i is).able,
         )))
 
+-- where there is no place to walk
+pub settles_none : (plan : Plan) (focus : Bool) (hooks : Hooks) (d h : ℕ) (held : Holding) → SettlesPlaces plan focus hooks [] d h held held
+settles_none plan focus hooks d h held = record { slots = refl; dues = refl; grown = λ k g w. w; kept = λ p i. i; linked = λ p there. absurd there; named = λ p there. absurd there }
+
+pub walks_none : (R : InstanceState → InstanceState → Type 0) (Able : InstanceState → Type 0) (slots : SlotsState) → Walks R Able [] slots slots
+walks_none R Able slots = record { at = λ p there. absurd there; others = λ p apart. refl; handles = λ p j is. refl; places = refl }
+
 -- what is stale was dropped
 pub swept_tidy : (plan : Plan) (focus : Bool) (hooks : Hooks) (d : ℕ) (old new : Holding) → new.slots ≡ old.slots → new.ripe ≡ old.ripe → length old.slots.serials ≡ length old.slots.slots → KeepsFresh old.slots.serials old.waiting new.waiting → KeepsFreshPairs old.slots.serials old.dues.pairs new.dues.pairs → new.dues.date ≡ old.dues.date → IsTidyHolding plan focus hooks old d → IsTidyHolding plan focus hooks new d
 swept_tidy plan focus hooks d old new slots ripe len keeps pairs stood tidy =

@@ -234,6 +234,9 @@ pub(crate) fn follow(
     collect_due(&mut holding.dues, entry.date, places)?;
     let windows = hooks.windows.as_slice();
     note_touched(&mut holding.waiting, &holding.slots, windows, entry, places)?;
+    if places.is_empty() {
+        return Ok(());
+    }
     sort_places(places);
     let places = places.as_slice();
     follow_places(
@@ -272,6 +275,9 @@ pub(crate) fn pass(
     sweep(holding);
     places.clear();
     collect_due(&mut holding.dues, h, places)?;
+    if places.is_empty() {
+        return Ok(());
+    }
     sort_places(places);
     let places = places.as_slice();
     pass_places(plan, focus, &mut holding.slots, places, history, since, h);

@@ -1,14 +1,17 @@
-use Rattle.std.proofs.Common.{arith, List, ℕ, length, sym, subst}
+use Rattle.std.proofs.Common.{rules, vec_len, ◌∙◌, arith, ◌≡◌, List, [], ℕ, length, sym, subst}
+use Rattle.std.proofs.lemmas.Bool.{eqb-true}
+use Rattle.std.proofs.lemmas.List.{nil_from_length}
 use Rattle.crs_base.specs.Seen.{entry_of}
 use Rattle.crs_base.specs.Words.{IsIn}
 use Rattle.crs_store.specs.Links.{HasTouched}
 use Rattle.crs_store.proofs.Renewing.{fresh_place}
 use Rattle.crs_store.proofs.Touching.{untouched}
+use Rattle.crs_store.specs.declared.holding.Holding.{Holding}
 use Rattle.crs_store.specs.declared.hooks.Hook.{Hook}
 use Rattle.crs_store.specs.Joins.{Renews}
 use Rattle.crs_store.specs.Slots.{SlotsState, members}
 use Rattle.crs_store.specs.Windows.{IsFollowed, IsAble}
-use Rattle.crs_store.proofs.Held.{few_windows, walked_of, all_tidy, all_renew, undue_there, stays_followed}
+use Rattle.crs_store.proofs.Held.{settles_none, walks_none, few_windows, walked_of, all_tidy, all_renew, undue_there, stays_followed}
 use Rattle.crs_store.proofs.holding.follow.Goals as goal
 
 pub collect_due-requires : goal.collect_due-requires
@@ -40,3 +43,26 @@ returns-clause-renews c =
     (λ p i apart is. stays_followed c.args.plan.now c.args.focus c.args.history.now (entry_of c.args.entry.now) c.args.since c.requires.later i (undue_there c.args.plan.now c.args.focus c.requires.proper c.args.hooks.now c.args.since c.args.entry.now.date c.requires.later (let l = c.requires.date in omega arith) c.sweep.new.holding c.sweep.ensures.len tidy c.collect_due.new.calendar c.note_touched.new.waiting c.note_touched.ensures.fresh c.collect_due.new.places.items c.as_slice-places.result.now ((c.in_ok-collect_due.ensures {u = tt}).collected) (λ p i. subst (λ (ps : List ℕ). IsIn p ps) (sym c.as_slice-places.ensures.value) (c.sort_places.ensures.kept p (c.note_touched.ensures.kept p i))) ((c.in_ok-collect_due.ensures {u = tt}).later) c.collect_due.ensures.within c.follow_places.new.slots c.settle_places.new.holding (c.in_ok-settle_places.ensures {u = tt}) p i apart is)
     (untouched c.args.plan.now c.args.hooks.now.windows.items c.requires.hooks.of_windows c.sweep.new.holding.slots c.sweep.new.holding.waiting (entry_of c.args.entry.now) c.args.since c.requires.later c.as_slice-places.result.now
     (subst (λ (hs : List Hook). HasTouched hs c.sweep.new.holding.slots c.sweep.new.holding.waiting (entry_of c.args.entry.now) (length hs) c.as_slice-places.result.now) c.as_slice-windows.ensures.value (λ k l p fresh named w. subst (λ (ps : List ℕ). IsIn p ps) (sym c.as_slice-places.ensures.value) (c.sort_places.ensures.kept p ((c.in_ok-note_touched.ensures {u = tt}).noted k l p fresh named w)))) p (fresh_place c.sweep.new.holding.slots p i c.sweep.ensures.len is) i (tidy.known p i is).armed apart)))
+
+pub returns-then-is_empty-clause-tidy : goal.returns-then-is_empty-clause-tidy
+returns-then-is_empty-clause-tidy c =
+    let tidy = c.sweep.ensures.tidy c.args.plan.now c.args.focus c.args.hooks.now c.args.since c.requires.tidy in
+    let long : length c.note_touched.new.places.items ≡ vec_len c.note_touched.new.places = search rules in
+    let none : c.note_touched.new.places.items ≡ [] = nil_from_length c.note_touched.new.places.items (long ∙ eqb-true (vec_len c.note_touched.new.places) 0 (sym c.is_empty.ensures ∙ c.if-is_empty.true)) in
+    let held : Holding = record { slots = c.sweep.new.holding.slots; waiting = c.note_touched.new.waiting; dues = c.collect_due.new.calendar; ripe = c.sweep.new.holding.ripe; room = c.sweep.new.holding.room } in
+    all_tidy c.args.plan.now c.args.focus c.requires.proper c.args.hooks.now c.args.since c.args.entry.now.date c.requires.later (let l = c.requires.date in omega arith) c.sweep.new.holding c.sweep.ensures.len tidy c.collect_due.new.calendar c.note_touched.new.waiting c.note_touched.ensures.fresh c.collect_due.new.places.items []
+    ((c.in_ok-collect_due.ensures {u = tt}).collected) (λ p i. subst (λ (ps : List ℕ). IsIn p ps) none (c.note_touched.ensures.kept p i)) ((c.in_ok-collect_due.ensures {u = tt}).later) c.collect_due.ensures.within c.sweep.new.holding.slots held (settles_none c.args.plan.now c.args.focus c.args.hooks.now c.args.since c.args.entry.now.date held) (IsFollowed c.args.plan.now c.args.history.now (entry_of c.args.entry.now) c.args.since) (λ i j r. r.same) (walks_none (IsFollowed c.args.plan.now c.args.history.now (entry_of c.args.entry.now) c.args.since) (IsAble c.args.plan.now c.args.focus c.args.entry.now.date) c.sweep.new.holding.slots)
+
+pub returns-then-is_empty-clause-renews : goal.returns-then-is_empty-clause-renews
+returns-then-is_empty-clause-renews c =
+    let tidy = c.sweep.ensures.tidy c.args.plan.now c.args.focus c.args.hooks.now c.args.since c.requires.tidy in
+    let long : length c.note_touched.new.places.items ≡ vec_len c.note_touched.new.places = search rules in
+    let none : c.note_touched.new.places.items ≡ [] = nil_from_length c.note_touched.new.places.items (long ∙ eqb-true (vec_len c.note_touched.new.places) 0 (sym c.is_empty.ensures ∙ c.if-is_empty.true)) in
+    let held : Holding = record { slots = c.sweep.new.holding.slots; waiting = c.note_touched.new.waiting; dues = c.collect_due.new.calendar; ripe = c.sweep.new.holding.ripe; room = c.sweep.new.holding.room } in
+    subst (λ (s : SlotsState). Renews (IsFollowed c.args.plan.now c.args.history.now (entry_of c.args.entry.now) c.args.since) (IsAble c.args.plan.now c.args.focus c.args.entry.now.date) (members s.slots) (members c.sweep.new.holding.slots.slots)) c.sweep.ensures.slots
+    (all_renew c.args.plan.now c.args.focus c.requires.proper c.args.hooks.now c.args.since c.args.entry.now.date c.requires.later (let l = c.requires.date in omega arith) c.sweep.new.holding c.sweep.ensures.len tidy c.collect_due.new.calendar c.note_touched.new.waiting c.note_touched.ensures.fresh c.collect_due.new.places.items []
+    ((c.in_ok-collect_due.ensures {u = tt}).collected) (λ p i. subst (λ (ps : List ℕ). IsIn p ps) none (c.note_touched.ensures.kept p i)) ((c.in_ok-collect_due.ensures {u = tt}).later) c.collect_due.ensures.within c.sweep.new.holding.slots held (settles_none c.args.plan.now c.args.focus c.args.hooks.now c.args.since c.args.entry.now.date held) (IsFollowed c.args.plan.now c.args.history.now (entry_of c.args.entry.now) c.args.since) (λ i j r. r.same) (walks_none (IsFollowed c.args.plan.now c.args.history.now (entry_of c.args.entry.now) c.args.since) (IsAble c.args.plan.now c.args.focus c.args.entry.now.date) c.sweep.new.holding.slots)
+    (λ p i apart is. stays_followed c.args.plan.now c.args.focus c.args.history.now (entry_of c.args.entry.now) c.args.since c.requires.later i (undue_there c.args.plan.now c.args.focus c.requires.proper c.args.hooks.now c.args.since c.args.entry.now.date c.requires.later (let l = c.requires.date in omega arith) c.sweep.new.holding c.sweep.ensures.len tidy c.collect_due.new.calendar c.note_touched.new.waiting c.note_touched.ensures.fresh c.collect_due.new.places.items []
+    ((c.in_ok-collect_due.ensures {u = tt}).collected) (λ p i. subst (λ (ps : List ℕ). IsIn p ps) none (c.note_touched.ensures.kept p i)) ((c.in_ok-collect_due.ensures {u = tt}).later) c.collect_due.ensures.within c.sweep.new.holding.slots held (settles_none c.args.plan.now c.args.focus c.args.hooks.now c.args.since c.args.entry.now.date held) p i apart is)
+    (untouched c.args.plan.now c.args.hooks.now.windows.items c.requires.hooks.of_windows c.sweep.new.holding.slots c.sweep.new.holding.waiting (entry_of c.args.entry.now) c.args.since c.requires.later []
+    (subst (λ (hs : List Hook). HasTouched hs c.sweep.new.holding.slots c.sweep.new.holding.waiting (entry_of c.args.entry.now) (length hs) []) c.as_slice-windows.ensures.value (λ k l p fresh named w. subst (λ (ps : List ℕ). IsIn p ps) none ((c.in_ok-note_touched.ensures {u = tt}).noted k l p fresh named w))) p (fresh_place c.sweep.new.holding.slots p i c.sweep.ensures.len is) i (tidy.known p i is).armed apart)))

@@ -1,9 +1,12 @@
-use Rattle.std.proofs.Common.{arith, List, ℕ, sym, subst}
+use Rattle.std.proofs.Common.{rules, vec_len, ◌∙◌, arith, ◌≡◌, List, [], ℕ, length, sym, subst}
+use Rattle.std.proofs.lemmas.Bool.{eqb-true}
+use Rattle.std.proofs.lemmas.List.{nil_from_length}
 use Rattle.crs_base.specs.Words.{IsIn}
 use Rattle.crs_store.specs.Joins.{Renews}
 use Rattle.crs_store.specs.Slots.{SlotsState, members}
 use Rattle.crs_store.specs.Windows.{IsPassed, IsAble}
-use Rattle.crs_store.proofs.Held.{walked_of, all_tidy, all_renew, undue_there, stays_passed}
+use Rattle.crs_store.specs.declared.holding.Holding.{Holding}
+use Rattle.crs_store.proofs.Held.{settles_none, walks_none, walked_of, all_tidy, all_renew, undue_there, stays_passed}
 use Rattle.crs_store.proofs.holding.pass.Goals as goal
 
 pub collect_due-requires : goal.collect_due-requires
@@ -30,3 +33,24 @@ returns-clause-renews c =
     (all_renew c.args.plan.now c.args.focus c.requires.proper c.args.hooks.now c.args.since c.args.h c.requires.later c.requires.small c.sweep.new.holding c.sweep.ensures.len tidy c.collect_due.new.calendar c.sweep.new.holding.waiting (λ k g f w. w) c.collect_due.new.places.items c.as_slice-places.result.now
     ((c.in_ok-collect_due.ensures {u = tt}).collected) (λ p i. subst (λ (ps : List ℕ). IsIn p ps) (sym c.as_slice-places.ensures.value) (c.sort_places.ensures.kept p i)) ((c.in_ok-collect_due.ensures {u = tt}).later) c.collect_due.ensures.within c.pass_places.new.slots c.settle_places.new.holding (c.in_ok-settle_places.ensures {u = tt}) (IsPassed c.args.plan.now c.args.history.now c.args.since c.args.h) (λ i j r. r.same) c.pass_places.ensures
     (λ p i apart is. stays_passed c.args.plan.now c.args.focus c.args.history.now c.args.since c.args.h c.requires.later i (undue_there c.args.plan.now c.args.focus c.requires.proper c.args.hooks.now c.args.since c.args.h c.requires.later c.requires.small c.sweep.new.holding c.sweep.ensures.len tidy c.collect_due.new.calendar c.sweep.new.holding.waiting (λ k g f w. w) c.collect_due.new.places.items c.as_slice-places.result.now ((c.in_ok-collect_due.ensures {u = tt}).collected) (λ p i. subst (λ (ps : List ℕ). IsIn p ps) (sym c.as_slice-places.ensures.value) (c.sort_places.ensures.kept p i)) ((c.in_ok-collect_due.ensures {u = tt}).later) c.collect_due.ensures.within c.pass_places.new.slots c.settle_places.new.holding (c.in_ok-settle_places.ensures {u = tt}) p i apart is)))
+
+pub returns-then-is_empty-clause-tidy : goal.returns-then-is_empty-clause-tidy
+returns-then-is_empty-clause-tidy c =
+    let tidy = c.sweep.ensures.tidy c.args.plan.now c.args.focus c.args.hooks.now c.args.since c.requires.tidy in
+    let long : length c.collect_due.new.places.items ≡ vec_len c.collect_due.new.places = search rules in
+    let none : c.collect_due.new.places.items ≡ [] = nil_from_length c.collect_due.new.places.items (long ∙ eqb-true (vec_len c.collect_due.new.places) 0 (sym c.is_empty.ensures ∙ c.if-is_empty.true)) in
+    let held : Holding = record { slots = c.sweep.new.holding.slots; waiting = c.sweep.new.holding.waiting; dues = c.collect_due.new.calendar; ripe = c.sweep.new.holding.ripe; room = c.sweep.new.holding.room } in
+    all_tidy c.args.plan.now c.args.focus c.requires.proper c.args.hooks.now c.args.since c.args.h c.requires.later c.requires.small c.sweep.new.holding c.sweep.ensures.len tidy c.collect_due.new.calendar c.sweep.new.holding.waiting (λ k g f w. w) c.collect_due.new.places.items []
+    ((c.in_ok-collect_due.ensures {u = tt}).collected) (λ p i. subst (λ (ps : List ℕ). IsIn p ps) none i) ((c.in_ok-collect_due.ensures {u = tt}).later) c.collect_due.ensures.within c.sweep.new.holding.slots held (settles_none c.args.plan.now c.args.focus c.args.hooks.now c.args.since c.args.h held) (IsPassed c.args.plan.now c.args.history.now c.args.since c.args.h) (λ i j r. r.same) (walks_none (IsPassed c.args.plan.now c.args.history.now c.args.since c.args.h) (IsAble c.args.plan.now c.args.focus c.args.h) c.sweep.new.holding.slots)
+
+pub returns-then-is_empty-clause-renews : goal.returns-then-is_empty-clause-renews
+returns-then-is_empty-clause-renews c =
+    let tidy = c.sweep.ensures.tidy c.args.plan.now c.args.focus c.args.hooks.now c.args.since c.requires.tidy in
+    let long : length c.collect_due.new.places.items ≡ vec_len c.collect_due.new.places = search rules in
+    let none : c.collect_due.new.places.items ≡ [] = nil_from_length c.collect_due.new.places.items (long ∙ eqb-true (vec_len c.collect_due.new.places) 0 (sym c.is_empty.ensures ∙ c.if-is_empty.true)) in
+    let held : Holding = record { slots = c.sweep.new.holding.slots; waiting = c.sweep.new.holding.waiting; dues = c.collect_due.new.calendar; ripe = c.sweep.new.holding.ripe; room = c.sweep.new.holding.room } in
+    subst (λ (s : SlotsState). Renews (IsPassed c.args.plan.now c.args.history.now c.args.since c.args.h) (IsAble c.args.plan.now c.args.focus c.args.h) (members s.slots) (members c.sweep.new.holding.slots.slots)) c.sweep.ensures.slots
+    (all_renew c.args.plan.now c.args.focus c.requires.proper c.args.hooks.now c.args.since c.args.h c.requires.later c.requires.small c.sweep.new.holding c.sweep.ensures.len tidy c.collect_due.new.calendar c.sweep.new.holding.waiting (λ k g f w. w) c.collect_due.new.places.items []
+    ((c.in_ok-collect_due.ensures {u = tt}).collected) (λ p i. subst (λ (ps : List ℕ). IsIn p ps) none i) ((c.in_ok-collect_due.ensures {u = tt}).later) c.collect_due.ensures.within c.sweep.new.holding.slots held (settles_none c.args.plan.now c.args.focus c.args.hooks.now c.args.since c.args.h held) (IsPassed c.args.plan.now c.args.history.now c.args.since c.args.h) (λ i j r. r.same) (walks_none (IsPassed c.args.plan.now c.args.history.now c.args.since c.args.h) (IsAble c.args.plan.now c.args.focus c.args.h) c.sweep.new.holding.slots)
+    (λ p i apart is. stays_passed c.args.plan.now c.args.focus c.args.history.now c.args.since c.args.h c.requires.later i (undue_there c.args.plan.now c.args.focus c.requires.proper c.args.hooks.now c.args.since c.args.h c.requires.later c.requires.small c.sweep.new.holding c.sweep.ensures.len tidy c.collect_due.new.calendar c.sweep.new.holding.waiting (λ k g f w. w) c.collect_due.new.places.items []
+    ((c.in_ok-collect_due.ensures {u = tt}).collected) (λ p i. subst (λ (ps : List ℕ). IsIn p ps) none i) ((c.in_ok-collect_due.ensures {u = tt}).later) c.collect_due.ensures.within c.sweep.new.holding.slots held (settles_none c.args.plan.now c.args.focus c.args.hooks.now c.args.since c.args.h held) p i apart is)))
