@@ -39,7 +39,7 @@ put_first k (y ∷ ys) a = rw a.0 refl
 
 by_order : (k x : Held) (xs ys : List Held) (o : Ordering) → insert_key held_cmp xs k ++ ys ≡ insert_key held_cmp (xs ++ ys) k
     → match_ordering o (k ∷ x ∷ xs) (x ∷ xs) (x ∷ insert_key held_cmp xs k) ++ ys
-        ≡ match_ordering o (k ∷ x ∷ xs ++ ys) (x ∷ xs ++ ys) (x ∷ insert_key held_cmp (xs ++ ys) k)
+    ≡ match_ordering o (k ∷ x ∷ xs ++ ys) (x ∷ xs ++ ys) (x ∷ insert_key held_cmp (xs ++ ys) k)
 by_order k x xs ys Less h = refl
 by_order k x xs ys Equal h = refl
 by_order k x xs ys Greater h = ap (λ zs. x ∷ zs) h
@@ -64,7 +64,7 @@ pub insert_between : (k : Held) (ks qs : List Held) (n : ℕ) → ComesAfter k (
     → ks ++ (take n qs ++ k ∷ drop n qs) ≡ insert_key held_cmp (ks ++ qs) k
 insert_between k ks qs n behind before =
     let split : ks ++ qs ≡ (ks ++ take n qs) ++ drop n qs = ap (λ zs. ks ++ zs) (parts n qs)
-        ∙ sym (append_assoc ks (take n qs) (drop n qs)) in
+    ∙ sym (append_assoc ks (take n qs) (drop n qs)) in
     sym (append_assoc ks (take n qs) (k ∷ drop n qs))
     ∙ ap (λ zs. (ks ++ take n qs) ++ zs) (sym (put_first k (drop n qs) before))
     ∙ sym (insert_behind k (ks ++ take n qs) (drop n qs) behind)
@@ -164,9 +164,9 @@ pub behind_queued : (k q : Held) (ks qs : List Held) (n : ℕ) → IsStrictlySor
     → held_cmp k q ≡ Greater → ComesAfter k (ks ++ take (suc n) qs)
 behind_queued k q ks qs n s e g =
     let split : ks ++ qs ≡ (ks ++ take n qs) ++ q ∷ drop (suc n) qs = ap (λ zs. ks ++ zs) (part_at qs n q e)
-        ∙ sym (append_assoc ks (take n qs) (q ∷ drop (suc n) qs)) in
+    ∙ sym (append_assoc ks (take n qs) (q ∷ drop (suc n) qs)) in
     let front : (ks ++ take n qs) ++ q ∷ [] ≡ ks ++ take (suc n) qs = append_assoc ks (take n qs) (q ∷ [])
-        ∙ ap (λ zs. ks ++ zs) (sym (take_at qs n q e)) in
+    ∙ ap (λ zs. ks ++ zs) (sym (take_at qs n q e)) in
     subst (ComesAfter k) front (after_all k q (ks ++ take n qs) (drop (suc n) qs) (subst (IsStrictlySortedBy held_cmp) split s) g)
 
 take_whole : {A : Type 0} (xs : List A) (n : ℕ) → suc n ≡ length xs → take (suc n) xs ≡ xs
@@ -187,7 +187,7 @@ behind_set k q ks qs s some e g =
     let n : ℕ = length ks - 1 in
     let is : suc n ≡ length ks = omega arith in
     let split : ks ++ qs ≡ take n ks ++ q ∷ (drop (suc n) ks ++ qs) = ap (λ zs. zs ++ qs) (part_at ks n q e)
-        ∙ append_assoc (take n ks) (q ∷ drop (suc n) ks) qs in
+    ∙ append_assoc (take n ks) (q ∷ drop (suc n) ks) qs in
     let front : take n ks ++ q ∷ [] ≡ ks ++ [] = sym (take_at ks n q e) ∙ take_whole ks n is ∙ sym (none_behind ks) in
     subst (ComesAfter k) front (after_all k q (take n ks) (drop (suc n) ks ++ qs) (subst (IsStrictlySortedBy held_cmp) split s) g)
 
@@ -200,13 +200,13 @@ taken_at k q (x ∷ xs) ys e new = taken_at k q xs ys e new.1
 pub taken_queued : (k q : Held) (ks qs : List Held) (n : ℕ) → slice_get qs n ≡ Some q → held_cmp k q ≡ Equal → IsTaken k (ks ++ qs)
 taken_queued k q ks qs n e is =
     let split : ks ++ qs ≡ (ks ++ take n qs) ++ q ∷ drop (suc n) qs = ap (λ zs. ks ++ zs) (part_at qs n q e)
-        ∙ sym (append_assoc ks (take n qs) (q ∷ drop (suc n) qs)) in
+    ∙ sym (append_assoc ks (take n qs) (q ∷ drop (suc n) qs)) in
     subst (IsTaken k) (sym split) (taken_at k q (ks ++ take n qs) (drop (suc n) qs) is)
 
 pub taken_set : (k q : Held) (ks qs : List Held) (n : ℕ) → slice_get ks n ≡ Some q → held_cmp k q ≡ Equal → IsTaken k (ks ++ qs)
 taken_set k q ks qs n e is =
     let split : ks ++ qs ≡ take n ks ++ q ∷ (drop (suc n) ks ++ qs) = ap (λ zs. zs ++ qs) (part_at ks n q e)
-        ∙ append_assoc (take n ks) (q ∷ drop (suc n) ks) qs in
+    ∙ append_assoc (take n ks) (q ∷ drop (suc n) ks) qs in
     subst (IsTaken k) (sym split) (taken_at k q (take n ks) (drop (suc n) ks ++ qs) is)
 
 -- one more of what was left out

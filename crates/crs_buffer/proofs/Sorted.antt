@@ -28,8 +28,11 @@ later_all h e (x ∷ xs) k all = let d : e.date ≤ x.date = date_of_less e x al
 -- where the first isn't dated before h, none is
 pub none_before : (h : ℕ) (e : Entry Sym) (es all : List (Entry Sym)) → all ≡ e ∷ es → h ≤ e.date → IsInKeyOrder all
     → AllByRecursion (λ x. h ≤ x.date) all
-none_before h e es all is k sorted = subst (λ xs. AllByRecursion (λ x. h ≤ x.date) xs) (sym is) (k, later_all h e es k
-    (subst IsInKeyOrder is sorted).0)
+none_before h e es all is k sorted = subst (λ xs. AllByRecursion (λ x. h ≤ x.date) xs) (sym is) (
+  k,
+  later_all h e es k
+      (subst IsInKeyOrder is sorted).0,
+)
 
 same_item : (x k : Held) → Some x ≡ Some k → x ≡ k
 same_item x k e = cc

@@ -5,4 +5,4 @@ use Rattle.crs_buffer.proofs.queue.put_at.Goals as goal
 pub returns-clause-ok : goal.returns-clause-ok
 returns-clause-ok c =
     ap (λ zs. c.args.set.now.keys ++ zs) c.in-Ok.ensures.items ∙ insert_between c.args.held c.args.set.now.keys c.args.queue.now.items
-        c.args.place c.requires.behind c.requires.before
+    c.args.place c.requires.behind c.requires.before

@@ -20,6 +20,6 @@ pub returns-clause-least : goal.returns-clause-least
 returns-clause-least c =
     subst (λ es. AllByRecursion (λ e. c.deref.result.now.date ≤ e.date) es) c.self.view_is
     (none_held c.deref.result.now.date (c.self.inside.set.keys ++ c.self.inside.queue.items) c.in_ok-first.first.now (sym
-        (c.in_ok-first.ensures {u = tt}))
+    (c.in_ok-first.ensures {u = tt}))
     (subst (λ e. c.deref.result.now.date ≤ e.date) c.deref.ensures (le_refl c.deref.result.now.date)) (ascends
-        (c.self.inside.set.keys ++ c.self.inside.queue.items) c.self.invariant))
+    (c.self.inside.set.keys ++ c.self.inside.queue.items) c.self.invariant))

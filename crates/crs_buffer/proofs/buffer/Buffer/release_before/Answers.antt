@@ -13,13 +13,13 @@ pub returns-then-deref-h-clause-first : goal.returns-then-deref-h-clause-first
 returns-then-deref-h-clause-first c =
     subst (λ es. None ≡ released es c.args.h) c.self.view_is
     (none_released (c.self.inside.set.keys ++ c.self.inside.queue.items) c.in_ok-first.first.now c.args.h (sym
-        (c.in_ok-first.ensures {u = tt})) (subst (λ e. c.args.h ≤ e.date) c.deref.ensures c.if-deref-h.true))
+    (c.in_ok-first.ensures {u = tt})) (subst (λ e. c.args.h ≤ e.date) c.deref.ensures c.if-deref-h.true))
 
 pub returns-then-deref-h-clause-rest : goal.returns-then-deref-h-clause-rest
 returns-then-deref-h-clause-rest c =
     subst (λ es. es ≡ left es c.args.h) c.self.view_is
     (all_left (c.self.inside.set.keys ++ c.self.inside.queue.items) c.in_ok-first.first.now c.args.h (sym
-        (c.in_ok-first.ensures {u = tt})) (subst (λ e. c.args.h ≤ e.date) c.deref.ensures c.if-deref-h.true))
+    (c.in_ok-first.ensures {u = tt})) (subst (λ e. c.args.h ≤ e.date) c.deref.ensures c.if-deref-h.true))
 
 pub returns-then-deref-h-clause-sorted : goal.returns-then-deref-h-clause-sorted
 returns-then-deref-h-clause-sorted c = subst IsInKeyOrder c.self.view_is (ascends (c.self.inside.set.keys ++ c.self.inside.queue.items)
@@ -29,7 +29,7 @@ pub returns-then-deref-h-clause-none : goal.returns-then-deref-h-clause-none
 returns-then-deref-h-clause-none c = (
   (λ _. subst (λ es. AllByRecursion (λ e. c.args.h ≤ e.date) es) c.self.view_is
       (none_held c.args.h (c.self.inside.set.keys ++ c.self.inside.queue.items) c.in_ok-first.first.now (sym
-          (c.in_ok-first.ensures {u = tt})) (subst (λ e. c.args.h ≤ e.date) c.deref.ensures c.if-deref-h.true)
+      (c.in_ok-first.ensures {u = tt})) (subst (λ e. c.args.h ≤ e.date) c.deref.ensures c.if-deref-h.true)
       (ascends (c.self.inside.set.keys ++ c.self.inside.queue.items) c.self.invariant))),
   λ _. refl,
 )
