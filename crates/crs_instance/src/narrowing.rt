@@ -11,7 +11,6 @@ use crs_stn::Network;
 use std::alloc::{AllocError, Global};
 
 /// The earlier of two greatest dates.
-#[tactic(auto, using(crate::proofs::SpanSays::end_least))]
 pub(crate) fn earlier(a: i64, b: i64) -> i64
     ensures { end_of result ≡ lesser (end_of a) (end_of b) }
 {
@@ -41,7 +40,6 @@ fn date_after(date: u64, bound: Option<i64>) -> i64
 }
 
 /// The date less the bound to it, where there is one.
-#[tactic(auto, using(crate::proofs::SpanSays::start_some))]
 fn date_before(date: u64, bound: Option<i64>) -> i64
     requires date { date < 2 ^ 40 }
     requires not_large { IfSome bound (λ b. b ≤ℤ pos (23 * 2 ^ 40)) }

@@ -98,10 +98,8 @@ module _ (plan : Plan) (x : Entry Sym) (other : LooksFor (chronicle plan) x.name
   no_window k w is n = other (inr (subst (λ (s : Sym). IsIn s (map (λ u. name_of u.body) (chronicle plan).windows)) n (in_map (λ u. name_of u.body) (chronicle plan).windows w (in_place (chronicle plan).windows k w is))))
 
   untouched : (i : InstanceState) → IsUntouched plan i x
-  untouched i k = some_if (slice_get (chronicle plan).windows k) _ (λ w is from to stretch bound. (
-    no_hit (look_of i.binding) w.body from to x (no_window k w is),
-    spared (look_of i.binding) w.body from to x (no_window k w is),
-  ))
+  untouched i k = some_if (slice_get (chronicle plan).windows k) _ (λ w is from to stretch bound.
+      (no_hit (look_of i.binding) w.body from to x (no_window k w is), spared (look_of i.binding) w.body from to x (no_window k w is)))
 
   module _ (focus : Bool) (pool entries : List (Entry Sym)) (n : ℕ) where
     -- nothing that is open has the entry at an event
@@ -110,7 +108,8 @@ module _ (plan : Plan) (x : Entry Sym) (other : LooksFor (chronicle plan) x.name
         let has = grows.part e x (put_same a e x within) in
         let inside : e < length (chronicle plan).events = let m = at_within b e x has in let c = fine.partial.len in omega arith in
         let v = item_at (chronicle plan).events e inside in
-        no_event e v.0 v.1 (of_some _ x (λ y. PatternIs fine.look (v.0).pattern y) has (of_some (slice_get (chronicle plan).events e) v.0 _ v.1 (fine.partial.binding.equal e))).name
+        let equal = of_some (slice_get (chronicle plan).events e) v.0 _ v.1 (fine.partial.binding.equal e) in
+        let same = (of_some _ x (λ y. PatternIs fine.look (v.0).pattern y) has equal).name in no_event e v.0 v.1 same
 
     same_image : (held : List (Partial Sym)) → Ordered (λ a b. a ≡ b → ⊥) held → ((a : Partial Sym) → IsIn a held → IsOpenAt plan focus pool entries n a) → IsImage (GoesOnByLevel (levels_in plan focus) (IsOpenAt plan focus pool entries n) x) held held
     same_image held distinct fine = record {
