@@ -13,7 +13,6 @@ pub mod LogReading
 pub mod Follows
 pub mod Runs
 pub mod Wanting
-pub mod Calmly
 pub mod Completes
 pub mod Drilled
 pub mod MadeLogs

@@ -1,8 +1,6 @@
 //! The top call: the words, the desk and a status.
 #![tactic(auto)]
 
-#[cfg(test)]
-mod calm_tests;
 mod drilling;
 mod laws;
 mod limits;
@@ -17,8 +15,6 @@ mod session;
 mod status;
 mod step;
 mod table;
-#[cfg(test)]
-mod tests;
 
 pub use laws::{log_text_is_one, rearranged_logs_have_one_text, recognised_stays};
 pub use limits::{Limits, STANDARD};

@@ -4,8 +4,8 @@ ghost use Rattle.crs_top.specs.Commands.{CompletesCommand};
 ghost use Rattle.crs_top.specs.Run.{most_of};
 ghost use Rattle.crs_words.specs.Commands.{command_of};
 
-use crate::{Limits, STANDARD, Status, run_with};
 use crs_desk::CalmDesk;
+use crs_top::{Limits, STANDARD, Status, run_with};
 use std::alloc::{AllocError, Global};
 use std::test::Fail;
 

@@ -1,9 +1,9 @@
 ghost use Rattle.std.specs.Prelude.{◌≡◌, IfOk};
 ghost use Rattle.crs_desk.specs.Memory.{memory_inputs};
 
-use crate::{Limits, STANDARD, Status, run_with};
 use crs_desk::MemoryDesk;
 use crs_report::{CountByModel, FirstLast, FirstN, Listener, LongestSpan};
+use crs_top::{Limits, STANDARD, Status, run_with};
 use std::alloc::{AllocError, Global};
 use std::test::Fail;
 

@@ -1,0 +1,7 @@
+//! The tests of whole runs: the words, the models and the log of each, and its output and its status.
+#![tactic(auto)]
+
+#[cfg(test)]
+mod calm_runs;
+#[cfg(test)]
+mod runs;
