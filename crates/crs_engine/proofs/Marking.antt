@@ -20,7 +20,9 @@ use Rattle.crs_model.specs.Open.{IsNew, before}
 use Rattle.crs_model.specs.Order.{Lists, assignment_cmp}
 use Rattle.crs_model.specs.Plans.{chronicle}
 use Rattle.crs_model.specs.Seen.{assignment_of}
-use Rattle.crs_store.specs.Stores.{StoreState, Stands, IsSameStore}
+use Rattle.crs_store.specs.Ahead.{AreAhead}
+use Rattle.crs_store.specs.Stores.{StoreState, Stands, StandsAhead, IsSameStore}
+use Rattle.crs_store.proofs.Standing.{ahead_of}
 use Rattle.crs_store.specs.Answers.{IsAnswer, IsMarked}
 use Rattle.std.specs.Prelude.{ℤ, ◌≤ℤ◌, false, Result, Ok, Err, IfOk, OnOk}
 use Rattle.crs_history.specs.Histories.{HistoryState, lowest, IsFarBack, StandsFor as HistoryStandsFor}
@@ -36,9 +38,9 @@ use Rattle.crs_engine.proofs.Order.{numbers_few, ordered_left, ordered_right, or
 abbrev pub AllStand : List StoreState → List (Entry Sym) → List (Entry Sym) → ℕ → ℕ → Type 0
 AllStand ss was pool d g = AllByRecursion (λ s. Stands s was pool pool d g) ss
 
--- each was judged at a date that isn't after d
-abbrev pub AllStandBy : List StoreState → List (Entry Sym) → List (Entry Sym) → ℕ → ℕ → Type 0
-AllStandBy ss was pool d g = AllByRecursion (λ s. (n : ℕ) × (n ≤ d) × Stands s was pool pool n g) ss
+-- each was judged at a date that isn't after d, and the later entries come next, up to h
+abbrev pub AllStandBy : List StoreState → List (Entry Sym) → List (Entry Sym) → List (Entry Sym) → ℕ → ℕ → ℕ → Type 0
+AllStandBy ss was pool later d g h = AllByRecursion (λ s. (n : ℕ) × (n ≤ d) × StandsAhead s was pool pool later n g h) ss
 
 abbrev pub AllFar : List StoreState → ℕ → ℤ → Type 0
 AllFar ss g floor = AllByRecursion (λ s. IsFarBack s.plan.reach g floor) ss
@@ -64,62 +66,63 @@ same_far g floor (o ∷ olds) (n ∷ news) s k = (subst (λ (q : Plan). IsFarBac
 
 -- ---- offered
 
-offered_one : (olds news : List StoreState) (put : HistoryState) (x : Entry Sym) (until : ℕ) (was pool : List (Entry Sym)) (d g : ℕ)
-    → AllStandBy olds was pool d g → AreOffered olds put x until news → HistoryStandsFor (pool ++ x ∷ []) put → AllFar olds g put.floor
+offered_one : (olds news : List StoreState) (put : HistoryState) (x : Entry Sym) (until : ℕ) (ahead : List (Entry Sym)) (beyond : ℕ) (was pool later : List (Entry Sym)) (d g h : ℕ)
+    → AllStandBy olds was pool (x ∷ later) d g h → AreAhead ahead beyond later h → AreOffered olds put x until ahead beyond news → HistoryStandsFor (pool ++ x ∷ []) put → AllFar olds g put.floor
     → length (pool ++ x ∷ []) < 2 ^ 32 → IsFresh pool x → d ≤ x.date →
-    AllStandBy news was (pool ++ x ∷ []) until g
-offered_one [] [] put x until was pool d g h k kept far few fresh later = tt
-offered_one [] (n ∷ news) put x until was pool d g h k kept far few fresh later = absurd k
-offered_one (o ∷ olds) [] put x until was pool d g h k kept far few fresh later = absurd k
-offered_one (o ∷ olds) (n ∷ news) put x until was pool d g h k kept far few fresh later =
-    let one = h.0 in
-    let r = k.0 was pool one.0 g one.2 kept far.0 few fresh (let l = one.1 in omega arith) in
-    ((r.0, r.2, r.4), offered_one olds news put x until was pool d g h.1 k.1 kept far.1 few fresh later)
+    AllStandBy news was (pool ++ x ∷ []) later until g h
+offered_one [] [] put x until ahead beyond was pool later d g h stand coming k kept far few fresh dated = tt
+offered_one [] (n ∷ news) put x until ahead beyond was pool later d g h stand coming k kept far few fresh dated = absurd k
+offered_one (o ∷ olds) [] put x until ahead beyond was pool later d g h stand coming k kept far few fresh dated = absurd k
+offered_one (o ∷ olds) (n ∷ news) put x until ahead beyond was pool later d g h stand coming k kept far few fresh dated =
+    let one = stand.0 in
+    let r = k.0 was pool later one.0 g h one.2 coming kept far.0 few fresh (let l = one.1 in omega arith) in
+    ((r.0, r.2, r.4), offered_one olds news put x until ahead beyond was pool later d g h stand.1 coming k.1 kept far.1 few fresh dated)
 
 -- the stores and the history stand for what is settled, and the history goes far enough back
-pub record StandTogether (ss : List StoreState) (past : HistoryState) (was pool : List (Entry Sym)) (d g : ℕ) : Type 0 where
-  pub stores : AllStandBy ss was pool d g
+pub record StandTogether (ss : List StoreState) (past : HistoryState) (was pool later : List (Entry Sym)) (d g h : ℕ) : Type 0 where
+  pub stores : AllStandBy ss was pool later d g h
   pub history : HistoryStandsFor pool past
   pub far : AllFar ss g past.floor
 
-stand_offered : (olds next : List StoreState) (past put : HistoryState) (x : Entry Sym) (until : ℕ) (was pool : List (Entry Sym)) (d g : ℕ)
-    → StandTogether olds past was pool d g → HasPut past x put → AreSameStores olds next → AreOffered olds put x until next
-    → length (pool ++ x ∷ []) < 2 ^ 32 → IsFresh pool x → d ≤ x.date → StandTogether next put was (pool ++ x ∷ []) until g
-stand_offered olds next past put x until was pool d g stand has same k few fresh later =
+stand_offered : (olds next : List StoreState) (past put : HistoryState) (x : Entry Sym) (until : ℕ) (ahead : List (Entry Sym)) (beyond : ℕ) (was pool later : List (Entry Sym)) (d g h : ℕ)
+    → StandTogether olds past was pool (x ∷ later) d g h → AreAhead ahead beyond later h → HasPut past x put → AreSameStores olds next → AreOffered olds put x until ahead beyond next
+    → length (pool ++ x ∷ []) < 2 ^ 32 → IsFresh pool x → d ≤ x.date → StandTogether next put was (pool ++ x ∷ []) later until g h
+stand_offered olds next past put x until ahead beyond was pool later d g h stand coming has same k few fresh dated =
     let far : AllFar olds g put.floor = subst (AllFar olds g) (sym has.floor) stand.far in
     record {
-      stores = offered_one olds next put x until was pool d g stand.stores k (has.stands pool stand.history) far few fresh later;
+      stores = offered_one olds next put x until ahead beyond was pool later d g h stand.stores coming k (has.stands pool stand.history) far few fresh dated;
       history = has.stands pool stand.history;
       far = same_far g put.floor olds next same far;
     }
 
 -- no entry that is still to come is before the date of the next one
-none_before : (h : ℕ) (xs rest : List (Entry Sym)) → Ordered (λ x y. x.date ≤ y.date) xs
-    → AllByRecursion (λ x. date_after h (xs ++ rest) ≤ x.date) xs
-none_before h [] rest dates = tt
-none_before h (x ∷ xs) rest dates = (omega arith, all_each {P = λ y. x.date ≤ y.date} xs (λ y l. omega arith) dates.0)
+none_before : (h : ℕ) (xs : List (Entry Sym)) → Ordered (λ x y. x.date ≤ y.date) xs → AllByRecursion (λ x. date_after h xs ≤ x.date) xs
+none_before h [] dates = tt
+none_before h (x ∷ xs) dates = (omega arith, all_each {P = λ y. x.date ≤ y.date} xs (λ y l. omega arith) dates.0)
 
-offered_all : (h : ℕ) (rest xs : List (Entry Sym)) (olds news : List StoreState) (past now : HistoryState) (was pool : List (Entry Sym))
+offered_all : (h : ℕ) (xs : List (Entry Sym)) (olds news : List StoreState) (past now : HistoryState) (was pool : List (Entry Sym))
     (d g : ℕ)
-    → StandTogether olds past was pool d g → AreOfferedAll h rest olds past xs news now → AreDistinct (pool ++ xs)
+    → StandTogether olds past was pool xs d g h → AreOfferedAll h [] olds past xs news now → AreDistinct (pool ++ xs)
     → AllByRecursion (λ x. d ≤ x.date) xs
     → Ordered (λ x y. x.date ≤ y.date) xs → d ≤ h → length (pool ++ xs) < 2 ^ 32 →
-    (e : ℕ) × StandTogether news now was (pool ++ xs) e g × (e ≤ h)
-offered_all h rest [] olds news past now was pool d g stand k apart later dates low few = (
+    (e : ℕ) × StandTogether news now was (pool ++ xs) [] e g h × (e ≤ h)
+offered_all h [] olds news past now was pool d g stand k apart later dates low few = (
   d,
-  subst (λ (t : List (Entry Sym)). StandTogether news now was t d g) (sym (append-nil pool))
-      (subst (λ (t : List StoreState). StandTogether t now was pool d g) (sym k.0) (subst (λ (t : HistoryState). StandTogether olds t was pool d g) (sym k.1) stand)),
+  subst (λ (t : List (Entry Sym)). StandTogether news now was t [] d g h) (sym (append-nil pool))
+      (subst (λ (t : List StoreState). StandTogether t now was pool [] d g h) (sym k.0) (subst (λ (t : HistoryState). StandTogether olds t was pool [] d g h) (sym k.1) stand)),
   low,
 )
-offered_all h rest (x ∷ xs) olds news past now was pool d g stand k apart later dates low few =
+offered_all h (x ∷ xs) olds news past now was pool d g stand k apart later dates low few =
     let next = k.0 in
     let put = k.1 in
     let joined : (pool ++ x ∷ []) ++ xs ≡ pool ++ x ∷ xs = append_assoc pool (x ∷ []) xs in
     let few_one : length (pool ++ x ∷ []) < 2 ^ 32 = let a = length-append pool (x ∷ []) in let b = length-append pool (x ∷ xs) in omega arith in
-    let one = stand_offered olds next past put x (date_after h (xs ++ rest)) was pool d g stand k.2 k.3 k.4 few_one (λ e i. ordered_cross (λ a b. a.arrival ≢ b.arrival) pool (x ∷ xs) apart e x i (inl refl)) later.0 in
-    let r = offered_all h rest xs next news put now was (pool ++ x ∷ []) (date_after h (xs ++ rest)) g one k.5 (subst AreDistinct (sym joined) apart) (none_before h xs rest dates.1) dates.1 (date_within h (xs ++ rest))
+    let coming : AreAhead k.2 k.3 xs h = subst (λ (t : List (Entry Sym)). AreAhead k.2 k.3 t h) (append-nil xs) k.4 in
+    let offered : AreOffered olds put x (date_after h xs) k.2 k.3 next = subst (λ (t : List (Entry Sym)). AreOffered olds put x (date_after h t) k.2 k.3 next) (append-nil xs) k.7 in
+    let one = stand_offered olds next past put x (date_after h xs) k.2 k.3 was pool xs d g h stand coming k.5 k.6 offered few_one (λ e i. ordered_cross (λ a b. a.arrival ≢ b.arrival) pool (x ∷ xs) apart e x i (inl refl)) later.0 in
+    let r = offered_all h xs next news put now was (pool ++ x ∷ []) (date_after h xs) g one k.8 (subst AreDistinct (sym joined) apart) (none_before h xs dates.1) dates.1 (date_within h xs)
     (subst (λ (t : List (Entry Sym)). length t < 2 ^ 32) (sym joined) few) in
-    (r.0, subst (λ (t : List (Entry Sym)). StandTogether news now was t r.0 g) joined r.1, r.2)
+    (r.0, subst (λ (t : List (Entry Sym)). StandTogether news now was t [] r.0 g h) joined r.1, r.2)
 
 -- ---- advanced
 
@@ -133,7 +136,7 @@ answer_as p n o mark was pool g h first sp sn sw a =
 
 module _ (history : HistoryState) (mark : Mark) (was pool : List (Entry Sym)) (d g h : ℕ) (sw : before g pool ≡ was) (kept : HistoryStandsFor pool history) (few : length pool < 2 ^ 32) (apart : AreDistinct pool) (later : d ≤ h) (dated : (e : Entry Sym) → IsIn e pool → e.date < h) (dates : Ordered (λ x y. x.date ≤ y.date) pool) where
   advanced_all : (focus : Bool) (ps : List Plan) (n : ℕ) (olds news : List StoreState) (answer : List Recognition)
-      → AreStoresOf focus ps n olds → AllStandBy olds was pool d g → AllFar olds g history.floor → AreAdvanced history h mark olds news answer
+      → AreStoresOf focus ps n olds → AllStandBy olds was pool [] d g h → AllFar olds g history.floor → AreAdvanced history h mark olds news answer
       → AllStand news pool pool h h × ListsAllNew ps n mark was g pool h answer
   advanced_all focus [] n [] news answer of stand far k = (subst (λ (t : List StoreState). AllStand t pool pool h h) (sym k.0) tt, k.1)
   advanced_all focus [] n (o ∷ olds) news answer of stand far k = absurd of
@@ -163,12 +166,12 @@ stores_same focus (p ∷ ps) n [] news h k = absurd h
 stores_same focus (p ∷ ps) n (o ∷ olds) [] h k = absurd k
 stores_same focus (p ∷ ps) n (o ∷ olds) (x ∷ news) h k = (same_store_of focus p n o x h.0 k.0, stores_same focus ps (suc n) olds news h.1 k.1)
 
-pub all_stand : (focus : Bool) (settled : List (Entry Sym)) (h : ℕ) (ps : List Plan) (ss : List StoreState)
-    → AllZip (IsStoreAt focus settled h) ps ss → AllStandBy ss settled settled h h
-all_stand focus settled h [] [] z = tt
-all_stand focus settled h [] (s ∷ ss) z = absurd z
-all_stand focus settled h (p ∷ ps) [] z = absurd z
-all_stand focus settled h (p ∷ ps) (s ∷ ss) z = ((h, omega arith, (z.0).stands), all_stand focus settled h ps ss z.1)
+pub all_stand : (focus : Bool) (settled later : List (Entry Sym)) (h g : ℕ) (ps : List Plan) (ss : List StoreState)
+    → AllZip (IsStoreAt focus settled h) ps ss → AllStandBy ss settled settled later h h g
+all_stand focus settled later h g [] [] z = tt
+all_stand focus settled later h g [] (s ∷ ss) z = absurd z
+all_stand focus settled later h g (p ∷ ps) [] z = absurd z
+all_stand focus settled later h g (p ∷ ps) (s ∷ ss) z = ((h, omega arith, ahead_of s settled settled settled later h h g (z.0).stands), all_stand focus settled later h g ps ss z.1)
 
 pub stores_at : (focus : Bool) (settled : List (Entry Sym)) (h : ℕ) (ps : List Plan) (n : ℕ) (ss : List StoreState)
     → AreStoresOf focus ps n ss → AllStand ss settled settled h h → AllZip (IsStoreAt focus settled h) ps ss
@@ -185,13 +188,13 @@ module _ (seen new : EngineState) (mark : Mark) (answer : List Recognition) (sam
     (few : seen.accepted < 2 ^ 32) (of : AreStoresOf seen.focus (plans_of seen.plans) 0 seen.stores) (later : seen.horizon ≤ new.horizon)
     (marked : AreMarked new.horizon mark seen.stores seen.history seen.waiting new.stores new.history new.waiting answer) (same : AreSameStores seen.stores new.stores) (s w : List (Entry Sym)) (stands : StandsFor seen s w) where
   parted : w ≡ (marked.settled).done ++ new.waiting
-  parted = sym stands.held ∙ (marked.settled).parted
+  parted = sym stands.held ∙ (marked.settled).due.parted
 
   now_before : before new.horizon w ≡ (marked.settled).done
-  now_before = ap (before new.horizon) parted ∙ before_parts new.horizon (marked.settled).done new.waiting (marked.settled).done_before (marked.settled).rest_after
+  now_before = ap (before new.horizon) parted ∙ before_parts new.horizon (marked.settled).done new.waiting (marked.settled).due.before (marked.settled).due.after
 
   now_since : since new.horizon w ≡ new.waiting
-  now_since = ap (since new.horizon) parted ∙ since_parts new.horizon (marked.settled).done new.waiting (marked.settled).done_before (marked.settled).rest_after
+  now_since = ap (since new.horizon) parted ∙ since_parts new.horizon (marked.settled).done new.waiting (marked.settled).due.before (marked.settled).due.after
 
   whole : (s ++ (marked.settled).done) ++ new.waiting ≡ s ++ w
   whole = append_assoc s (marked.settled).done new.waiting ∙ ap (λ (t : List (Entry Sym)). s ++ t) (sym parted)
@@ -212,20 +215,20 @@ module _ (seen new : EngineState) (mark : Mark) (answer : List Recognition) (sam
   done_after = all_left (λ x. seen.horizon ≤ x.date) (marked.settled).done new.waiting (subst (λ (t : List (Entry Sym)). AllByRecursion (λ x. seen.horizon ≤ x.date) t) parted stands.waiting_after)
 
   all_before : AllByRecursion (λ x. x.date < new.horizon) (s ++ (marked.settled).done)
-  all_before = all_append (λ x. x.date < new.horizon) s (marked.settled).done (all_each {P = λ x. x.date < seen.horizon} s (λ x l. omega arith) stands.settled_before) (marked.settled).done_before
+  all_before = all_append (λ x. x.date < new.horizon) s (marked.settled).done (all_each {P = λ x. x.date < seen.horizon} s (λ x l. omega arith) stands.settled_before) (marked.settled).due.before
 
   few_settled : length (s ++ (marked.settled).done) < 2 ^ 32
   few_settled = let a = numbers_few seen.accepted ((s ++ (marked.settled).done) ++ new.waiting) numbered in let b = length-append (s ++ (marked.settled).done) new.waiting in omega arith
 
-  together : StandTogether seen.stores seen.history s s seen.horizon seen.horizon
+  together : StandTogether seen.stores seen.history s s (marked.settled).done seen.horizon seen.horizon new.horizon
   together = record {
-    stores = all_stand seen.focus s seen.horizon (plans_of seen.plans) seen.stores stands.stores;
+    stores = all_stand seen.focus s (marked.settled).done seen.horizon new.horizon (plans_of seen.plans) seen.stores stands.stores;
     history = stands.history;
     far = stores_far seen.horizon seen.history.floor seen.focus (plans_of seen.plans) 0 seen.stores of stands.far_back;
   }
 
-  offers : (e : ℕ) × StandTogether marked.between new.history s (s ++ (marked.settled).done) e seen.horizon × (e ≤ new.horizon)
-  offers = offered_all new.horizon new.waiting (marked.settled).done seen.stores marked.between seen.history new.history s s seen.horizon seen.horizon together (marked.settled).offered apart done_after
+  offers : (e : ℕ) × StandTogether marked.between new.history s (s ++ (marked.settled).done) [] e seen.horizon new.horizon × (e ≤ new.horizon)
+  offers = offered_all new.horizon (marked.settled).done seen.stores marked.between seen.history new.history s s seen.horizon seen.horizon together (marked.settled).offered apart done_after
       (ordered_right (λ x y. x.date ≤ y.date) s (marked.settled).done (in_dates (s ++ (marked.settled).done) up_now)) later few_settled
 
   after : AllStand new.stores (s ++ (marked.settled).done) (s ++ (marked.settled).done) new.horizon new.horizon × ListsAllNew (plans_of seen.plans) 0 mark s seen.horizon (s ++ (marked.settled).done) new.horizon answer
@@ -239,7 +242,7 @@ module _ (seen new : EngineState) (mark : Mark) (answer : List Recognition) (sam
   stands_parted : StandsFor new (s ++ (marked.settled).done) new.waiting
   stands_parted = record {
     settled_before = all_before;
-    waiting_after = (marked.settled).rest_after;
+    waiting_after = (marked.settled).due.after;
     in_order = up;
     numbered = subst (λ (n : ℕ). HaveNumbersBelow n ((s ++ (marked.settled).done) ++ new.waiting)) (sym same_count) numbered;
     held = refl;
@@ -274,7 +277,7 @@ drop_all (x ∷ xs) (suc n) e = drop_all xs n (omega arith)
 pub history_before : (h g : ℕ) (past now : HistoryState) (olds news : List StoreState) (held rest : List (Entry Sym)) (mark : Mark) (answer : List Recognition) → AllByRecursion (λ x. x.date < g) past.entries → g ≤ h → AreMarked h mark olds past held news now rest answer → AllByRecursion (λ x. x.date < h) now.entries
 history_before h g past now olds news held rest mark answer before_g later m =
     subst (λ (t : List (Entry Sym)). AllByRecursion (λ x. x.date < h) t) (sym (m.settled).kept)
-    (all_append (λ x. x.date < h) past.entries (m.settled).done (all_each {P = λ x. x.date < g} past.entries (λ x l. omega arith) before_g) (m.settled).done_before)
+    (all_append (λ x. x.date < h) past.entries (m.settled).done (all_each {P = λ x. x.date < g} past.entries (λ x l. omega arith) before_g) (m.settled).due.before)
 
 -- a slice of all stores is written back whole
 pub written_back : (olds news : List StoreState) (n : ℕ) → n ≡ length olds → AreSameStores olds news → take n (news ++ drop (length news) olds) ≡ news

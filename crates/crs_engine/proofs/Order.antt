@@ -33,12 +33,12 @@ module _ {A : Type 0} (R : A → A → Type 0) where
   ordered_cross (z ∷ xs) ys h x y (inl e) j = subst (λ (t : A). R t y) (sym e) (in_from_each (R z) (xs ++ ys) h.0 y (in_append_right xs ys y j))
   ordered_cross (z ∷ xs) ys h x y (inr i) j = ordered_cross xs ys h.1 x y i j
 
-  -- without one in the middle
-  pub ordered_without : (xs : List A) (y : A) (ys : List A) → Ordered R (xs ++ y ∷ ys) → Ordered R (xs ++ ys)
-  ordered_without [] y ys h = h.1
-  ordered_without (x ∷ xs) y ys h = (
-    each_from_in (R x) (xs ++ ys) (λ z i. in_from_each (R x) (xs ++ y ∷ ys) h.0 z (elim (in_append xs ys z i) [ inl a ↦ in_append_left xs (y ∷ ys) z a | inr b ↦ in_append_right xs (y ∷ ys) z (inr b) ])),
-    ordered_without xs y ys h.1,
+  -- without some in the middle
+  pub ordered_without : (xs ms ys : List A) → Ordered R (xs ++ (ms ++ ys)) → Ordered R (xs ++ ys)
+  ordered_without [] ms ys h = ordered_right ms ys h
+  ordered_without (x ∷ xs) ms ys h = (
+    each_from_in (R x) (xs ++ ys) (λ z i. in_from_each (R x) (xs ++ (ms ++ ys)) h.0 z (elim (in_append xs ys z i) [ inl a ↦ in_append_left xs (ms ++ ys) z a | inr b ↦ in_append_right xs (ms ++ ys) z (in_append_right ms ys z b) ])),
+    ordered_without xs ms ys h.1,
   )
 
 -- ---- keys

@@ -7,14 +7,15 @@ use Rattle.crs_model.specs.declared.recognition.Mark.{Mark}
 use Rattle.crs_model.specs.declared.recognition.Recognition.{Recognition}
 use Rattle.crs_history.specs.Histories.{HistoryState, StandsFor}
 use Rattle.crs_store.specs.Stores.{StoreState, IsSameStore, IsOfferedUntil}
+use Rattle.crs_store.specs.Ahead.{AreAhead}
 use Rattle.crs_store.specs.Answers.{IsAdvanced}
 
 abbrev pub AreSameStores : List StoreState → List StoreState → Type 0
 AreSameStores olds news = AllZip IsSameStore olds news
 
--- each was offered x, which the history has as its last, and all that it holds was judged at a date that isn't after `until`
-abbrev pub AreOffered : List StoreState → HistoryState → Entry Sym → ℕ → List StoreState → Type 0
-AreOffered olds history x until news = AllZip (λ o n. IsOfferedUntil o history x until n) olds news
+-- each was offered x, which the history has as its last, and told of the entries ahead of all that are dated at or after a date, and all that it holds was judged at a date that isn't after `until`
+abbrev pub AreOffered : List StoreState → HistoryState → Entry Sym → ℕ → List (Entry Sym) → ℕ → List StoreState → Type 0
+AreOffered olds history x until ahead beyond news = AllZip (λ o n. IsOfferedUntil o history x until ahead beyond n) olds news
 
 -- the date of the first entry, or h where that is the lesser or there is none
 abbrev pub date_after : ℕ → List (Entry Sym) → ℕ
@@ -26,24 +27,32 @@ pub record HasPut (past : HistoryState) (x : Entry Sym) (now : HistoryState) : T
   pub floor : now.floor ≡ past.floor
   pub stands : (es : List (Entry Sym)) → StandsFor es past → StandsFor (es ++ x ∷ []) now
 
--- Each entry in turn was put last in the history, and each store was offered it and judged all no later than at the date of the entry after it,
+-- Each entry in turn was put last in the history, and each store was offered it, told of some of those after it, and judged all no later than at the date of the entry after it,
 -- or than at h where that is the lesser or there is none. The rest comes after these entries.
 abbrev pub AreOfferedAll : ℕ → List (Entry Sym) → List StoreState → HistoryState → List (Entry Sym) → List StoreState → HistoryState
     → Type 0
 AreOfferedAll h rest olds past [] news now = (news ≡ olds) × (now ≡ past)
 AreOfferedAll h rest olds past (x ∷ xs) news now =
-    (next : List StoreState) × (put : HistoryState) × HasPut past x put × AreSameStores olds next
-    × AreOffered olds put x (date_after h (xs ++ rest)) next × AreOfferedAll h rest next put xs news now
+    (next : List StoreState) × (put : HistoryState) × (ahead : List (Entry Sym)) × (beyond : ℕ) × AreAhead ahead beyond (xs ++ rest) h × HasPut past x put × AreSameStores olds next
+    × AreOffered olds put x (date_after h (xs ++ rest)) ahead beyond next × AreOfferedAll h rest next put xs news now
+
+-- those of the entries that are dated before h, and then the others
+pub record AreDue (h : ℕ) (due held rest : List (Entry Sym)) : Type 0 where
+  pub parted : held ≡ due ++ rest
+  pub before : AllByRecursion (λ x. x.date < h) due
+  pub after : AllByRecursion (λ x. h ≤ x.date) rest
+
+-- the first of the entries were put last in the history
+abbrev pub ArePut : HistoryState → List (Entry Sym) → HistoryState → Type 0
+ArePut past entries now = (done : List (Entry Sym)) × (rest : List (Entry Sym)) × (entries ≡ done ++ rest) × (now.entries ≡ past.entries ++ done) × (now.floor ≡ past.floor)
 
 -- the entries dated before h were taken out in turn, put last in the history, and offered; the rest is dated at or after h
 pub record AreSettled (olds : List StoreState) (past : HistoryState) (held : List (Entry Sym)) (h : ℕ) (news : List StoreState) (now : HistoryState) (rest : List (Entry Sym)) : Type 0 where
   pub same : AreSameStores olds news
   pub done : List (Entry Sym)
-  pub parted : held ≡ done ++ rest
-  pub done_before : AllByRecursion (λ x. x.date < h) done
-  pub rest_after : AllByRecursion (λ x. h ≤ x.date) rest
+  pub due : AreDue h done held rest
   pub kept : now.entries ≡ past.entries ++ done
-  pub offered : AreOfferedAll h rest olds past done news now
+  pub offered : AreOfferedAll h [] olds past done news now
 
 -- the rest of the entries
 abbrev pub IsRestOf : List (Entry Sym) → List (Entry Sym) → Type 0

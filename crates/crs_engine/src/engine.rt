@@ -24,6 +24,7 @@ use crs_model::{Mark, Plans, Recognition};
 use crs_store::Store;
 use std::alloc::{AllocError, Global};
 use std::marker::Model;
+use std::rc::Rc;
 use std::sync::ledger::Ledger;
 
 /// The horizon and the clock after the end, in ticks: 2^42, above every date.
@@ -37,6 +38,8 @@ pub struct Engine {
     stores: Vec<Store>,
     history: History,
     buffer: Buffer,
+    /// What is settled at a mark. It is filled anew at each one, and keeps its memory.
+    due: Vec<Rc<Entry>>,
     delay: u64,
     last: u64,
     horizon: u64,
@@ -73,6 +76,7 @@ impl Engine {
             stores,
             history: History::new(alloc),
             buffer: Buffer::new(alloc),
+            due: Vec::new(alloc),
             delay: 0,
             last: 0,
             horizon: 0,
@@ -283,6 +287,7 @@ impl Engine {
             &mut self.stores,
             &mut self.history,
             &mut self.buffer,
+            &mut self.due,
             h,
             mark,
             steps,

@@ -9,6 +9,3 @@ mod sums;
 
 pub use engine::Engine;
 pub use refused::Refused;
-
-#[cfg(test)]
-mod tests;

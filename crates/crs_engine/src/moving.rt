@@ -1,4 +1,4 @@
-ghost use Rattle.std.specs.Prelude.{◌≡◌, ◌<◌, ◌≤◌, ◌≤ℤ◌, ◌<ℤ◌, ◌-ℤ◌, ◌^◌, ◌++◌, ℕ, pos, OnOk, OnErr, IfOk, List as Items};
+ghost use Rattle.std.specs.Prelude.{◌≡◌, ◌<◌, ◌≤◌, ◌≤ℤ◌, ◌<ℤ◌, ◌-ℤ◌, ◌^◌, [], ◌++◌, ℕ, map, pos, OnOk, OnErr, IfOk, List as Items};
 ghost use Rattle.std.specs.Int.{int_max};
 ghost use Rattle.std.specs.List.{AllByRecursion};
 ghost use Rattle.crs_base.specs.declared.symbols.Sym.{Sym};
@@ -6,7 +6,7 @@ ghost use Rattle.crs_base.specs.Entry.{Entry as LogEntry, IsInKeyOrder};
 ghost use Rattle.crs_base.specs.Seen.{entry_of};
 ghost use Rattle.crs_history.specs.Histories.{EndsWith, StandsFor};
 ghost use Rattle.crs_model.specs.declared.recognition.Recognition.{Recognition};
-ghost use Rattle.crs_engine.specs.Moves.{AreSameStores, AreOffered, AreSettled, IsRestOf, AreAdvanced, AreMarked, date_after};
+ghost use Rattle.crs_engine.specs.Moves.{AreSameStores, AreOffered, AreOfferedAll, AreDue, ArePut, AreSettled, IsRestOf, AreAdvanced, AreMarked, date_after};
 ghost use Rattle.crs_buffer.specs.Entries.{IsNewKey};
 ghost use Rattle.crs_model.specs.Order.{put_in_order};
 
@@ -20,48 +20,101 @@ use std::alloc::{AllocError, Global};
 use std::rc::Rc;
 use std::sync::ledger::Ledger;
 
+/// Of how many entries that come next a store is told.
+const AHEAD: usize = 8;
+
 /// Offers the entry, which is the last of the history, to each store, and has it judge what it holds
-/// at `until`, which no later entry is before.
+/// at `until`, which no later entry is before. Each is told of the entries that come next.
 fn offer_all<L: Ledger>(
     stores: &mut [Store],
     history: &History,
     entry: &Rc<Entry>,
     until: u64,
+    ahead: &[Rc<Entry>],
+    beyond: u64,
     steps: &mut Steps<L>,
 ) -> Result<(), NoMemory>
     requires last { EndsWith (entry_of entry.now.value) history.now.entries }
     requires date { entry.now.value.date < 2 ^ 40 }
     requires later { entry.now.value.date ≤ until }
     requires small { until ≤ 2 ^ 42 }
+    requires near { beyond ≤ 2 ^ 42 }
     ensures same { AreSameStores stores.old stores.new }
-    ensures offered { OnOk result (AreOffered stores.old history.now (entry_of entry.now.value) until stores.new) }
+    ensures offered { OnOk result (AreOffered stores.old history.now (entry_of entry.now.value) until (map (λ r. entry_of r.value) ahead.now) beyond stores.new) }
 {
     match stores.split_first_mut() {
         None => Ok(()),
         Some((first, rest)) => {
-            first.offer_until(history, entry, until, steps)?;
-            offer_all(rest, history, entry, until, steps)
+            first.offer_until(history, entry, until, ahead, beyond, steps)?;
+            offer_all(rest, history, entry, until, ahead, beyond, steps)
         }
     }
 }
 
-/// The date of the first entry in the buffer, or `h` where that is the lesser or there is none.
-fn date_after(buffer: &Buffer, h: u64) -> u64
-    ensures { result ≡ date_after h buffer.now }
+/// The date of the first of the entries, or `h` where that is the lesser or there is none.
+fn date_after(entries: &[Rc<Entry>], h: u64) -> u64
+    ensures { result ≡ date_after h (map (λ r. entry_of r.value) entries.now) }
 {
-    match buffer.first_date() {
-        Some(date) => date.min(h),
+    match entries.first() {
+        Some(entry) => entry.date.min(h),
         None => h,
     }
 }
 
+/// Takes the entries dated before `h` out of the buffer, in key order. What an error leaves in the
+/// list is not to be used.
+fn take_due(buffer: &mut Buffer, due: &mut Vec<Rc<Entry>>, h: u64) -> Result<(), AllocError>
+    requires empty { due.old.items ≡ [] }
+    ensures rest { IsRestOf buffer.old buffer.new }
+    ensures due { OnOk result (AreDue h (map (λ r. entry_of r.value) due.new.items) buffer.old buffer.new) }
+{
+    while let Some(entry) = buffer.release_before(h) {
+        due.push(entry)?;
+    }
+    Ok(())
+}
+
+/// Adds each of the entries, which are dated before `h` and in key order, to the history, and offers
+/// it to all stores, which judge what they hold at the date of the next of these entries, and at `h`
+/// after the last.
+fn settle_due<L: Ledger>(
+    stores: &mut [Store],
+    history: &mut History,
+    due: &[Rc<Entry>],
+    h: u64,
+    steps: &mut Steps<L>,
+) -> Result<(), NoMemory>
+    requires small { AllByRecursion (λ x. x.date < 2 ^ 40) (map (λ r. entry_of r.value) due.now) }
+    requires order { IsInKeyOrder (history.old.entries ++ map (λ r. entry_of r.value) due.now) }
+    requires due { AllByRecursion (λ x. history.old.floor ≤ℤ pos x.date) (map (λ r. entry_of r.value) due.now) }
+    requires before { AllByRecursion (λ x. x.date < h) (map (λ r. entry_of r.value) due.now) }
+    requires horizon { h ≤ 2 ^ 42 }
+    ensures same { AreSameStores stores.old stores.new }
+    ensures put { ArePut history.old (map (λ r. entry_of r.value) due.now) history.new }
+    ensures kept { OnOk result (history.new.entries ≡ history.old.entries ++ map (λ r. entry_of r.value) due.now) }
+    ensures offered { OnOk result (AreOfferedAll h [] stores.old history.old (map (λ r. entry_of r.value) due.now) stores.new history.new) }
+{
+    let mut left = due;
+    while let Some((entry, rest)) = left.split_first() {
+        let shared = entry.clone()?;
+        history.push(shared)?;
+        let until = date_after(rest, h);
+        let (ahead, others) = rest.split_at(rest.len().min(AHEAD));
+        let beyond = date_after(others, h);
+        offer_all(stores, history, entry, until, ahead, beyond, steps)?;
+        left = rest;
+    }
+    Ok(())
+}
+
 /// Takes the entries dated before `h` out of the buffer in key order, adds each to the history, and
 /// offers it to all stores, which judge what they hold at the date of the next of these entries, and
-/// at `h` after the last.
+/// at `h` after the last. The list is filled anew, and keeps its memory.
 pub(crate) fn settle<L: Ledger>(
     stores: &mut [Store],
     history: &mut History,
     buffer: &mut Buffer,
+    due: &mut Vec<Rc<Entry>>,
     h: u64,
     steps: &mut Steps<L>,
 ) -> Result<(), NoMemory>
@@ -75,12 +128,10 @@ pub(crate) fn settle<L: Ledger>(
     ensures floor { history.new.floor ≡ history.old.floor }
     ensures settled { OnOk result (AreSettled stores.old history.old buffer.old h stores.new history.new buffer.new) }
 {
-    while let Some(entry) = buffer.release_before(h) {
-        let shared = entry.clone()?;
-        history.push(shared)?;
-        let until = date_after(buffer, h);
-        offer_all(stores, history, &entry, until, steps)?;
-    }
+    due.clear();
+    take_due(buffer, due, h)?;
+    settle_due(stores, history, due.as_slice(), h, steps)?;
+    due.clear();
     Ok(())
 }
 
@@ -128,6 +179,7 @@ pub(crate) fn mark_all<L: Ledger>(
     stores: &mut [Store],
     history: &mut History,
     buffer: &mut Buffer,
+    due: &mut Vec<Rc<Entry>>,
     h: u64,
     mark: Mark,
     steps: &mut Steps<L>,
@@ -142,7 +194,7 @@ pub(crate) fn mark_all<L: Ledger>(
     ensures floor { history.new.floor ≡ history.old.floor }
     ensures marked { IfOk result (AreMarked h mark stores.old history.old buffer.old stores.new history.new buffer.new) }
 {
-    settle(stores, history, buffer, h, steps)?;
+    settle(stores, history, buffer, due, h, steps)?;
     let answer = advance(alloc, stores, history, h, mark)?;
     Ok(answer)
 }

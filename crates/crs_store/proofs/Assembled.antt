@@ -1,10 +1,9 @@
 -- A store, from what is held.
-use Rattle.std.proofs.Common.{◌≡◌, ℕ, zero, suc, ◌≤◌, ◌+◌, ◌*◌, ◌^◌, List, [], ◌∷◌, ◌++◌, length, refl, sym, ap, subst, ◌∙◌, inl, inr, arith}
+use Rattle.std.proofs.Common.{◌≡◌, ℕ, zero, suc, ◌≤◌, ◌+◌, ◌*◌, ◌^◌, List, [], ◌∷◌, ◌++◌, length, sym, ap, subst, ◌∙◌, inl, inr, arith}
 use Rattle.std.specs.Prelude.{Option, Some, None, slice_get}
 use Rattle.std.proofs.Math.Nat.{mul_assoc}
 use Rattle.crs_agenda.specs.declared.timed.Handle.{Handle}
 use Rattle.crs_base.specs.Sifted.{Sifts}
-use Rattle.crs_base.specs.Words.{IsIn}
 use Rattle.crs_base.proofs.Words.{each_from_in}
 use Rattle.crs_index.specs.Indexes.{IndexState}
 use Rattle.crs_instance.specs.Instances.{InstanceState, IsOf}
@@ -17,12 +16,10 @@ use Rattle.crs_store.specs.declared.hooks.Hooks.{Hooks}
 use Rattle.crs_store.specs.Forkings.{KeepsStanding}
 use Rattle.std.specs.Prelude.{Bool, false}
 use Rattle.crs_store.specs.Hooks.{AreHooks, key_of}
-use Rattle.crs_store.specs.Joins.{Joins, Renews}
+use Rattle.crs_store.specs.Joins.{ComesTo, Renews}
 use Rattle.crs_store.specs.Links.{hook_at}
-use Rattle.crs_base.specs.Words.{Ordered}
 use Rattle.crs_store.specs.Ripenings.{AreLeft, LeftAt}
 use Rattle.crs_store.specs.Slots.{SlotsState, slot_at, members}
-use Rattle.crs_store.specs.Stores.{parts}
 use Rattle.crs_store.specs.Sweeps.{IsDone}
 use Rattle.crs_store.specs.Stores.{AllOf, IsStore}
 use Rattle.crs_store.specs.Tidy.{IsKnown, IsTidy, IsTidyHolding}
@@ -89,16 +86,13 @@ left_tidy plan focus hooks holding h tidy slots ripe left = record {
     was (Some k) (Some j) i e l = let s : j ≡ i = cc in (ap Some (sym l.0 ∙ s), λ d. l.1 (subst (IsDone plan h) (sym (sym l.0 ∙ s)) d))
 
 -- one that joins none is alone
-pub root_held : (i : InstanceState) (old born new : List InstanceState) → old ≡ [] → born ≡ i ∷ [] → Joins old born new → new ≡ i ∷ []
-root_held i old born new e f joins = alone new (joins.second i (subst (IsIn i) (sym f) (inl refl))) (λ j k. elim (joins.back j k) [
-  | inl a ↦ absurd (subst (IsIn j) e a)
-  | inr b ↦ elim (subst (IsIn j) f b) [ inl s ↦ s | inr never ↦ absurd never ]
-]) (joins.apart (subst (λ (t : List InstanceState). Ordered (λ a b. a ≡ b → ⊥) (parts t)) (sym (ap (λ (t : List InstanceState). t ++ born) e ∙ f)) (tt, tt)))
+pub root_held : (i : InstanceState) (old new : List InstanceState) → old ≡ [] → ComesTo i old new → new ≡ i ∷ []
+root_held i old new none c = by c.0 c.1 (sym c.2 ∙ none) c.3
   where
-    alone : (xs : List InstanceState) → IsIn i xs → ((j : InstanceState) → IsIn j xs → j ≡ i) → Ordered (λ a b. a ≡ b → ⊥) (parts xs) → xs ≡ i ∷ []
-    alone [] k all apart = absurd k
-    alone (x ∷ []) k all apart = ap (λ (t : InstanceState). t ∷ []) (all x (inl refl))
-    alone (x ∷ y ∷ xs) k all apart = absurd ((apart.0).0 (ap (λ (t : InstanceState). t.partial) (all x (inl refl) ∙ sym (all y (inr (inl refl))))))
+    by : (front back : List InstanceState) → front ++ back ≡ [] → new ≡ front ++ i ∷ back → new ≡ i ∷ []
+    by [] [] e f = f
+    by [] (y ∷ back) e f = absurd cc
+    by (y ∷ front) back e f = absurd cc
 
 -- ---- what is true of a store that goes on
 

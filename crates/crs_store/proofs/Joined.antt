@@ -14,7 +14,7 @@ use Rattle.crs_model.specs.declared.plan.Plan.{Plan}
 use Rattle.crs_model.specs.Partial.{Partial}
 use Rattle.crs_store.specs.declared.hooks.Hook.{Hook}
 use Rattle.crs_store.specs.Dues.{AreKept}
-use Rattle.crs_store.specs.Joins.{AreApart, Joins}
+use Rattle.crs_store.specs.Joins.{AreApart, IsPartOf, Joins, JoinsSome, LeavesOut}
 use Rattle.crs_model.specs.Bindings.{look_of}
 use Rattle.crs_model.specs.Plans.{chronicle}
 use Rattle.crs_model.proofs.Options.{of_some, some_if}
@@ -124,3 +124,57 @@ joins_more ones others all x front back next j e f = record {
   where
     into : (i : InstanceState) → IsIn i all → IsIn i next
     into i k = subst (IsIn i) (sym f) (between_in front x back i (subst (IsIn i) e k))
+
+-- the ones and the others are what joins them
+pub joins_both : (ones others : List InstanceState) → Joins ones others (ones ++ others)
+joins_both ones others = record { first = λ i k. in_append_left ones others i k; second = λ i k. in_append_right ones others i k; back = λ i k. in_append ones others i k; apart = λ a. a }
+
+-- ---- some are left out
+
+module _ (Out : InstanceState → Type 0) where
+  left_in : (xs kept : List InstanceState) → LeavesOut Out xs kept → (i : InstanceState) → IsIn i kept → IsIn i xs
+  left_in [] kept e i k = subst (IsIn i) e k
+  left_in (x ∷ xs) kept (inl s) i k = elim (subst (IsIn i) s.1 k) [ inl e ↦ inl e | inr j ↦ inr (left_in xs s.0 s.2 i j) ]
+  left_in (x ∷ xs) kept (inr s) i k = inr (left_in xs kept s.1 i k)
+
+  left_or : (xs kept : List InstanceState) → LeavesOut Out xs kept → (i : InstanceState) → IsIn i xs → IsIn i kept ⊎ Out i
+  left_or [] kept e i k = absurd k
+  left_or (x ∷ xs) kept (inl s) i k = elim k [
+    | inl e ↦ inl (subst (IsIn i) (sym s.1) (inl e))
+    | inr j ↦ elim (left_or xs s.0 s.2 i j) [ inl m ↦ inl (subst (IsIn i) (sym s.1) (inr m)) | inr o ↦ inr o ]
+  ]
+  left_or (x ∷ xs) kept (inr s) i k = elim k [ inl e ↦ inr (subst Out (sym e) s.0) | inr j ↦ left_or xs kept s.1 i j ]
+
+  parts_sub : (xs ys : List InstanceState) → ((i : InstanceState) → IsIn i ys → IsIn i xs) → (a : Partial Sym) → IsIn a (parts ys) → IsIn a (parts xs)
+  parts_sub xs ys sub a k =
+      let m = in_map_back (λ (t : InstanceState). t.partial) ys a k in
+      subst (λ (t : Partial Sym). IsIn t (parts xs)) (sym m.2) (in_map (λ (t : InstanceState). t.partial) xs m.0 (sub m.0 m.1))
+
+  kept_apart : (xs kept : List InstanceState) → LeavesOut Out xs kept → AreApart xs → AreApart kept
+  kept_apart [] kept e o = subst AreApart (sym e) tt
+  kept_apart (x ∷ xs) kept (inl s) o = subst AreApart (sym s.1) (
+    each_from_in (λ (z : Partial Sym). x.partial ≡ z → ⊥) (parts s.0) (λ z k. in_from_each (λ (y : Partial Sym). x.partial ≡ y → ⊥) (parts xs) o.0 z (parts_sub xs s.0 (left_in xs s.0 s.2) z k)),
+    kept_apart xs s.0 s.2 o.1,
+  )
+  kept_apart (x ∷ xs) kept (inr s) o = kept_apart xs kept s.1 o.1
+
+  both_apart : (us xs kept : List InstanceState) → LeavesOut Out xs kept → AreApart (us ++ xs) → AreApart (us ++ kept)
+  both_apart [] xs kept left o = kept_apart xs kept left o
+  both_apart (u ∷ us) xs kept left o = (
+    each_from_in (λ (z : Partial Sym). u.partial ≡ z → ⊥) (parts (us ++ kept)) (λ z k. in_from_each (λ (y : Partial Sym). u.partial ≡ y → ⊥) (parts (us ++ xs)) o.0 z (parts_sub (us ++ xs) (us ++ kept) (λ i j. elim (in_append us kept i j) [
+      | inl l ↦ in_append_left us xs i l
+      | inr r ↦ in_append_right us xs i (left_in xs kept left i r)
+    ]) z k)),
+    both_apart us xs kept left o.1,
+  )
+
+  -- what joins the ones and some of the others is part of both
+  pub part_of : (ones others all : List InstanceState) → JoinsSome Out ones others all → IsPartOf Out (ones ++ others) all
+  part_of ones others all j = record {
+    back = λ i k. elim (j.2.back i k) [ inl l ↦ in_append_left ones others i l | inr r ↦ in_append_right ones others i (left_in others j.0 j.1 i r) ];
+    apart = λ o. j.2.apart (both_apart ones others j.0 j.1 o);
+    each = λ i k. elim (in_append ones others i k) [
+      | inl l ↦ inl (j.2.first i l)
+      | inr r ↦ elim (left_or others j.0 j.1 i r) [ inl m ↦ inl (j.2.second i m) | inr o ↦ inr o ]
+    ];
+  }

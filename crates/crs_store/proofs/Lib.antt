@@ -1,3 +1,5 @@
+pub mod Ahead
+pub mod Hopeless
 pub mod Leaving
 pub mod Standing
 pub mod Marking
@@ -27,6 +29,5 @@ pub mod Walked
 pub mod Linked
 pub mod Registering
 pub mod Held
-pub mod Moved
 pub mod Assembled
 pub mod Passing

@@ -1,5 +1,5 @@
 -- What a store stands for where it passes over an entry that its chronicle doesn't look for.
-use Rattle.std.proofs.Common.{Bool, ◌≡◌, ℕ, zero, suc, ◌<◌, ◌≤◌, List, [], ◌∷◌, ◌++◌, length, map, refl, sym, subst, ◌∙◌, inl, inr, ◌⊎◌, arith, true, false, true≢false}
+use Rattle.std.proofs.Common.{Bool, ◌≡◌, ℕ, ◌<◌, ◌≤◌, List, [], ◌∷◌, ◌++◌, length, map, refl, sym, subst, ◌∙◌, inl, inr, ◌⊎◌, arith, true, false, true≢false}
 use Rattle.std.specs.Prelude.{ℤ, Some, slice_get, IsTrue, ◌↔◌, ◌==◌, Result, OnOk}
 use Rattle.std.specs.List.{AllZip, list_any}
 use Rattle.std.proofs.lemmas.Result.{on_ok_weaker}
@@ -19,7 +19,6 @@ use Rattle.crs_model.specs.Scans.{GrowsTo, GoesOnByLevel}
 use Rattle.crs_model.specs.Steps.{IsFresh}
 use Rattle.crs_model.specs.HasProgress.{Hits, Spares}
 use Rattle.crs_model.proofs.AllowedSays.{among_says}
-use Rattle.crs_model.proofs.ByLevel.{offered_until}
 use Rattle.crs_model.proofs.Opened.{in_place}
 use Rattle.crs_model.proofs.Options.{of_some, some_if}
 use Rattle.crs_model.proofs.Parts.{at_within, put_same}
@@ -29,10 +28,12 @@ use Rattle.crs_store.specs.declared.hooks.Hook.{Hook}
 use Rattle.crs_store.specs.Dues.{IsUntouched}
 use Rattle.crs_store.specs.Hooks.{name_of, IsHookOfEvent, IsHookOfWindow, AreHooks, LooksFor}
 use Rattle.crs_store.specs.Levels.{levels_in}
-use Rattle.crs_store.specs.Stores.{StoreState, IsStore, Stands, parts, levels_of, IsOfferedAt, IsOfferedUntil}
+use Rattle.crs_store.specs.Stores.{StoreState, IsStore, StandsAhead, parts, levels_of, IsOfferedAt, IsOfferedUntil}
 use Rattle.crs_store.specs.Windows.{IsOver, IsOpenAt}
+use Rattle.crs_store.proofs.Hopeless.{item_at}
 use Rattle.crs_store.proofs.Overs.{open_able}
-use Rattle.crs_store.proofs.Standing.{over_of, given_held, closed_held}
+use Rattle.crs_store.proofs.Ahead.{offered_ahead}
+use Rattle.crs_store.proofs.Standing.{over_of, given_ahead, closed_ahead}
 use Rattle.crs_store.proofs.Unmoved.{untouched_follows}
 
 -- ---- the names of hooks
@@ -85,11 +86,6 @@ spared look (NoEvent p) from to x other = tt
 spared look (Occurs least most p) from to x other = tt
 spared look (Hold name terms value) from to x other = λ a v is change dated. absurd (other (sym (change.named ∙ is.name_is)))
 
-item_at : {A : Type 0} (xs : List A) (k : ℕ) → k < length xs → (x : A) × (slice_get xs k ≡ Some x)
-item_at [] k l = absurd (omega arith)
-item_at (x ∷ xs) zero l = (x, refl)
-item_at (x ∷ xs) (suc k) l = item_at xs k (omega arith)
-
 module _ (plan : Plan) (x : Entry Sym) (other : LooksFor (chronicle plan) x.name → ⊥) where
   no_event : (e : ℕ) (v : EventDef Sym) → slice_get (chronicle plan).events e ≡ Some v → v.pattern.name ≡ x.name → ⊥
   no_event e v is n = other (inl (subst (λ (s : Sym). IsIn s (map (λ u. u.pattern.name) (chronicle plan).events)) n (in_map (λ u. u.pattern.name) (chronicle plan).events v (in_place (chronicle plan).events e v is))))
@@ -121,15 +117,15 @@ module _ (plan : Plan) (x : Entry Sym) (other : LooksFor (chronicle plan) x.name
 -- ---- the store
 
 -- what is held stands for the entry too, judged at the same date
-passed_over : (s : StoreState) → IsStore s → (x : Entry Sym) → (LooksFor (chronicle s.plan) x.name → ⊥) → (was settled : List (Entry Sym)) (d g : ℕ) → Stands s was settled settled d g → IsFresh settled x → d ≤ x.date
-    → Stands s was (settled ++ x ∷ []) (settled ++ x ∷ []) d g
-passed_over s is x other was settled d g stands fresh later =
+passed_over : (s : StoreState) → IsStore s → (x : Entry Sym) → (LooksFor (chronicle s.plan) x.name → ⊥) → (was settled later : List (Entry Sym)) (d g h : ℕ) → StandsAhead s was settled settled (x ∷ later) d g h → IsFresh settled x → d ≤ x.date
+    → StandsAhead s was (settled ++ x ∷ []) (settled ++ x ∷ []) later d g h
+passed_over s is x other was settled later d g h stands fresh dated =
     let plan = s.plan in
     let focus = s.focus in
     let now = settled ++ x ∷ [] in
     let one = stands.stands in
-    let over = over_of plan focus settled settled d s.held (given_held (chronicle plan) (levels_of s) (parts s.held) was settled settled d g one) (closed_held (chronicle plan) (levels_of s) (parts s.held) was settled settled d g one) stands.follows in
-    let follows : (i : InstanceState) → IsIn i s.held → Follows plan now d i = (λ i j. untouched_follows plan i x d later settled (untouched plan x other i) (in_from_each (Follows plan settled d) s.held stands.follows i j)) in
+    let over = over_of plan focus settled settled d s.held (given_ahead (chronicle plan) (levels_of s) (parts s.held) was settled settled (x ∷ later) d g h one) (closed_ahead (chronicle plan) (levels_of s) (parts s.held) was settled settled (x ∷ later) d g h one) stands.follows in
+    let follows : (i : InstanceState) → IsIn i s.held → Follows plan now d i = (λ i j. untouched_follows plan i x d dated settled (untouched plan x other i) (in_from_each (Follows plan settled d) s.held stands.follows i j)) in
     let fine : (a : Partial Sym) → IsIn a (parts s.held) → IsOpenAt plan focus now now d a = (λ a j.
     let r = in_map_back (λ (i : InstanceState). i.partial) s.held a j in
     let of = in_from_each (IsOf plan) s.held is.instances r.0 r.1 in
@@ -137,17 +133,17 @@ passed_over s is x other was settled d g stands fresh later =
     let is_over : IsOver plan focus now now d r.0 = record { given = λ e y k. in_append_left settled (x ∷ []) y (was_over.given e y k); closed = was_over.closed; follows = follows r.0 r.1 } in
     subst (IsOpenAt plan focus now now d) (sym r.2) ((open_able plan focus now now d r.0 of is_over).1 ((open_able plan focus settled settled d r.0 of was_over).0 (subst (IsOpenAt plan focus settled settled d) r.2 (one.each a j).0)))) in
     record {
-      stands = offered_until (chronicle plan) (levels_of s) (parts s.held) (parts s.held) was settled settled d d g x one fresh later (omega arith) (same_image plan x other focus now now d (parts s.held) one.distinct fine);
+      stands = offered_ahead (chronicle plan) (levels_of s) settled settled was later d d g h (omega arith) x dated fresh (parts s.held) (parts s.held) one (same_image plan x other focus now now d (parts s.held) one.distinct fine);
       follows = each_from_in (Follows plan now d) s.held follows;
       judged = stands.judged;
     }
 
 -- so it was offered the entry
-pub offered_other : (seen old : StoreState) (history : HistoryState) (x : Entry Sym) (until : ℕ) → x.date ≤ until → seen ≡ old → IsStore seen → (LooksFor (chronicle seen.plan) x.name → ⊥) → IsOfferedUntil old history x until old
-offered_other seen old history x until up view is other =
-    subst (λ (o : StoreState). IsOfferedUntil o history x until o) view
-    (λ was settled d g stands kept far few fresh later. (d, omega arith, omega arith, λ looked. absurd (other looked), passed_over seen is x other was settled d g stands fresh later))
+pub offered_other : (seen old : StoreState) (history : HistoryState) (x : Entry Sym) (until : ℕ) (ahead : List (Entry Sym)) (beyond : ℕ) → x.date ≤ until → seen ≡ old → IsStore seen → (LooksFor (chronicle seen.plan) x.name → ⊥) → IsOfferedUntil old history x until ahead beyond old
+offered_other seen old history x until ahead beyond up view is other =
+    subst (λ (o : StoreState). IsOfferedUntil o history x until ahead beyond o) view
+    (λ was settled later d g h stands coming kept far few fresh dated. (d, omega arith, omega arith, λ looked. absurd (other looked), passed_over seen is x other was settled later d g h stands fresh dated))
 
 -- what was judged at `until` was offered the entry
-pub offered_so : {E : Type 0} (r : Result Unit E) (old new : StoreState) (history : HistoryState) (x : Entry Sym) (until : ℕ) → x.date ≤ until → OnOk r (IsOfferedAt old history x until new) → OnOk r (IsOfferedUntil old history x until new)
-offered_so r old new history x until up = on_ok_weaker r (λ h was settled d g stands kept far few fresh later. (until, omega arith, omega arith, λ looked. refl, h was settled d g stands kept far few fresh later))
+pub offered_so : {E : Type 0} (r : Result Unit E) (old new : StoreState) (history : HistoryState) (x : Entry Sym) (until : ℕ) (ahead : List (Entry Sym)) (beyond : ℕ) → x.date ≤ until → OnOk r (IsOfferedAt old history x until ahead beyond new) → OnOk r (IsOfferedUntil old history x until ahead beyond new)
+offered_so r old new history x until ahead beyond up = on_ok_weaker r (λ k was settled later d g h stands coming kept far few fresh dated. (until, omega arith, omega arith, λ looked. refl, k was settled later d g h stands coming kept far few fresh dated))

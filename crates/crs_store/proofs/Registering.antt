@@ -1,5 +1,5 @@
 -- What is found again of an instance that comes.
-use Rattle.std.proofs.Common.{Bool, ◌≡◌, ℕ, List, [], ◌∷◌, ◌++◌, refl, sym, ap, subst, ◌∙◌, inl, arith, append-nil, append_assoc}
+use Rattle.std.proofs.Common.{Bool, ◌≡◌, ℕ, List, [], ◌∷◌, ◌++◌, refl, sym, ap, subst, ◌∙◌, inl, arith, append-nil, append_assoc, inr}
 use Rattle.std.specs.Prelude.{Some, None, slice_get}
 use Rattle.std.proofs.lemmas.Int.{ints}
 use Rattle.crs_agenda.specs.declared.timed.Handle.{Handle}
@@ -25,7 +25,7 @@ use Rattle.crs_store.specs.Windows.{IsAble}
 use Rattle.crs_store.proofs.Advancing.{all_some_of}
 use Rattle.std.specs.List.{AllByRecursion}
 use Rattle.crs_base.proofs.Words.{in_from_each, in_append_left, in_append_right}
-use Rattle.crs_store.specs.Joins.{ComesTo, Joins}
+use Rattle.crs_store.specs.Joins.{ComesOrGoes, Joins, JoinsSome, LeavesOut}
 use Rattle.crs_store.proofs.Joined.{put_tidy, joins_none, joins_more}
 use Rattle.crs_store.proofs.Unmoved.{done_ended, done_undue}
 
@@ -83,25 +83,43 @@ held_registered plan focus hooks h old slots p i puts new r of able undone tidy 
 -- ---- one after another
 
 -- those behind the rest have come
-pub record IsHeldTo (plan : Plan) (focus : Bool) (hooks : Hooks) (h : ℕ) (old : Holding) (born rest : List InstanceState) (now : Holding) : Type 0 where
+pub record IsHeldTo (plan : Plan) (focus : Bool) (hooks : Hooks) (h : ℕ) (Out : InstanceState → Type 0) (old : Holding) (born rest : List InstanceState) (now : Holding) : Type 0 where
   pub tidy : IsTidyHolding plan focus hooks now h
+  pub met : List InstanceState
+  pub all : born ≡ rest ++ met
   pub come : List InstanceState
-  pub all : born ≡ rest ++ come
+  pub left : LeavesOut Out met come
   pub joins : Joins (members old.slots.slots) come (members now.slots.slots)
 
-pub held_none : (plan : Plan) (focus : Bool) (hooks : Hooks) (h : ℕ) (old : Holding) (born : List InstanceState) → IsTidyHolding plan focus hooks old h → IsHeldTo plan focus hooks h old born born old
-held_none plan focus hooks h old born tidy = record { tidy = tidy; come = []; all = sym (append-nil born); joins = joins_none (members old.slots.slots) }
+module _ (plan : Plan) (focus : Bool) (hooks : Hooks) (h : ℕ) (Out : InstanceState → Type 0) (old : Holding) (born : List InstanceState) where
+  pub held_none : IsTidyHolding plan focus hooks old h → IsHeldTo plan focus hooks h Out old born born old
+  held_none tidy = record { tidy = tidy; met = []; all = sym (append-nil born); come = []; left = refl; joins = joins_none (members old.slots.slots) }
 
-pub held_more : (plan : Plan) (focus : Bool) (hooks : Hooks) (h : ℕ) (old : Holding) (born rest left : List InstanceState) (now new : Holding) (i : InstanceState) → IsHeldTo plan focus hooks h old born rest now → rest ≡ left ++ i ∷ [] → IsTidyHolding plan focus hooks new h → ComesTo i (members now.slots.slots) (members new.slots.slots) → IsHeldTo plan focus hooks h old born left new
-held_more plan focus hooks h old born rest left now new i held is tidy comes = record {
-  tidy = tidy;
-  come = i ∷ held.come;
-  all = held.all ∙ ap (λ (t : List InstanceState). t ++ held.come) is ∙ append_assoc left (i ∷ []) held.come;
-  joins = joins_more (members old.slots.slots) held.come (members now.slots.slots) i comes.0 comes.1 (members new.slots.slots) held.joins comes.2 comes.3;
-}
+  pub held_more : (rest left : List InstanceState) (now new : Holding) (i : InstanceState) → IsHeldTo plan focus hooks h Out old born rest now → rest ≡ left ++ i ∷ [] → IsTidyHolding plan focus hooks new h → ComesOrGoes Out i (members now.slots.slots) (members new.slots.slots) → IsHeldTo plan focus hooks h Out old born left new
+  held_more rest left now new i held is tidy comes = elim comes [
+    | inl c ↦ record {
+      tidy = tidy;
+      met = i ∷ held.met;
+      all = longer;
+      come = i ∷ held.come;
+      left = inl (held.come, refl, held.left);
+      joins = joins_more (members old.slots.slots) held.come (members now.slots.slots) i c.0 c.1 (members new.slots.slots) held.joins c.2 c.3;
+    }
+    | inr g ↦ record {
+      tidy = tidy;
+      met = i ∷ held.met;
+      all = longer;
+      come = held.come;
+      left = inr (g.0, held.left);
+      joins = subst (λ (t : List InstanceState). Joins (members old.slots.slots) held.come t) (sym g.1) held.joins;
+    }
+  ]
+    where
+      longer : born ≡ left ++ i ∷ held.met
+      longer = held.all ∙ ap (λ (t : List InstanceState). t ++ held.met) is ∙ append_assoc left (i ∷ []) held.met
 
-pub held_each : (P : InstanceState → Type 0) (plan : Plan) (focus : Bool) (hooks : Hooks) (h : ℕ) (old : Holding) (born rest left : List InstanceState) (now : Holding) (i : InstanceState) → IsHeldTo plan focus hooks h old born rest now → rest ≡ left ++ i ∷ [] → AllByRecursion P born → P i
-held_each P plan focus hooks h old born rest left now i held is all = in_from_each P born all i (subst (IsIn i) (sym (held.all ∙ ap (λ (t : List InstanceState). t ++ held.come) is)) (in_append_left (left ++ i ∷ []) held.come i (in_append_right left (i ∷ []) i (inl refl))))
+  pub held_each : (P : InstanceState → Type 0) (rest left : List InstanceState) (now : Holding) (i : InstanceState) → IsHeldTo plan focus hooks h Out old born rest now → rest ≡ left ++ i ∷ [] → AllByRecursion P born → P i
+  held_each P rest left now i held is all = in_from_each P born all i (subst (IsIn i) (sym (held.all ∙ ap (λ (t : List InstanceState). t ++ held.met) is)) (in_append_left (left ++ i ∷ []) held.met i (in_append_right left (i ∷ []) i (inl refl))))
 
-pub held_whole : (plan : Plan) (focus : Bool) (hooks : Hooks) (h : ℕ) (old : Holding) (born rest : List InstanceState) (now : Holding) → IsHeldTo plan focus hooks h old born rest now → rest ≡ [] → Joins (members old.slots.slots) born (members now.slots.slots)
-held_whole plan focus hooks h old born rest now held is = subst (λ (t : List InstanceState). Joins (members old.slots.slots) t (members now.slots.slots)) (sym (held.all ∙ ap (λ (t : List InstanceState). t ++ held.come) is)) held.joins
+  pub held_whole : (rest : List InstanceState) (now : Holding) → IsHeldTo plan focus hooks h Out old born rest now → rest ≡ [] → JoinsSome Out (members old.slots.slots) born (members now.slots.slots)
+  held_whole rest now held is = (held.come, subst (λ (t : List InstanceState). LeavesOut Out t held.come) (sym (held.all ∙ ap (λ (t : List InstanceState). t ++ held.met) is)) held.left, held.joins)

@@ -1,12 +1,13 @@
 -- What a store stands for after a call.
 use Rattle.std.proofs.Common.{◌≡◌, ℕ, suc, ◌<◌, ◌≤◌, List, [], ◌∷◌, ◌++◌, length, refl, sym, ap, subst, ◌∙◌, inl, inr, ◌⊎◌, arith}
-use Rattle.std.specs.Prelude.{Option, Some, None, IfSome, IsSomeAnd, replicate, slice_get, Bool}
+use Rattle.std.specs.Prelude.{Option, Some, None, IfSome, IsSomeAnd, replicate, slice_get, Bool, Result, OnOk}
 use Rattle.std.specs.List.{AllByRecursion, AllZip}
+use Rattle.std.proofs.lemmas.Result.{on_ok_weaker}
 use Rattle.std.proofs.lemmas.List.{ext_get_or, length-replicate, length-map}
 use Rattle.crs_base.specs.declared.symbols.Sym.{Sym}
 use Rattle.crs_base.specs.Words.{IsIn}
 use Rattle.crs_base.specs.Entry.{Entry}
-use Rattle.crs_base.proofs.Words.{each_from_in, in_from_each, in_map}
+use Rattle.crs_base.proofs.Words.{each_from_in, in_from_each, in_map, in_map_back}
 use Rattle.crs_history.specs.Histories.{HistoryState}
 use Rattle.crs_history.proofs.FarBack.{far_later}
 use Rattle.crs_model.specs.declared.plan.Plan.{Plan}
@@ -18,15 +19,17 @@ use Rattle.crs_model.specs.Steps.{IsFresh}
 use Rattle.crs_model.specs.Seen.{event_of}
 use Rattle.crs_model.proofs.Options.{of_some, some_if, cases_of}
 use Rattle.crs_model.proofs.Offers.{recognised_full}
-use Rattle.crs_model.proofs.ByLevel.{offered_until}
 use Rattle.crs_instance.specs.Instances.{InstanceState, IsOf}
 use Rattle.crs_instance.specs.Followed.{Follows}
 use Rattle.crs_instance.proofs.GoesOn.{root_goes_on}
 use Rattle.crs_instance.proofs.BindAnswers.{get-replicate}
-use Rattle.crs_store.specs.Stores.{parts, AllOf, StoreState, IsStore, Stands, IsSameStore, levels_of, IsOfferedAt}
+use Rattle.crs_store.specs.Ahead.{IsWanted, StandsUpTo, AreAhead, MayGo}
+use Rattle.crs_store.specs.Stores.{parts, AllOf, StoreState, IsStore, Stands, StandsAhead, IsSameStore, levels_of, IsOffered, IsOfferedAt}
 use Rattle.crs_store.specs.Levels.{levels_in}
 use Rattle.crs_store.specs.Windows.{IsAble, IsOver, IsOpenAt, IsSameInstance}
-use Rattle.crs_store.specs.Sweeps.{IsFree, IsReady, TakesIn}
+use Rattle.crs_store.specs.Sweeps.{IsFree, IsReady, TakesIn, TakesInSome}
+use Rattle.crs_store.proofs.Ahead.{stands_ahead, ahead_stands, some_stand, offered_ahead}
+use Rattle.crs_store.proofs.Hopeless.{hopeless_unwanted}
 use Rattle.crs_store.proofs.Overs.{open_able, floor_early}
 use Rattle.crs_store.proofs.Progress.{still_of}
 
@@ -67,15 +70,15 @@ follows_of plan focus pool entries n is over = each_from_in (Follows plan entrie
 
 -- ---- an entry is offered
 
-pub given_held : (c : Chronicle Sym) (level : ℕ → ℕ) (held : List (Partial Sym)) (was pool entries : List (Entry Sym)) (d g : ℕ) → StandsFor c level held was pool entries d g → (a : Partial Sym) → IsIn a held → (e : ℕ) (y : Entry Sym) → at a e ≡ Some y → IsIn y pool
-given_held c level held was pool entries d g stands a i e y j = of_some (at a e) y _ j ((stands.each a i).0.partial.given e)
+pub given_ahead : (c : Chronicle Sym) (level : ℕ → ℕ) (held : List (Partial Sym)) (was pool entries later : List (Entry Sym)) (d g h : ℕ) → StandsUpTo c level held was pool entries later d g h → (a : Partial Sym) → IsIn a held → (e : ℕ) (y : Entry Sym) → at a e ≡ Some y → IsIn y pool
+given_ahead c level held was pool entries later d g h stands a i e y j = of_some (at a e) y _ j ((stands.each a i).0.partial.given e)
 
-pub closed_held : (c : Chronicle Sym) (level : ℕ → ℕ) (held : List (Partial Sym)) (was pool entries : List (Entry Sym)) (d g : ℕ) → StandsFor c level held was pool entries d g → (a : Partial Sym) → IsIn a held → IsLevelClosed level a
-closed_held c level held was pool entries d g stands a i = (stands.each a i).0.closed
+pub closed_ahead : (c : Chronicle Sym) (level : ℕ → ℕ) (held : List (Partial Sym)) (was pool entries later : List (Entry Sym)) (d g h : ℕ) → StandsUpTo c level held was pool entries later d g h → (a : Partial Sym) → IsIn a held → IsLevelClosed level a
+closed_ahead c level held was pool entries later d g h stands a i = (stands.each a i).0.closed
 
 -- no instance gives a new entry
-ready : (c : Chronicle Sym) (level : ℕ → ℕ) (held : List (Partial Sym)) (was pool entries : List (Entry Sym)) (d g : ℕ) (x : Entry Sym) → StandsFor c level held was pool entries d g → IsFresh pool x → IsReady x held
-ready c level held was pool entries d g x stands fresh = (each_from_in (IsFree x) held (λ a i e j. fresh x (given_held c level held was pool entries d g stands a i e x j) refl), stands.distinct)
+ready : (c : Chronicle Sym) (level : ℕ → ℕ) (held : List (Partial Sym)) (was pool entries later : List (Entry Sym)) (d g h : ℕ) (x : Entry Sym) → StandsUpTo c level held was pool entries later d g h → IsFresh pool x → IsReady x held
+ready c level held was pool entries later d g h x stands fresh = (each_from_in (IsFree x) held (λ a i e j. fresh x (given_ahead c level held was pool entries later d g h stands a i e x j) refl), stands.distinct)
 
 -- what was shown of the levels of one store is so of another with the same plan and focus
 pub same_levels : (old new : StoreState) → IsSameStore old new → (was pool entries : List (Entry Sym)) (d g : ℕ) (held : List (Partial Sym)) → StandsFor (chronicle old.plan) (levels_of old) held was pool entries d g → StandsFor (chronicle new.plan) (levels_of new) held was pool entries d g
@@ -83,25 +86,63 @@ same_levels old new same was pool entries d g held h =
     subst (λ (b : Bool). StandsFor (chronicle new.plan) (levels_in new.plan b) held was pool entries d g) (sym same.focus)
     (subst (λ (p : Plan). StandsFor (chronicle p) (levels_in p old.focus) held was pool entries d g) (sym same.plan) h)
 
-pub store_offered : (old new : StoreState) (history : HistoryState) (x : Entry Sym) (until : ℕ) → x.date ≤ until → IsStore old → IsSameStore old new → new.date ≡ until → TakesIn old.plan old.focus history x until old.date old.held new.held → IsOfferedAt old history x until new
-store_offered old new history x until up is same judged takes was settled d g stands kept far few fresh later =
+pub same_levels_ahead : (old new : StoreState) → IsSameStore old new → (was pool entries later : List (Entry Sym)) (d g h : ℕ) (held : List (Partial Sym)) → StandsUpTo (chronicle old.plan) (levels_of old) held was pool entries later d g h → StandsUpTo (chronicle new.plan) (levels_of new) held was pool entries later d g h
+same_levels_ahead old new same was pool entries later d g h held k =
+    subst (λ (b : Bool). StandsUpTo (chronicle new.plan) (levels_in new.plan b) held was pool entries later d g h) (sym same.focus)
+    (subst (λ (p : Plan). StandsUpTo (chronicle p) (levels_in p old.focus) held was pool entries later d g h) (sym same.plan) k)
+
+-- a store that stands for what is settled does so with anything ahead
+pub ahead_of : (s : StoreState) (was pool entries later : List (Entry Sym)) (d g h : ℕ) → Stands s was pool entries d g → StandsAhead s was pool entries later d g h
+ahead_of s was pool entries later d g h k = record { stands = stands_ahead (chronicle s.plan) (levels_of s) (parts s.held) was pool entries d g k.stands later h; follows = k.follows; judged = k.judged }
+
+-- one that was judged at the last date, with nothing ahead, stands for what is settled
+exact_now : (s : StoreState) (was pool entries : List (Entry Sym)) (d g : ℕ) → StandsAhead s was pool entries [] d g d → Stands s was pool entries d g
+exact_now s was pool entries d g k = record { stands = ahead_stands (chronicle s.plan) (levels_of s) (parts s.held) was pool entries d g k.stands; follows = k.follows; judged = k.judged }
+
+parts_back : (made some : List InstanceState) → ((i : InstanceState) → IsIn i some → IsIn i made) → (a : Partial Sym) → IsIn a (parts some) → IsIn a (parts made)
+parts_back made some back a k =
+    let m = in_map_back (λ (t : InstanceState). t.partial) some a k in
+    subst (λ (t : Partial Sym). IsIn t (parts made)) (sym m.2) (in_map (λ (t : InstanceState). t.partial) made m.0 (back m.0 m.1))
+
+-- what is wanted isn't left out
+wanted_stays : (plan : Plan) → IsProper plan → (focus : Bool) (pool entries later ahead : List (Entry Sym)) (beyond h : ℕ) (made some : List InstanceState) → AreAhead ahead beyond later h → ((i : InstanceState) → IsIn i made → IsIn i some ⊎ MayGo plan focus ahead beyond i)
+    → (a : Partial Sym) → IsIn a (parts made) → IsWanted (chronicle plan) (levels_in plan focus) pool entries later h a → IsIn a (parts some)
+wanted_stays plan proper focus pool entries later ahead beyond h made some coming each a k w =
+    let m = in_map_back (λ (t : InstanceState). t.partial) made a k in
+    subst (λ (t : Partial Sym). IsIn t (parts some)) (sym m.2) (elim (each m.0 m.1) [
+      | inl i ↦ in_map (λ (t : InstanceState). t.partial) some m.0 i
+      | inr o ↦ absurd (hopeless_unwanted plan proper focus pool entries later ahead beyond h m.0 coming o (subst (IsWanted (chronicle plan) (levels_in plan focus) pool entries later h) m.2 w))
+    ])
+
+store_offered : (old new : StoreState) (history : HistoryState) (x : Entry Sym) (until : ℕ) (ahead : List (Entry Sym)) (beyond : ℕ) → x.date ≤ until → IsStore old → IsSameStore old new → new.date ≡ until → TakesInSome old.plan old.focus history x until old.date ahead beyond old.held new.held → IsOfferedAt old history x until ahead beyond new
+store_offered old new history x until ahead beyond up is same judged takes was settled later d g h stands coming kept far few fresh dated =
     let c = chronicle old.plan in
     let level = levels_of old in
+    let now : List (Entry Sym) = settled ++ x ∷ [] in
     let one = stands.stands in
     let far_d = far_later old.plan.reach g d history.floor one.marked far in
-    let over : AllByRecursion (IsOver old.plan old.focus settled settled d) old.held = over_of old.plan old.focus settled settled d old.held (given_held c level (parts old.held) was settled settled d g one) (closed_held c level (parts old.held) was settled settled d g one) stands.follows in
-    let taken_in = subst (λ (k : ℕ). TakesIn old.plan old.focus history x until k old.held new.held) stands.judged takes in
-    let r = taken_in settled later up (record { kept = kept; few = few; far = far_d }) (floor_early old.plan is.proper d history.floor far_d) over (ready c level (parts old.held) was settled settled d g x one fresh) in
+    let over : AllByRecursion (IsOver old.plan old.focus settled settled d) old.held = over_of old.plan old.focus settled settled d old.held (given_ahead c level (parts old.held) was settled settled (x ∷ later) d g h one) (closed_ahead c level (parts old.held) was settled settled (x ∷ later) d g h one) stands.follows in
+    let made : List InstanceState = takes.0 in
+    let taken_in = subst (λ (k : ℕ). TakesIn old.plan old.focus history x until k old.held made) stands.judged takes.1 in
+    let r = taken_in settled dated up (record { kept = kept; few = few; far = far_d }) (floor_early old.plan is.proper d history.floor far_d) over (ready c level (parts old.held) was settled settled (x ∷ later) d g h x one fresh) in
+    let all = offered_ahead c level settled settled was later d until g h (omega arith) x dated fresh (parts old.held) (parts made) one r.0 in
+    let some = some_stand c level (parts made) (parts new.held) was now now later until g h all (takes.2.apart all.distinct) (parts_back made new.held takes.2.back) (wanted_stays old.plan is.proper old.focus now now later ahead beyond h made new.held coming takes.2.each) in
     record {
-      stands = same_levels old new same was (settled ++ x ∷ []) (settled ++ x ∷ []) until g (parts new.held) (offered_until c level (parts old.held) (parts new.held) was settled settled d until g x one fresh later (omega arith) r.0);
-      follows = subst (λ (p : Plan). AllByRecursion (Follows p (settled ++ x ∷ []) until) new.held) (sym same.plan) (follows_of old.plan old.focus (settled ++ x ∷ []) (settled ++ x ∷ []) until new.held r.1);
+      stands = same_levels_ahead old new same was now now later until g h (parts new.held) some;
+      follows = subst (λ (p : Plan). AllByRecursion (Follows p now until) new.held) (sym same.plan) (each_from_in (Follows old.plan now until) new.held (λ i k. (in_from_each (IsOver old.plan old.focus now now until) made r.1 i (takes.2.back i k)).follows));
       judged = judged;
     }
 
-pub offered_from : (seen old new : StoreState) (history : HistoryState) (x : Entry Sym) (until : ℕ) → x.date ≤ until → (p : Plan) → seen ≡ old → IsStore seen → p ≡ seen.plan → IsSameStore seen new → new.date ≡ until → TakesIn p seen.focus history x until seen.date seen.held new.held → IsOfferedAt old history x until new
-offered_from seen old new history x until up p view is sp same judged takes =
-    subst (λ (o : StoreState). IsOfferedAt o history x until new) view
-    (store_offered seen new history x until up is same judged (subst (λ (t : Plan). TakesIn t seen.focus history x until seen.date seen.held new.held) sp takes))
+pub offered_from : (seen old new : StoreState) (history : HistoryState) (x : Entry Sym) (until : ℕ) (ahead : List (Entry Sym)) (beyond : ℕ) → x.date ≤ until → (p : Plan) → seen ≡ old → IsStore seen → p ≡ seen.plan → IsSameStore seen new → new.date ≡ until → TakesInSome p seen.focus history x until seen.date ahead beyond seen.held new.held → IsOfferedAt old history x until ahead beyond new
+offered_from seen old new history x until ahead beyond up p view is sp same judged takes =
+    subst (λ (o : StoreState). IsOfferedAt o history x until ahead beyond new) view
+    (store_offered seen new history x until ahead beyond up is same judged (subst (λ (t : Plan). TakesInSome t seen.focus history x until seen.date ahead beyond seen.held new.held) sp takes))
+
+-- what is judged at its date, with nothing ahead, is exact
+pub offered_alone : {E : Type 0} (r : Result Unit E) (old new : StoreState) (history : HistoryState) (x : Entry Sym) → OnOk r (IsOfferedAt old history x x.date [] x.date new) → OnOk r (IsOffered old history x new)
+offered_alone r old new history x = on_ok_weaker r (λ h was settled d g stands kept far few fresh later.
+    exact_now new was (settled ++ x ∷ []) (settled ++ x ∷ []) x.date g
+    (h was settled [] d g x.date (ahead_of old was settled settled (x ∷ []) d g x.date stands) (record { each = λ y i. absurd i; within = omega arith }) kept far few fresh later))
 
 -- ---- the root alone
 

@@ -1,6 +1,6 @@
 -- What a mark answers of a chronicle.
-use Rattle.std.specs.Prelude.{◌≡◌, ◌<◌, ◌≤◌, ◌^◌, ℕ, List, map, length, Bool, Option, Some, None}
-use Rattle.std.specs.List.{AllByRecursion, AllZip}
+use Rattle.std.specs.Prelude.{◌≡◌, ◌<◌, ◌≤◌, ◌^◌, ℕ, List, [], map, length, Bool, Option, Some, None}
+use Rattle.std.specs.List.{AllByRecursion}
 use Rattle.crs_base.specs.declared.symbols.Sym.{Sym}
 use Rattle.crs_base.specs.Words.{IsIn, Ordered}
 use Rattle.crs_base.specs.Entry.{Entry}
@@ -17,9 +17,10 @@ use Rattle.crs_model.specs.Plans.{chronicle}
 use Rattle.crs_model.specs.Seen.{assignment_of, given}
 use Rattle.crs_history.specs.Histories.{HistoryState, IsFarBack, StandsFor as HistoryStandsFor}
 use Rattle.crs_instance.specs.Instances.{InstanceState}
-use Rattle.crs_store.specs.Stores.{StoreState, Stands, parts}
-use Rattle.crs_store.specs.Sweeps.{IsDone, CanWait}
-use Rattle.crs_store.specs.Windows.{IsPassed}
+use Rattle.crs_store.specs.Joins.{Renews}
+use Rattle.crs_store.specs.Stores.{StoreState, Stands, StandsAhead, parts}
+use Rattle.crs_store.specs.Sweeps.{IsDone}
+use Rattle.crs_store.specs.Windows.{IsAble, IsPassed}
 use Rattle.crs_base.specs.Sifted.{Sifts}
 use Rattle.crs_model.specs.declared.plan.Plan.{Plan}
 use Rattle.std.specs.Ordering.{is_lt}
@@ -44,10 +45,10 @@ pub record IsMarked (old new : StoreState) (mark : Mark) (was pool entries : Lis
   pub stands : Stands new pool pool entries h h
   pub answers : IsAnswer (chronicle old.plan) old.number mark was pool entries g h answer
 
--- where the history stands for what is settled, which are fewer than 2^32, dated before h and in the order of its dates, no two entries of the pool have one arrival number, and d isn't after h
+-- where all is settled that comes before h, the history stands for it, it is fewer than 2^32 entries, dated before h and in the order of its dates, no two entries of the pool have one arrival number, and d isn't after h
 abbrev pub IsAdvanced : StoreState → HistoryState → ℕ → Mark → StoreState → List Recognition → Type 0
 IsAdvanced old history h mark new answer =
-    (was pool settled : List (Entry Sym)) (d g : ℕ) → Stands old was pool settled d g →
+    (was pool settled : List (Entry Sym)) (d g : ℕ) → StandsAhead old was pool settled [] d g h →
     HistoryStandsFor settled history → IsFarBack old.plan.reach g history.floor → length settled < 2 ^ 32 → AreDistinct pool → d ≤ h →
     ((e : Entry Sym) → IsIn e settled → e.date < h) → Ordered (λ d e. d.date ≤ e.date) settled →
     IsMarked old new mark was pool settled g h answer
@@ -92,9 +93,9 @@ pub record AreFoundInOrder (plan : Plan) (h number : ℕ) (mark : Mark) (held : 
   pub moved : IsPermutation found answer
   pub sorted : IsSortedBy (λ r s. is_lt (answer_cmp r s)) answer
 
--- the instances pass the dates up to h; what is found among them then is the answer, and those that can wait stay
+-- the instances pass the dates up to h, and those that are able then stay; what is found among them is the answer, and the others are left
 pub record MovesOn (plan : Plan) (focus : Bool) (history : HistoryState) (since h number : ℕ) (mark : Mark) (old new : List InstanceState) (answer : List Recognition) : Type 0 where
-  pub between : List InstanceState
-  pub passed : AllZip (IsPassed plan history since h) old between
-  pub found : AreFoundInOrder plan h number mark between answer
-  pub left : Sifts (CanWait plan focus h) between new
+  pub able : List InstanceState
+  pub passed : Renews (IsPassed plan history since h) (IsAble plan focus h) old able
+  pub found : AreFoundInOrder plan h number mark able answer
+  pub left : Sifts (λ i. IsDone plan h i → ⊥) able new

@@ -1,4 +1,5 @@
 pub mod Levels
+pub mod Ahead
 pub mod Stores
 pub mod Windows
 pub mod Judged

@@ -11,6 +11,7 @@ use Rattle.crs_model.specs.Open.{StandsFor}
 use Rattle.crs_history.specs.Histories.{HistoryState, IsFarBack, StandsFor as HistoryStandsFor}
 use Rattle.crs_instance.specs.Instances.{InstanceState, IsOf}
 use Rattle.crs_instance.specs.Followed.{Follows}
+use Rattle.crs_store.specs.Ahead.{StandsUpTo, AreAhead}
 use Rattle.crs_store.specs.Hooks.{LooksFor}
 use Rattle.crs_store.specs.Levels.{levels_in}
 
@@ -52,20 +53,29 @@ pub record IsSameStore (old new : StoreState) : Type 0 where
   pub number : new.number ≡ old.number
   pub focus : new.focus ≡ old.focus
 
--- After x was offered, whose arrival number is new, whose date isn't before d, and which the history has as its last, and all was judged at a date. The pool is what is settled, which are fewer than 2^32, and g is the horizon of the last mark.
-abbrev pub IsOfferedAt : StoreState → HistoryState → Entry Sym → ℕ → StoreState → Type 0
-IsOfferedAt old history x n new =
+-- The same where the later entries come next, up to h: what can't be recognised with them may be left out.
+pub record StandsAhead (s : StoreState) (was pool entries later : List (Entry Sym)) (d g h : ℕ) : Type 0 where
+  pub stands : StandsUpTo (chronicle s.plan) (levels_of s) (parts s.held) was pool entries later d g h
+  pub follows : AllByRecursion (Follows s.plan entries d) s.held
+  pub judged : s.date ≡ d
+
+-- After x was offered, whose arrival number is new, whose date isn't before d, and which the history has as its last, and all was judged at its date. The pool is what is settled, which are fewer than 2^32, and g is the horizon of the last mark.
+abbrev pub IsOffered : StoreState → HistoryState → Entry Sym → StoreState → Type 0
+IsOffered old history x new =
     (was settled : List (Entry Sym)) (d g : ℕ) → Stands old was settled settled d g →
     HistoryStandsFor (settled ++ x ∷ []) history → IsFarBack old.plan.reach g history.floor → length (settled ++ x ∷ []) < 2 ^ 32 → IsFresh settled x → d ≤ x.date →
-    Stands new was (settled ++ x ∷ []) (settled ++ x ∷ []) n g
+    Stands new was (settled ++ x ∷ []) (settled ++ x ∷ []) x.date g
 
--- the same, judged at the date of x
-abbrev pub IsOffered : StoreState → HistoryState → Entry Sym → StoreState → Type 0
-IsOffered old history x new = IsOfferedAt old history x x.date new
+-- the same, judged at a date, where x and then the later entries come next, of which the store is told which are ahead of all that are dated at or after a date
+abbrev pub IsOfferedAt : StoreState → HistoryState → Entry Sym → ℕ → List (Entry Sym) → ℕ → StoreState → Type 0
+IsOfferedAt old history x n ahead beyond new =
+    (was settled later : List (Entry Sym)) (d g h : ℕ) → StandsAhead old was settled settled (x ∷ later) d g h → AreAhead ahead beyond later h →
+    HistoryStandsFor (settled ++ x ∷ []) history → IsFarBack old.plan.reach g history.floor → length (settled ++ x ∷ []) < 2 ^ 32 → IsFresh settled x → d ≤ x.date →
+    StandsAhead new was (settled ++ x ∷ []) (settled ++ x ∷ []) later n g h
 
 -- the same, judged at a date that isn't before d nor after `until`, and at `until` where the chronicle looks for entries of the name of x
-abbrev pub IsOfferedUntil : StoreState → HistoryState → Entry Sym → ℕ → StoreState → Type 0
-IsOfferedUntil old history x until new =
-    (was settled : List (Entry Sym)) (d g : ℕ) → Stands old was settled settled d g →
+abbrev pub IsOfferedUntil : StoreState → HistoryState → Entry Sym → ℕ → List (Entry Sym) → ℕ → StoreState → Type 0
+IsOfferedUntil old history x until ahead beyond new =
+    (was settled later : List (Entry Sym)) (d g h : ℕ) → StandsAhead old was settled settled (x ∷ later) d g h → AreAhead ahead beyond later h →
     HistoryStandsFor (settled ++ x ∷ []) history → IsFarBack old.plan.reach g history.floor → length (settled ++ x ∷ []) < 2 ^ 32 → IsFresh settled x → d ≤ x.date →
-    (n : ℕ) × (d ≤ n) × (n ≤ until) × (LooksFor (chronicle old.plan) x.name → n ≡ until) × Stands new was (settled ++ x ∷ []) (settled ++ x ∷ []) n g
+    (n : ℕ) × (d ≤ n) × (n ≤ until) × (LooksFor (chronicle old.plan) x.name → n ≡ until) × StandsAhead new was (settled ++ x ∷ []) (settled ++ x ∷ []) later n g h

@@ -10,9 +10,11 @@ use Rattle.crs_model.specs.Images.{IsImage}
 use Rattle.crs_model.specs.Scans.{GoesOnByLevel}
 use Rattle.crs_history.specs.Histories.{HistoryState}
 use Rattle.crs_instance.specs.Instances.{InstanceState}
+use Rattle.crs_store.specs.Ahead.{MayGo}
+use Rattle.crs_store.specs.Joins.{IsPartOf}
 use Rattle.crs_store.specs.Levels.{levels_in}
 use Rattle.crs_store.specs.Stores.{parts}
-use Rattle.crs_store.specs.Windows.{IsRead, IsAble, IsOver, IsOpenAt}
+use Rattle.crs_store.specs.Windows.{IsRead, IsOver, IsOpenAt}
 use Rattle.crs_store.specs.Judged.{IsMetTo}
 
 -- no event has x
@@ -40,14 +42,14 @@ TakesIn plan focus history x until since held new =
     → IsImage (GoesOnByLevel (levels_in plan focus) (IsOpenAt plan focus (settled ++ x ∷ []) (settled ++ x ∷ []) until) x) (parts held) (parts new)
     × AllByRecursion (IsOver plan focus (settled ++ x ∷ []) (settled ++ x ∷ []) until) new
 
+-- the same, but that some may be left out
+abbrev pub TakesInSome : Plan → Bool → HistoryState → Entry Sym → ℕ → ℕ → List (Entry Sym) → ℕ → List InstanceState → List InstanceState → Type 0
+TakesInSome plan focus history x until since ahead beyond held new =
+    (made : List InstanceState) × TakesIn plan focus history x until since held made × IsPartOf (MayGo plan focus ahead beyond) made new
+
 abbrev pub is_whole : Partial Sym → Bool
 is_whole a = list_all (λ o. is_some o) a
 
 -- each event is bound, and each window met at h as its progress tells
 abbrev pub IsDone : Plan → ℕ → InstanceState → Type 0
 IsDone plan h i = (is_whole i.partial ≡ true) × IsMetTo plan h i (length plan.chronicle.windows)
-
--- it isn't done, and it is able to be at a later date
-pub record CanWait (plan : Plan) (focus : Bool) (h : ℕ) (i : InstanceState) : Type 0 where
-  pub undone : IsDone plan h i → ⊥
-  pub able : IsAble plan focus h i

@@ -1,12 +1,13 @@
 //! The instances that are held, and what finds them again.
-ghost use Rattle.std.specs.Prelude.{◌≡◌, ◌≤◌, ◌<◌, ◌^◌, [], Some, length, OnOk};
+ghost use Rattle.std.specs.Prelude.{◌≡◌, ◌≤◌, ◌<◌, ◌^◌, [], Some, length, map, OnOk};
 ghost use Rattle.std.specs.List.{AllByRecursion};
 ghost use Rattle.crs_base.specs.Seen.{entry_of};
 ghost use Rattle.crs_instance.specs.Instances.{IsOf};
 ghost use Rattle.crs_model.specs.Plans.{IsProper};
+ghost use Rattle.crs_store.specs.Ahead.{MayGo};
 ghost use Rattle.crs_store.specs.Hooks.{AreHooks, KeepsFresh};
 ghost use Rattle.crs_store.specs.Dues.{KeepsFreshPairs};
-ghost use Rattle.crs_store.specs.Joins.{ComesTo, Joins, Renews};
+ghost use Rattle.crs_store.specs.Joins.{ComesTo, ComesOrGoes, JoinsSome, Renews};
 ghost use Rattle.crs_store.specs.Slots.{members, slot_at};
 ghost use Rattle.crs_store.specs.Stores.{AllOf};
 ghost use Rattle.crs_store.specs.Tidy.{IsTidyHolding, Registers, SettlesPlaces};
@@ -14,6 +15,7 @@ ghost use Rattle.crs_store.specs.Windows.{IsAble, IsFollowed, IsPassed};
 
 use crate::dues::{collect_due, put_dues};
 use crate::hooks::Hooks;
+use crate::hope::is_hopeful;
 use crate::linking::{arm_windows, link_events, link_places};
 use crate::links::note_touched;
 use crate::places::sort_places;
@@ -27,6 +29,7 @@ use crs_index::Index;
 use crs_instance::Instance;
 use crs_model::Plan;
 use std::alloc::{AllocError, Global};
+use std::rc::Rc;
 
 /// Instances in places, and what finds them again: an index by what they wait for, a calendar by
 /// the dates at which they have to be judged anew, and the places of those that are done.
@@ -126,7 +129,7 @@ fn register(
 }
 
 /// Adds an instance, which was judged at `h`.
-fn hold(
+pub(crate) fn hold(
     holding: &mut Holding,
     plan: &Plan,
     focus: bool,
@@ -153,13 +156,44 @@ fn hold(
     Ok(())
 }
 
-/// Adds the instances, which were judged at `h`.
+/// Adds an instance, which was judged at `h`, unless levels aren't read and the entries ahead leave
+/// it no hope.
+fn hold_hopeful(
+    holding: &mut Holding,
+    plan: &Plan,
+    focus: bool,
+    hooks: &Hooks,
+    instance: Instance,
+    ahead: &[Rc<Entry>],
+    beyond: u64,
+    h: u64,
+) -> Result<(), AllocError>
+    requires proper { IsProper plan.now }
+    requires hooks { AreHooks plan.now hooks.now.events.items hooks.now.windows.items }
+    requires of { IsOf plan.now instance }
+    requires able { IsAble plan.now focus h instance }
+    requires tidy { IsTidyHolding plan.now focus hooks.now holding.old h }
+    requires near { beyond ≤ 2 ^ 42 }
+    requires small { h ≤ 2 ^ 42 }
+    ensures tidy { OnOk result (IsTidyHolding plan.now focus hooks.now holding.new h) }
+    ensures comes { OnOk result (ComesOrGoes (MayGo plan.now focus (map (λ r. entry_of r.value) ahead.now) beyond) instance (members holding.old.slots.slots) (members holding.new.slots.slots)) }
+{
+    if !focus && !is_hopeful(plan, &instance, ahead, beyond) {
+        return Ok(());
+    }
+    hold(holding, plan, focus, hooks, instance, h)
+}
+
+/// Adds the instances, which were judged at `h`, but for those that the entries ahead leave no hope
+/// where levels aren't read.
 pub(crate) fn hold_all(
     holding: &mut Holding,
     plan: &Plan,
     focus: bool,
     hooks: &Hooks,
     born: &mut Vec<Instance>,
+    ahead: &[Rc<Entry>],
+    beyond: u64,
     h: u64,
 ) -> Result<(), AllocError>
     requires proper { IsProper plan.now }
@@ -167,12 +201,13 @@ pub(crate) fn hold_all(
     requires of { AllOf plan.now born.old.items }
     requires able { AllByRecursion (IsAble plan.now focus h) born.old.items }
     requires tidy { IsTidyHolding plan.now focus hooks.now holding.old h }
+    requires near { beyond ≤ 2 ^ 42 }
     requires small { h ≤ 2 ^ 42 }
     ensures tidy { OnOk result (IsTidyHolding plan.now focus hooks.now holding.new h) }
-    ensures joins { OnOk result (Joins (members holding.old.slots.slots) born.old.items (members holding.new.slots.slots)) }
+    ensures joins { OnOk result (JoinsSome (MayGo plan.now focus (map (λ r. entry_of r.value) ahead.now) beyond) (members holding.old.slots.slots) born.old.items (members holding.new.slots.slots)) }
 {
     while let Some(instance) = born.pop() {
-        hold(holding, plan, focus, hooks, instance, h)?;
+        hold_hopeful(holding, plan, focus, hooks, instance, ahead, beyond, h)?;
     }
     Ok(())
 }

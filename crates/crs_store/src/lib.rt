@@ -5,6 +5,7 @@ mod candidates;
 mod dues;
 mod holding;
 mod hooks;
+mod hope;
 mod levels;
 mod linking;
 mod links;
@@ -20,6 +21,3 @@ mod windows;
 
 pub use refused::StoreRefused;
 pub use store::Store;
-
-#[cfg(test)]
-mod tests;

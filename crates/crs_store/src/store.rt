@@ -1,11 +1,11 @@
-ghost use Rattle.std.specs.Prelude.{◌≡◌, ◌+◌, ◌*◌, ◌<◌, ◌≤◌, ◌^◌, ◌↔◌, ◌⊎◌, [], ◌∷◌, length, replicate, None, slice_get, IsTrue, OnOk, IfOk, IfSome, Err, false};
+ghost use Rattle.std.specs.Prelude.{◌≡◌, ◌+◌, ◌*◌, ◌<◌, ◌≤◌, ◌^◌, ◌↔◌, ◌⊎◌, [], ◌∷◌, length, replicate, None, slice_get, IsTrue, OnOk, IfOk, IfSome, Err, false, map};
 ghost use Rattle.std.specs.Option.{option_copied};
 ghost use Rattle.crs_base.specs.Seen.{entry_of};
 ghost use Rattle.crs_history.specs.Histories.{EndsWith};
 ghost use Rattle.crs_model.specs.Plans.{IsProper};
 ghost use Rattle.crs_instance.specs.Instances.{InstanceState, IsOf};
 ghost use Rattle.crs_store.specs.Stores.{Stands, IsStore, IsSameStore, IsOffered, IsOfferedAt, IsOfferedUntil};
-ghost use Rattle.crs_store.specs.Sweeps.{TakesIn};
+ghost use Rattle.crs_store.specs.Sweeps.{TakesInSome};
 ghost use Rattle.crs_store.specs.Answers.{IsAdvanced, MovesOn};
 ghost use Rattle.crs_store.specs.Hooks.{AreHooks};
 ghost use Rattle.crs_store.specs.Slots.{members};
@@ -13,7 +13,7 @@ ghost use Rattle.crs_store.specs.Tidy.{IsTidyHolding};
 ghost use Rattle.crs_store.specs.declared.refused.StoreRefused.TheVariants.{Stopped, Memory};
 
 use crate::candidates::forks;
-use crate::holding::{Holding, follow, hold_all, no_holding, pass};
+use crate::holding::{Holding, follow, hold, hold_all, no_holding, pass};
 use crate::hooks::Hooks;
 use crate::order::put_in_order;
 use crate::refused::StoreRefused;
@@ -58,7 +58,8 @@ impl Model for Store {
 }
 
 /// Takes in the entry, and judges all at the date `until`: adds what comes of the instances by it, and
-/// drops what can't be recognised any more.
+/// drops what can't be recognised any more. What comes of them may be left out where the entries ahead
+/// and those from `beyond` on leave it no hope.
 fn take_in<L: Ledger>(
     alloc: Global,
     plan: &Plan,
@@ -69,6 +70,8 @@ fn take_in<L: Ledger>(
     since: u64,
     entry: &Rc<Entry>,
     until: u64,
+    ahead: &[Rc<Entry>],
+    beyond: u64,
     steps: &mut Steps<L>,
     places: &mut Vec<u32>,
     born: &mut Vec<Instance>,
@@ -81,8 +84,9 @@ fn take_in<L: Ledger>(
     requires date { entry.now.value.date < 2 ^ 40 }
     requires later { entry.now.value.date ≤ until }
     requires small { until ≤ 2 ^ 42 }
+    requires near { beyond ≤ 2 ^ 42 }
     ensures tidy { OnOk result (IsTidyHolding plan.now focus hooks.now holding.new until) }
-    ensures taken { OnOk result (TakesIn plan.now focus history.now (entry_of entry.now.value) until since (members holding.old.slots.slots) (members holding.new.slots.slots)) }
+    ensures taken { OnOk result (TakesInSome plan.now focus history.now (entry_of entry.now.value) until since (map (λ r. entry_of r.value) ahead.now) beyond (members holding.old.slots.slots) (members holding.new.slots.slots)) }
     ensures cost { focus ≡ false → steps.new ≤ steps.old + 2 * length plan.now.chronicle.events * length (members holding.old.slots.slots) }
 {
     follow(holding, plan, focus, hooks, history, entry, since, places)?;
@@ -103,7 +107,7 @@ fn take_in<L: Ledger>(
     pass(
         holding, plan, focus, hooks, history, entry.date, until, places,
     )?;
-    hold_all(holding, plan, focus, hooks, born, until)?;
+    hold_all(holding, plan, focus, hooks, born, ahead, beyond, until)?;
     Ok(())
 }
 
@@ -156,9 +160,8 @@ fn first_holding(
     ensures root { IfOk result (λ holding. (i : InstanceState) × (members holding.slots.slots ≡ i ∷ []) × IsOf plan.now i × (i.partial ≡ replicate (length plan.now.chronicle.events) None)) }
 {
     let mut holding = no_holding(alloc);
-    let mut born = Vec::new(alloc);
-    born.push(Instance::root(alloc, plan)?)?;
-    hold_all(&mut holding, plan, focus, hooks, &mut born, 0)?;
+    let root = Instance::root(alloc, plan)?;
+    hold(&mut holding, plan, focus, hooks, root, 0)?;
     Ok(holding)
 }
 
@@ -206,32 +209,37 @@ impl Store {
         ensures stands { OnOk result (IsOffered self.old history.now (entry_of entry.now.value) self.new) }
         ensures cost { self.old.focus ≡ false → steps.new ≤ steps.old + 2 * length self.old.plan.chronicle.events * length self.old.held }
     {
-        self.take(history, entry, entry.date, steps)
+        self.take(history, entry, entry.date, &[], entry.date, steps)
     }
 
     /// Takes in an entry as `offer` does, and judges all that is held at the date `until`, which no
-    /// later entry is before. It passes over an entry for which the chronicle doesn't look.
+    /// later entry is before. Where it is told of the entries that come next, `ahead`, before all that
+    /// are dated at or after `beyond`, it may leave out what they can't complete. It passes over an
+    /// entry for which the chronicle doesn't look.
     pub fn offer_until<L: Ledger>(
         &mut self,
         history: &History,
         entry: &Rc<Entry>,
         until: u64,
+        ahead: &[Rc<Entry>],
+        beyond: u64,
         steps: &mut Steps<L>,
     ) -> Result<(), StoreRefused>
         requires last { self.old.stopped ≡ false → EndsWith (entry_of entry.now.value) history.now.entries }
         requires date { entry.now.value.date < 2 ^ 40 }
         requires later { entry.now.value.date ≤ until }
         requires small { until ≤ 2 ^ 42 }
+        requires near { beyond ≤ 2 ^ 42 }
         ensures stopped { (result ≡ Err Stopped) ↔ IsTrue self.old.stopped }
         ensures raised { IsTrue self.new.stopped ↔ (IsTrue self.old.stopped ⊎ (result ≡ Err Memory)) }
         ensures same { IsSameStore self.old self.new }
-        ensures stands { OnOk result (IsOfferedUntil self.old history.now (entry_of entry.now.value) until self.new) }
+        ensures stands { OnOk result (IsOfferedUntil self.old history.now (entry_of entry.now.value) until (map (λ r. entry_of r.value) ahead.now) beyond self.new) }
         ensures cost { self.old.focus ≡ false → steps.new ≤ steps.old + 2 * length self.old.plan.chronicle.events * length self.old.held }
     {
         if !self.stopped && !self.hooks.look_for(entry.name) {
             return Ok(());
         }
-        self.take(history, entry, until, steps)
+        self.take(history, entry, until, ahead, beyond, steps)
     }
 
     /// Takes in an entry of any name, and judges all that is held at the date `until`. It stands apart,
@@ -242,16 +250,19 @@ impl Store {
         history: &History,
         entry: &Rc<Entry>,
         until: u64,
+        ahead: &[Rc<Entry>],
+        beyond: u64,
         steps: &mut Steps<L>,
     ) -> Result<(), StoreRefused>
         requires last { self.old.stopped ≡ false → EndsWith (entry_of entry.now.value) history.now.entries }
         requires date { entry.now.value.date < 2 ^ 40 }
         requires later { entry.now.value.date ≤ until }
         requires small { until ≤ 2 ^ 42 }
+        requires near { beyond ≤ 2 ^ 42 }
         ensures stopped { (result ≡ Err Stopped) ↔ IsTrue self.old.stopped }
         ensures raised { IsTrue self.new.stopped ↔ (IsTrue self.old.stopped ⊎ (result ≡ Err Memory)) }
         ensures same { IsSameStore self.old self.new }
-        ensures stands { OnOk result (IsOfferedAt self.old history.now (entry_of entry.now.value) until self.new) }
+        ensures stands { OnOk result (IsOfferedAt self.old history.now (entry_of entry.now.value) until (map (λ r. entry_of r.value) ahead.now) beyond self.new) }
         ensures cost { self.old.focus ≡ false → steps.new ≤ steps.old + 2 * length self.old.plan.chronicle.events * length self.old.held }
     {
         if self.stopped {
@@ -270,6 +281,8 @@ impl Store {
             self.date,
             entry,
             until,
+            ahead,
+            beyond,
             steps,
             &mut self.places,
             &mut self.born,

@@ -1,9 +1,11 @@
-use Rattle.std.proofs.Common.{vec_len}
+use Rattle.std.proofs.Common.{vec_len, map}
+use Rattle.crs_base.specs.Seen.{entry_of}
+use Rattle.crs_store.specs.Ahead.{MayGo}
 use Rattle.crs_store.proofs.Registering.{IsHeldTo}
 use Rattle.crs_store.proofs.holding.hold_all.Given as goal
 
 abbrev pub invariant-loop-instance : goal.invariant-loop-instance
-invariant-loop-instance l = IsHeldTo l.plan l.focus l.hooks l.h l.fn.holding l.fn.born.items l.born.items l.holding
+invariant-loop-instance l = IsHeldTo l.plan l.focus l.hooks l.h (MayGo l.plan l.focus (map (λ r. entry_of r.value) l.ahead) l.beyond) l.fn.holding l.fn.born.items l.born.items l.holding
 
 abbrev pub decreases-loop-instance : goal.decreases-loop-instance
 decreases-loop-instance l = vec_len l.born

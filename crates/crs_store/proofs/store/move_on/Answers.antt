@@ -2,8 +2,7 @@ use Rattle.std.proofs.Common.{List, sym, subst}
 use Rattle.crs_model.specs.declared.recognition.Recognition.{Recognition}
 use Rattle.crs_store.specs.Answers.{AreFoundInOrder}
 use Rattle.crs_store.specs.Slots.{members}
-use Rattle.crs_store.proofs.Assembled.{tidy_all, left_tidy}
-use Rattle.crs_store.proofs.Moved.{moves_on}
+use Rattle.crs_store.proofs.Assembled.{left_tidy}
 use Rattle.crs_store.proofs.Ripened.{left_sifts}
 use Rattle.crs_store.proofs.store.move_on.Goals as goal
 
@@ -16,7 +15,10 @@ returns-clause-tidy c = left_tidy c.args.plan.now c.args.focus c.args.hooks.now 
 pub returns-clause-moved : goal.returns-clause-moved
 returns-clause-moved c =
     let left = (c.in_ok-found.ensures {u = tt}).left in
-    moves_on c.args.plan.now c.args.focus c.args.history.now c.args.since c.args.h c.args.number c.args.mark (members c.args.holding.now.slots.slots) (members c.pass.new.holding.slots.slots) (members c.take_ripe.new.slots.slots) c.from_vec.result (tidy_all c.args.plan.now c.args.focus c.args.hooks.now c.args.holding.now c.args.since c.requires.tidy) ((c.in_ok-pass.ensures {u = tt}).renews)
-    (subst (λ (a : List Recognition). AreFoundInOrder c.args.plan.now c.args.h c.args.number c.args.mark (members c.pass.new.holding.slots.slots) a) (sym c.from_vec.ensures)
-    (record { found = c.in_ok-found.found.items; are = (c.in_ok-found.ensures {u = tt}).found; moved = c.put_in_order.ensures.moved; sorted = c.put_in_order.ensures.sorted }))
-    (left_sifts c.args.plan.now c.args.h c.pass.new.holding.slots.slots c.take_ripe.new.slots.slots left.places left.each)
+    record {
+      able = members c.pass.new.holding.slots.slots;
+      passed = (c.in_ok-pass.ensures {u = tt}).renews;
+      found = subst (λ (a : List Recognition). AreFoundInOrder c.args.plan.now c.args.h c.args.number c.args.mark (members c.pass.new.holding.slots.slots) a) (sym c.from_vec.ensures)
+          (record { found = c.in_ok-found.found.items; are = (c.in_ok-found.ensures {u = tt}).found; moved = c.put_in_order.ensures.moved; sorted = c.put_in_order.ensures.sorted });
+      left = left_sifts c.args.plan.now c.args.h c.pass.new.holding.slots.slots c.take_ripe.new.slots.slots left.places left.each;
+    }

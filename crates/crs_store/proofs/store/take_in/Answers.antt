@@ -1,11 +1,13 @@
-use Rattle.std.proofs.Common.{◌∙◌, length, sym, subst}
+use Rattle.std.proofs.Common.{◌∙◌, ◌++◌, length, map, sym, subst}
 use Rattle.crs_base.specs.declared.entry.Entry.{Entry as CodeEntry}
 use Rattle.crs_base.specs.Seen.{entry_of}
+use Rattle.crs_store.specs.Ahead.{MayGo}
 use Rattle.crs_store.specs.Joins.{Renews}
 use Rattle.crs_store.specs.Slots.{members}
 use Rattle.crs_store.specs.Tidy.{IsTidy}
 use Rattle.crs_store.specs.Windows.{IsAble, IsFollowed, IsPassed}
 use Rattle.crs_store.proofs.Assembled.{tidy_all, tidy_standing, few_ticks}
+use Rattle.crs_store.proofs.Joined.{joins_both, part_of}
 use Rattle.crs_store.proofs.Taken.{taken_anew}
 use Rattle.crs_store.proofs.store.take_in.Goals as goal
 
@@ -40,7 +42,12 @@ returns-clause-taken g c =
     let stay = members c.pass.new.holding.slots.slots in
     let renews = subst (λ (e : CodeEntry). Renews (IsFollowed plan history (entry_of e) c.args.since) (IsAble plan focus e.date) held kept) c.deref.ensures ((c.in_ok-follow.ensures {u = tt}).renews) in
     let passes = subst (λ (e : CodeEntry). Renews (IsPassed plan history e.date c.args.until) (IsAble plan focus c.args.until) kept stay) c.deref-2.ensures ((c.in_ok-pass.ensures {u = tt}).renews) in
-    taken_anew plan focus c.requires.proper history (entry_of x) c.args.until c.args.since held kept c.forks.new.out.items stay (members c.hold_all.new.holding.slots.slots) (tidy_all plan focus c.args.hooks.now c.args.holding.now c.args.since c.requires.tidy) renews ((c.in_ok-forks.ensures {u = tt}).image) passes ((c.in_ok-hold_all.ensures {u = tt}).joins)
+    let more = c.forks.new.out.items in
+    let new = members c.hold_all.new.holding.slots.slots in (
+      stay ++ more,
+      taken_anew plan focus c.requires.proper history (entry_of x) c.args.until c.args.since held kept more stay (stay ++ more) (tidy_all plan focus c.args.hooks.now c.args.holding.now c.args.since c.requires.tidy) renews ((c.in_ok-forks.ensures {u = tt}).image) passes (joins_both stay more),
+      part_of (MayGo plan focus (map (λ r. entry_of r.value) c.args.ahead.now) c.args.beyond) stay more new ((c.in_ok-hold_all.ensures {u = tt}).joins),
+    )
 
 pub returns-clause-cost : goal.returns-clause-cost
 returns-clause-cost g c = λ flat.

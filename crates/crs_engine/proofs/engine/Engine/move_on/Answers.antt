@@ -18,7 +18,7 @@ invariant_of-self g c =
     c.mark_all.new.stores c.mark_all.new.history c.mark_all.new.buffer c.args.t c.args.h c.self.inside.stopped c.self.invariant same c.mark_all.ensures.rest c.requires.small
     (subst (λ (d : ℕ). c.args.t < 2 ^ 40 → c.args.h ≤ c.args.t - d) (sym delay) c.requires.behind) c.mark_all.ensures.order c.mark_all.ensures.floor
     (λ running. history_before c.args.h c.self.inside.horizon c.self.inside.history c.mark_all.new.history c.deref_mut.result.now c.mark_all.new.stores c.self.inside.buffer c.mark_all.new.buffer c.args.mark c.in-Ok.answer (c.self.invariant.settled running) forward ((c.in-Ok.ensures {u = tt}).marked))
-    forward (((c.in-Ok.ensures {u = tt}).marked).settled).rest_after)
+    forward (((c.in-Ok.ensures {u = tt}).marked).settled).due.after)
 
 pub invariant_of-self-in-Err : goal.invariant_of-self-in-Err
 invariant_of-self-in-Err g c =

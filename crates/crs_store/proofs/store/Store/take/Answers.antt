@@ -1,4 +1,4 @@
-use Rattle.std.proofs.Common.{refl, subst}
+use Rattle.std.proofs.Common.{map, refl, subst}
 use Rattle.crs_base.specs.Seen.{entry_of}
 use Rattle.crs_model.specs.declared.plan.Plan.{Plan}
 use Rattle.crs_store.specs.Slots.{members}
@@ -15,5 +15,5 @@ invariant_of-self g c =
 pub returns-in-Ok-clause-stands : goal.returns-in-Ok-clause-stands
 returns-in-Ok-clause-stands g c =
     offered_from (record { plan = c.self.inside.plan.value; number = c.self.inside.number; focus = c.self.inside.focus; held = members c.self.inside.holding.slots.slots; date = c.self.inside.date; stopped = c.self.inside.stopped }) c.args.self.now
-    (record { plan = c.self.inside.plan.value; number = c.self.inside.number; focus = c.self.inside.focus; held = members c.take_in.new.holding.slots.slots; date = c.args.until; stopped = c.self.inside.stopped }) c.args.history.now (entry_of c.args.entry.now.value) c.args.until c.requires.later c.deref-2.result.now
+    (record { plan = c.self.inside.plan.value; number = c.self.inside.number; focus = c.self.inside.focus; held = members c.take_in.new.holding.slots.slots; date = c.args.until; stopped = c.self.inside.stopped }) c.args.history.now (entry_of c.args.entry.now.value) c.args.until (map (λ r. entry_of r.value) c.args.ahead.now) c.args.beyond c.requires.later c.deref-2.result.now
     c.self.view_is c.self.invariant.0 c.deref-2.ensures (record { plan = refl; number = refl; focus = refl }) refl ((c.in-Ok.ensures {u = tt}).taken)

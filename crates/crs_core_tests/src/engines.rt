@@ -1,118 +1,32 @@
-ghost use Rattle.std.specs.Prelude.{◌≡◌, ◌<◌, ◌≤◌, ◌^◌, [], pos, length, None, Some, IfOk};
+//! Engines: answers in order, refusals, the end and the delay.
+ghost use Rattle.std.specs.Prelude.{◌≡◌, ◌<◌, ◌≤◌, ◌^◌, length, IfOk};
 ghost use Rattle.std.specs.List.{AllByRecursion};
 ghost use Rattle.crs_model.specs.Plans.{IsProper};
 ghost use Rattle.crs_model.specs.Reach.{IsReachOfAll};
 ghost use Rattle.crs_engine.specs.Engines.{reaches_of};
-ghost use Rattle.crs_instance.specs.Fixtures.{IsPlain, IsFixture, spaced};
 
-use crate::{Engine, Refused};
-use crs_base::{Entry, List, Steps, Sym, SymList, Text};
-use crs_model::{Chronicle, EventDef, Pattern, Plan, Plans, Recognition};
-use crs_stn::{Bound, Network};
+use crate::fixtures::{entry, plan};
+use crs_base::{List, Steps};
+use crs_engine::{Engine, Refused};
+use crs_model::{Plans, Recognition};
 use std::alloc::{AllocError, Global};
 use std::marker::Brand;
-use std::rc::Rc;
 use std::sync::ledger::{Blank, Ledger};
 use std::test::Fail;
 
-/// An event of this name, without arguments.
-fn event(alloc: Global, name: u32) -> EventDef
-    ensures { IsPlain result }
-{
-    EventDef {
-        pattern: Pattern {
-            name: Sym(name),
-            terms: List::new(alloc),
-            change: None,
-        },
-        point: Sym(name),
-        level: 0,
-    }
-}
-
-/// That b comes 1 to 5 ticks after a.
-fn bounds(alloc: Global) -> Result<List<Bound>, AllocError>
-    ensures { IfOk result (λ bounds. bounds ≡ spaced 1) }
-{
-    let mut bounds = List::new(alloc);
-    bounds.push(Bound {
-        from: 0,
-        to: 1,
-        most: Some(5),
-    })?;
-    bounds.push(Bound {
-        from: 1,
-        to: 0,
-        most: Some(-1),
-    })?;
-    Ok(bounds)
-}
-
-/// `a then b within [1,5]`.
-fn a_then_b(alloc: Global) -> Result<Chronicle, AllocError>
-    ensures { IfOk result (IsFixture 1) }
-{
-    let mut events = List::new(alloc);
-    events.push(event(alloc, 0))?;
-    events.push(event(alloc, 1))?;
-    let bounds = bounds(alloc)?;
-    Ok(Chronicle {
-        name: Sym(2),
-        line: 1,
-        events,
-        free: List::new(alloc),
-        bounds,
-        variables: List::new(alloc),
-        sets: List::new(alloc),
-        differs: List::new(alloc),
-        windows: List::new(alloc),
-    })
-}
-
-fn plan(alloc: Global) -> Result<Rc<Plan>, AllocError>
-    ensures proper { IfOk result (λ r. IsProper r.value) }
-    ensures reach { IfOk result (λ r. r.value.reach ≡ Some (pos 5)) }
-{
-    let chronicle = a_then_b(alloc)?;
-    match Network::close(alloc, 2, chronicle.bounds.as_slice()) {
-        Ok(network) => Ok(Rc::new(
-            alloc,
-            Plan {
-                chronicle,
-                network,
-                reach: Some(5),
-            },
-        )?),
-        Err(_) => Err(AllocError),
-    }
-}
-
+/// Two equal plans.
 fn plans(alloc: Global) -> Result<Plans, AllocError>
     ensures proper { IfOk result (λ p. AllByRecursion (λ r. IsProper r.value) p.plans) }
     ensures few { IfOk result (λ p. length p.plans ≤ 64) }
     ensures reach { IfOk result (λ p. IsReachOfAll (reaches_of p) p.reach) }
 {
     let mut plans = List::new(alloc);
-    plans.push(plan(alloc)?)?;
-    plans.push(plan(alloc)?)?;
+    plans.push(plan(alloc, 0, 1, 1)?)?;
+    plans.push(plan(alloc, 0, 1, 1)?)?;
     Ok(Plans {
         names: List::new(alloc),
         plans,
         reach: Some(5),
-    })
-}
-
-fn entry(alloc: Global, arrival: u32, date: u64, name: u32) -> Result<Entry, AllocError>
-    ensures arrival { IfOk result (λ e. e.arrival ≡ arrival) }
-    ensures date { IfOk result (λ e. e.date ≡ date) }
-{
-    Ok(Entry {
-        arrival,
-        date,
-        name: Sym(name),
-        args: SymList::from_slice(&[]),
-        change: None,
-        text: Text::new(alloc, b"")?,
     })
 }
 

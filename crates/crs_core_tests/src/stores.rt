@@ -1,103 +1,23 @@
-ghost use Rattle.std.specs.Prelude.{◌≡◌, ◌<◌, ◌^◌, [], None, IfOk};
+//! Stores, by the numbers of what they hold and answer.
+ghost use Rattle.std.specs.Prelude.{◌≡◌, ◌<◌, ◌^◌, IfOk};
 ghost use Rattle.crs_model.specs.Plans.{IsProper};
-ghost use Rattle.crs_instance.specs.Fixtures.{IsPlain, IsFixture, spaced};
 
-use crate::{Store, StoreRefused};
-use crs_base::{Entry, List, Steps, Sym, SymList, Text};
+use crate::fixtures::{entry, plan};
+use crs_base::{Entry, List, Steps};
 use crs_history::History;
-use crs_model::{Chronicle, EventDef, Mark, Pattern, Plan, Recognition};
-use crs_stn::{Bound, Network};
+use crs_model::{Mark, Plan, Recognition};
+use crs_store::{Store, StoreRefused};
 use std::alloc::{AllocError, Global};
 use std::marker::Brand;
 use std::rc::Rc;
 use std::sync::ledger::{Blank, Ledger};
 use std::test::Fail;
 
-/// An event of this name, without arguments.
-fn event(alloc: Global, name: u32) -> EventDef
-    ensures { IsPlain result }
-{
-    EventDef {
-        pattern: Pattern {
-            name: Sym(name),
-            terms: List::new(alloc),
-            change: None,
-        },
-        point: Sym(name),
-        level: 0,
-    }
-}
-
-/// That the second event comes from `least` to 5 ticks after the first.
-fn bounds(alloc: Global, least: u8) -> Result<List<Bound>, AllocError>
-    ensures { IfOk result (λ bounds. bounds ≡ spaced least) }
-{
-    let mut bounds = List::new(alloc);
-    bounds.push(Bound {
-        from: 0,
-        to: 1,
-        most: Some(5),
-    })?;
-    bounds.push(Bound {
-        from: 1,
-        to: 0,
-        most: Some(-(least as i64)),
-    })?;
-    Ok(bounds)
-}
-
-/// The one event, and the other from `least` to 5 ticks later.
-fn one_then_other(alloc: Global, one: u32, other: u32, least: u8) -> Result<Chronicle, AllocError>
-    ensures { IfOk result (IsFixture least) }
-{
-    let mut events = List::new(alloc);
-    events.push(event(alloc, one))?;
-    events.push(event(alloc, other))?;
-    let bounds = bounds(alloc, least)?;
-    Ok(Chronicle {
-        name: Sym(2),
-        line: 1,
-        events,
-        free: List::new(alloc),
-        bounds,
-        variables: List::new(alloc),
-        sets: List::new(alloc),
-        differs: List::new(alloc),
-        windows: List::new(alloc),
-    })
-}
-
-fn plan(alloc: Global, one: u32, other: u32, least: u8) -> Result<Rc<Plan>, AllocError>
-    ensures { IfOk result (λ r. IsProper r.value) }
-{
-    let chronicle = one_then_other(alloc, one, other, least)?;
-    match Network::close(alloc, 2, chronicle.bounds.as_slice()) {
-        Ok(network) => Ok(Rc::new(
-            alloc,
-            Plan {
-                chronicle,
-                network,
-                reach: Some(5),
-            },
-        )?),
-        Err(_) => Err(AllocError),
-    }
-}
-
-fn entry(alloc: Global, arrival: u32, date: u64, name: u32) -> Result<Rc<Entry>, AllocError>
+/// An entry of this name, without arguments, to be shared.
+fn shared(alloc: Global, arrival: u32, date: u64, name: u32) -> Result<Rc<Entry>, AllocError>
     ensures { IfOk result (λ r. r.value.date ≡ date) }
 {
-    Ok(Rc::new(
-        alloc,
-        Entry {
-            arrival,
-            date,
-            name: Sym(name),
-            args: SymList::from_slice(&[]),
-            change: None,
-            text: Text::new(alloc, b"")?,
-        },
-    )?)
+    Ok(Rc::new(alloc, entry(alloc, arrival, date, name)?)?)
 }
 
 /// Offers an entry as the only one of a history, with a counter of its own.
@@ -142,7 +62,7 @@ fn take_step(
 ) -> Result<Result<bool, StoreRefused>, AllocError> {
     match *step {
         Step::Event(date, name) => {
-            let entry = entry(alloc, arrival, date as u64, name)?;
+            let entry = shared(alloc, arrival, date as u64, name)?;
             match offer_apart::<Brand>(Blank::new(1), alloc, store, &entry)? {
                 Ok(()) => Ok(Ok(true)),
                 Err(refused) => Ok(Err(refused)),
@@ -221,5 +141,46 @@ fn takes_the_place_of_one_that_is_over(rt: HostRuntime) -> Result<(), Fail> {
         Step::Mark(14, 0, 1),
     ];
     assert!(rt; meets(alloc, plan(alloc, 0, 1, 1)?, &steps)?);
+    Ok(())
+}
+
+/// How many instances a new store holds after an event of name 1 at date 10, where the one entry ahead
+/// has this name and the same date, and all others are dated 12 or later.
+fn held_before<L: Ledger>(
+    blank: Blank,
+    alloc: Global,
+    plan: Rc<Plan>,
+    name: u32,
+) -> Result<Result<usize, StoreRefused>, AllocError>
+    requires proper { IsProper plan.value }
+    requires name { blank.name ≡ L.name }
+    requires parts { blank.parts ≡ L.parts }
+    requires some { 0 < L.parts }
+{
+    let mut store = Store::new(alloc, plan, 3, false)?;
+    let mut ahead = Vec::new(alloc);
+    ahead.push(shared(alloc, 1, 10, name)?)?;
+    let offered = shared(alloc, 0, 10, 1)?;
+    let mut history = History::new(alloc);
+    history.push(offered.clone()?)?;
+    let mut steps = Steps::<L>::new(blank);
+    match store.offer_until(&history, &offered, 10, ahead.as_slice(), 12, &mut steps) {
+        Ok(()) => Ok(Ok(store.held())),
+        Err(refused) => Ok(Err(refused)),
+    }
+}
+
+/// The same with a plan of its own, whose second event comes up to 5 ticks after the first.
+fn held_before_one(alloc: Global, name: u32) -> Result<Result<usize, StoreRefused>, AllocError> {
+    let plan = plan(alloc, 0, 1, 0)?;
+    held_before::<Brand>(Blank::new(1), alloc, plan, name)
+}
+
+#[test]
+fn holds_no_fork_that_the_next_entries_leave_no_hope(rt: HostRuntime) -> Result<(), Fail> {
+    let alloc = rt.alloc();
+    let awaited = held_before_one(alloc, 0)??;
+    let another = held_before_one(alloc, 1)??;
+    assert!(rt; awaited == 2 && another == 1);
     Ok(())
 }

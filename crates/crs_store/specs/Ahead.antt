@@ -1,0 +1,47 @@
+-- What is held where a store is told which entries come next: it may leave out what can't be recognised with them.
+use Rattle.std.specs.Prelude.{◌≡◌, ◌≤◌, ◌<◌, ◌<ℤ◌, ◌⊎◌, ℕ, ℤ, pos, List, ◌++◌, length, Bool, false, Some, None, IfSome, slice_get}
+use Rattle.crs_base.specs.declared.symbols.Sym.{Sym}
+use Rattle.crs_base.specs.Words.{IsIn, Ordered}
+use Rattle.crs_base.specs.Entry.{Entry}
+use Rattle.crs_model.specs.declared.plan.Plan.{Plan}
+use Rattle.crs_model.specs.Models.{Chronicle}
+use Rattle.crs_model.specs.Partial.{Partial, at, IsAwaited}
+use Rattle.crs_model.specs.Plans.{chronicle}
+use Rattle.crs_model.specs.Open.{IsOpen, IsKept}
+use Rattle.crs_instance.specs.Instances.{InstanceState, IsOf, window_at}
+
+-- a may become what is open at h once the later entries are settled too: an event that it awaits has one of these there, or none
+pub record IsWanted (c : Chronicle Sym) (level : ℕ → ℕ) (pool entries later : List (Entry Sym)) (h : ℕ) (a : Partial Sym) : Type 0 where
+  pub grown : Partial Sym
+  pub fine : IsOpen c level (pool ++ later) (entries ++ later) h grown
+  pub has : (e : ℕ) (x : Entry Sym) → at a e ≡ Some x → at grown e ≡ Some x
+  pub added : (e : ℕ) (x : Entry Sym) → IsAwaited level a e → at grown e ≡ Some x → IsIn x later
+
+-- What is held, without repeats, is open and wasn't recognised, and all that is so and may become what is open at h by the later entries is held.
+pub record StandsUpTo (c : Chronicle Sym) (level : ℕ → ℕ) (held : List (Partial Sym)) (was pool entries later : List (Entry Sym)) (d g h : ℕ) : Type 0 where
+  pub was_in : (e : Entry Sym) → IsIn e was → IsIn e pool
+  pub entries_in : (e : Entry Sym) → IsIn e entries → IsIn e pool
+  pub marked : g ≤ d
+  pub distinct : Ordered (λ a b. a ≡ b → ⊥) held
+  pub each : (a : Partial Sym) → IsIn a held → IsKept c level was pool entries d g a
+  pub all : (a : Partial Sym) → IsKept c level was pool entries d g a → IsWanted c level pool entries later h a → IsIn a held
+
+-- the later entries are among those ahead, or not before a date that isn't after h
+pub record AreAhead (ahead : List (Entry Sym)) (beyond : ℕ) (later : List (Entry Sym)) (h : ℕ) : Type 0 where
+  pub each : (x : Entry Sym) → IsIn x later → IsIn x ahead ⊎ (beyond ≤ x.date)
+  pub within : beyond ≤ h
+
+-- an unbound event of the instance has to come before the date `beyond`, and before each entry ahead that has its name
+pub record IsHopeless (plan : Plan) (ahead : List (Entry Sym)) (beyond : ℕ) (i : InstanceState) : Type 0 where
+  pub of : IsOf plan i
+  pub event : ℕ
+  pub within : event < length i.partial
+  pub unbound : at i.partial event ≡ None
+  pub last : ℤ
+  pub is_last : (window_at i.windows event).most ≡ Some last
+  pub early : last <ℤ pos beyond
+  pub none : (x : Entry Sym) → IsIn x ahead → IfSome (slice_get (chronicle plan).events event) (λ v. v.pattern.name ≡ x.name → last <ℤ pos x.date)
+
+-- why an instance may be left out: without focus, that it is hopeless
+abbrev pub MayGo : Plan → Bool → List (Entry Sym) → ℕ → InstanceState → Type 0
+MayGo plan focus ahead beyond i = (focus ≡ false) × IsHopeless plan ahead beyond i
