@@ -5,8 +5,6 @@ mod agenda;
 mod bucket;
 mod calendar;
 mod rows;
-#[cfg(test)]
-mod tests;
 mod timed;
 
 pub use agenda::Agenda;

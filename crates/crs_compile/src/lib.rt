@@ -9,6 +9,3 @@ mod reach;
 pub use compilation::compile;
 pub use laws::{minimal_text_is_one, reach_is_one};
 pub use minimal::minimal_text;
-
-#[cfg(test)]
-mod tests;

@@ -7,8 +7,6 @@ mod file;
 mod memory;
 mod real;
 mod schedule;
-#[cfg(test)]
-mod tests;
 mod turn;
 mod whole;
 

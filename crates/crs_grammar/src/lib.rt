@@ -12,6 +12,3 @@ pub use statements::{
     Anchor, Body, Declaration, Distance, Event, Pattern, Shift, Statement, Term, Unread, Window,
 };
 pub use words::{Token, tokens};
-
-#[cfg(test)]
-mod tests;

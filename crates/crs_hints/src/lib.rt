@@ -8,6 +8,3 @@ mod statements;
 mod walking;
 
 pub use hints::{Hint, hint_of};
-
-#[cfg(test)]
-mod tests;

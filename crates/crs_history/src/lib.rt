@@ -15,6 +15,3 @@ mod tracks;
 pub use history::History;
 pub use range::Range;
 pub use reading::{brings, changes, to_date};
-
-#[cfg(test)]
-mod tests;

@@ -11,6 +11,3 @@ mod writing;
 pub use laws::{records_are_all, tables_have_logs};
 pub use refusals::{ImportRefused, RowWord, refusal_line};
 pub use tables::import;
-
-#[cfg(test)]
-mod tests;

@@ -5,8 +5,6 @@ mod buckets;
 mod index;
 mod key;
 mod numbers;
-#[cfg(test)]
-mod tests;
 
 pub use index::Index;
 pub use key::Key;

@@ -8,6 +8,3 @@ mod reading;
 mod symbols;
 
 pub use models::read_models;
-
-#[cfg(test)]
-mod tests;

@@ -6,6 +6,3 @@ mod printing;
 
 pub use laws::canonical_models_are_read;
 pub use printing::print_models;
-
-#[cfg(test)]
-mod tests;

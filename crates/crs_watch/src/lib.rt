@@ -15,6 +15,3 @@ pub use passing::pass;
 pub use settling::settle;
 pub use touched::Touched;
 pub use watch::Watch;
-
-#[cfg(test)]
-mod tests;

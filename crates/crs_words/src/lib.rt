@@ -6,8 +6,6 @@ mod command;
 mod kinds;
 mod numbers;
 mod reading;
-#[cfg(test)]
-mod tests;
 mod usage;
 
 pub use command::{Command, Listing, Tally};

@@ -1,5 +1,0 @@
-use Rattle.crs_compile.proofs.Plain.{together_proper}
-use Rattle.crs_compile.proofs.tests.together.Goals as goal
-
-pub returns-clause-proper : goal.returns-clause-proper
-returns-clause-proper c = together_proper _ (record { symbols = c.requires.symbols; plain = c.requires.plain }) c.requires.few c.requires.proper

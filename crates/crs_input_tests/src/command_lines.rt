@@ -1,0 +1,202 @@
+//! Command lines: which command some words ask for, with which settings, and the usage text.
+use crs_words::{Command, read_words, usage_text};
+use std::alloc::{AllocError, Global};
+use std::process::Abort;
+use std::test::Fail;
+
+/// What words that are parted by single spaces ask for.
+fn shown(alloc: Global, text: &str) -> Result<String, AllocError> {
+    let mut words = Vec::new(alloc);
+    for word in text.split(' ') {
+        words.push(String::from_str(alloc, word)?)?;
+    }
+    match read_words(alloc, words.as_slice())? {
+        None => String::from_str(alloc, "none"),
+        Some(
+            Command::Run {
+                focus,
+                summary,
+                tally,
+                models,
+                log,
+            },
+        ) => {
+            let word = match (focus, summary) {
+                (false, false) => "run",
+                (false, true) => "summary",
+                (true, false) => "focus",
+                (true, true) => "focus summary",
+            };
+            let kinds = tally.kinds();
+            match kinds.contains(&true) {
+                true => format!(in alloc; "{word} {kinds:?} {models} {log}"),
+                false => format!(in alloc; "{word} {models} {log}"),
+            }
+        }
+        Some(Command::Print { listing, models }) => format!(in alloc; "{listing:?} {models}"),
+        Some(Command::Drill { focus, seed, lines }) => {
+            let word = if focus { "focus" } else { "drill" };
+            format!(in alloc; "{word} {seed} {lines}")
+        }
+        Some(Command::Import { table }) => format!(in alloc; "import {table}"),
+    }
+}
+
+/// Fails where some words ask for something else than what stands beside them.
+fn are_commands(rt: &impl Abort, alloc: Global, rows: &[(&str, &str)]) -> Result<(), Fail> {
+    for (words, want) in rows {
+        let shown = shown(alloc, words)?;
+        assert!(rt; shown.as_str() == *want, "{words}: {shown}");
+    }
+    Ok(())
+}
+
+#[test]
+fn positions_and_options_are_told_apart(rt: HostRuntime) -> Result<(), Fail> {
+    let rows = [
+        ("", "none"),
+        ("run", "none"),
+        ("run m", "none"),
+        ("run m l", "run m l"),
+        ("run m l x", "none"),
+        ("run --unknown m l", "none"),
+        ("run -x l", "none"),
+        ("run -- -m l", "run -m l"),
+        ("run m -- -l", "run m -l"),
+        ("run -- --minimal l", "run --minimal l"),
+        ("run m l --", "run m l"),
+        ("run - l", "run - l"),
+        ("run  l", "run  l"),
+        ("run --help", "none"),
+        ("run --version m l", "none"),
+        ("Run m l", "none"),
+        ("help", "none"),
+        ("--help", "none"),
+    ];
+    are_commands(&rt, rt.alloc(), &rows)
+}
+
+#[test]
+fn options_of_runs_stand_once(rt: HostRuntime) -> Result<(), Fail> {
+    let rows = [
+        ("run --summary m l", "summary m l"),
+        ("run m --summary l", "summary m l"),
+        ("run m l --summary", "summary m l"),
+        ("run --summary m l --summary", "none"),
+        ("run --summary=x m l", "none"),
+        ("run --summary m", "none"),
+        ("run -- --summary l", "run --summary l"),
+        ("run --focus m l", "focus m l"),
+        ("run m --focus l", "focus m l"),
+        ("run m --summary l --focus", "focus summary m l"),
+        ("run --focus m --focus l", "none"),
+        ("run --focus=x m l", "none"),
+        ("run --focus m", "none"),
+        ("run -- --focus l", "run --focus l"),
+        ("--focus run m l", "none"),
+    ];
+    are_commands(&rt, rt.alloc(), &rows)
+}
+
+#[test]
+fn a_tally_names_its_kinds(rt: HostRuntime) -> Result<(), Fail> {
+    let rows = [
+        (
+            "run --tally count m l",
+            "run [true, false, false, false] m l",
+        ),
+        (
+            "run m --tally=fewer,span l --summary",
+            "summary [false, true, false, true] m l",
+        ),
+        (
+            "run m l --tally longest,count,fewer,span",
+            "run [true, true, true, true] m l",
+        ),
+        ("run --tally m l", "none"),
+        ("run m l --tally", "none"),
+        ("run m l --tally=", "none"),
+        ("run --tally  m l", "none"),
+        ("run --tally - m l", "none"),
+        ("run --tally -- m l", "none"),
+        ("run --tally --summary m l", "none"),
+        ("run --tally odd m l", "none"),
+        ("run --tally Count m l", "none"),
+        ("run --tally count, m l", "none"),
+        ("run --tally ,count m l", "none"),
+        ("run --tally count,,span m l", "none"),
+        ("run --tally count,span,count m l", "none"),
+        ("run --tally count --tally span m l", "none"),
+        ("model --tally count m", "none"),
+    ];
+    are_commands(&rt, rt.alloc(), &rows)
+}
+
+#[test]
+fn models_are_printed_in_two_ways(rt: HostRuntime) -> Result<(), Fail> {
+    let rows = [
+        ("model m", "Canonical m"),
+        ("model --minimal m", "Minimal m"),
+        ("model m --minimal", "Minimal m"),
+        ("model --minimal --minimal m", "none"),
+        ("model --minimal=x m", "none"),
+        ("model --mini m", "none"),
+        ("--minimal model m", "none"),
+        ("model", "none"),
+        ("model m l", "none"),
+        ("model --focus m", "none"),
+    ];
+    are_commands(&rt, rt.alloc(), &rows)
+}
+
+#[test]
+fn a_drill_has_a_seed_and_a_length(rt: HostRuntime) -> Result<(), Fail> {
+    let rows = [
+        ("drill 7 2", "drill 7 2"),
+        ("drill 007 0", "drill 7 0"),
+        ("drill 2147483646 1000000", "drill 2147483646 1000000"),
+        ("drill 0000000000000000001 1", "drill 1 1"),
+        ("drill", "none"),
+        ("drill 7", "none"),
+        ("drill 7 2 3", "none"),
+        ("drill 0 5", "none"),
+        ("drill 2147483647 1", "none"),
+        ("drill 1 1000001", "none"),
+        ("drill +1 1", "none"),
+        ("drill 1 -1", "none"),
+        ("drill  1", "none"),
+        ("drill 00000000000000000001 1", "none"),
+        ("drill x 1", "none"),
+        ("drill --focus 1 1", "focus 1 1"),
+        ("drill 1 --focus 1", "focus 1 1"),
+        ("drill 1 1 --focus", "focus 1 1"),
+        ("drill --focus 1 1 --focus", "none"),
+        ("drill --focus=x 1 1", "none"),
+        ("drill --focus 1", "none"),
+        ("drill -- --focus 1", "none"),
+        ("drill --summary 1 1", "none"),
+    ];
+    are_commands(&rt, rt.alloc(), &rows)
+}
+
+#[test]
+fn an_import_has_a_table(rt: HostRuntime) -> Result<(), Fail> {
+    let rows = [
+        ("import --focus t", "none"),
+        ("import t", "import t"),
+        ("import", "none"),
+        ("import a b", "none"),
+        ("import --minimal t", "none"),
+    ];
+    are_commands(&rt, rt.alloc(), &rows)
+}
+
+#[test]
+fn the_usage_text_has_a_line_for_each_command(rt: HostRuntime) {
+    let text = b"usage: crs run [--focus] [--summary] [--tally KINDS] MODELS LOG\n\
+        \x20      crs model [--minimal] MODELS\n\
+        \x20      crs drill [--focus] SEED N\n\
+        \x20      crs import CSV\n\
+        ";
+    assert!(rt; usage_text() == text.as_slice());
+}

@@ -1,0 +1,11 @@
+//! The tests of what comes in: command lines, desks, tables, and hints at mistakes in models.
+#![tactic(auto)]
+
+#[cfg(test)]
+mod command_lines;
+#[cfg(test)]
+mod desks;
+#[cfg(test)]
+mod mistakes;
+#[cfg(test)]
+mod tables;

@@ -1,0 +1,175 @@
+//! Histories: the changes that are kept, what a range has, and the values that hold across the floor.
+ghost use Rattle.std.specs.Prelude.{◌≡◌, [], IfOk};
+
+use crs_base::{Entry, Sym, SymList, Text};
+use crs_history::{History, Range};
+use std::alloc::{AllocError, Global};
+use std::marker::Model;
+use std::rc::Rc;
+use std::test::Fail;
+
+/// An entry without arguments.
+fn entry(
+    alloc: Global,
+    arrival: u32,
+    date: u64,
+    name: u32,
+    change: Option<(Sym, Sym)>,
+) -> Result<Rc<Entry>, AllocError>
+    ensures { IfOk result (λ r. (r.value.date ≡ date) × (r.value.arrival ≡ arrival) × (r.value.text ≡ [])) }
+{
+    Ok(Rc::new(
+        alloc,
+        Entry {
+            arrival,
+            date,
+            name: Sym(name),
+            args: SymList::from_slice(&[]),
+            change,
+            text: Text::new(alloc, b"")?,
+        },
+    )?)
+}
+
+/// A history with what it takes to add an entry behind all others.
+#[derive(Drop)]
+struct Filled {
+    history: History,
+    alloc: Global,
+    last: u64,
+    count: u32,
+}
+
+impl Model for Filled {
+    ghost use Rattle.std.specs.Prelude.{◌≡◌, ◌<◌, ◌≤◌, ◌≤ℤ◌, pos, []};
+    ghost use Rattle.std.specs.List.{AllByRecursion};
+    ghost use Rattle.crs_history.specs.Histories.{HistoryState};
+
+    ghost Value = { HistoryState };
+
+    ghost view = { λ f. f.history };
+
+    ghost invariant = { λ f. AllByRecursion (λ e. (e.date ≤ f.last) × (e.arrival < f.count) × (e.text ≡ [])) f.history.entries × (f.history.floor ≤ℤ pos f.last) };
+}
+
+impl Filled {
+    fn new(alloc: Global) -> Filled {
+        Filled {
+            history: History::new(alloc),
+            alloc,
+            last: 0,
+            count: 0,
+        }
+    }
+
+    /// Adds an entry, where it isn't dated before the last one.
+    fn add(&mut self, date: u64, name: u32, change: Option<(Sym, Sym)>) -> Result<(), AllocError> {
+        if date < self.last || self.count == u32::MAX {
+            return Ok(());
+        }
+        let entry = entry(self.alloc, self.count, date, name, change)?;
+        self.history.push(entry)?;
+        self.last = date;
+        self.count += 1;
+        Ok(())
+    }
+
+    /// Forgets what is before the date, where that isn't after the last one.
+    fn forget(&mut self, date: u32) {
+        if date as u64 <= self.last {
+            self.history.forget_before(date as i64);
+        }
+    }
+}
+
+/// How many entries there are.
+fn count_of(range: Range<'_>) -> usize {
+    let mut count: usize = 0;
+    for _ in range {
+        count = count.saturating_add(1);
+    }
+    count
+}
+
+#[test]
+fn the_last_changes_are_kept(rt: HostRuntime) -> Result<(), Fail> {
+    let alloc = rt.alloc();
+    let mut filled = Filled::new(alloc);
+    assert!(rt; filled.history.len() == 0);
+    let change = Some((Sym(8), Sym(9)));
+    filled.add(1, 0, change)?;
+    filled.add(2, 0, change)?;
+    filled.add(3, 1, change)?;
+    filled.add(4, 2, None)?;
+    filled.add(6, 0, change)?;
+    let Filled { mut history, .. } = filled;
+    for (date, kept) in [(1, 5), (5, 3), (4, 3), (6, 3), (7, 2), (90, 2)] {
+        history.forget_before(date);
+        assert!(rt; history.len() == kept);
+    }
+    Ok(())
+}
+
+#[test]
+fn a_range_has_the_entries_of_its_name(rt: HostRuntime) -> Result<(), Fail> {
+    let alloc = rt.alloc();
+    let mut filled = Filled::new(alloc);
+    filled.add(1, 5, None)?;
+    filled.add(2, 0, None)?;
+    filled.add(3, 5, None)?;
+    filled.add(3, 9, None)?;
+    filled.add(3, 5, None)?;
+    filled.add(6, 4, None)?;
+    filled.add(7, 5, None)?;
+    for (name, from, to, count) in [
+        (5, 0, 8, 4),
+        (5, 1, 7, 3),
+        (5, 2, 7, 2),
+        (5, 4, 7, 0),
+        (5, 7, 3, 0),
+        (9, -4, 4, 1),
+        (9, 4, 9, 0),
+        (7, 0, 9, 0),
+        (90, 0, 9, 0),
+    ] {
+        assert!(rt; count_of(filled.history.range(Sym(name), from, to)) == count);
+    }
+    Ok(())
+}
+
+#[test]
+fn a_value_holds_across_the_floor(rt: HostRuntime) -> Result<(), Fail> {
+    let alloc = rt.alloc();
+    let args = SymList::from_slice(&[]);
+    let mut filled = Filled::new(alloc);
+    filled.add(1, 0, Some((Sym(8), Sym(9))))?;
+    filled.add(3, 0, Some((Sym(9), Sym(7))))?;
+    filled.add(3, 0, Some((Sym(7), Sym(7))))?;
+    filled.add(5, 1, None)?;
+    filled.forget(5);
+    assert!(rt; filled.history.len() == 3);
+    assert!(rt; filled.history.value_over(Sym(0), &args, Sym(7), 5, 9));
+    filled.add(6, 0, Some((Sym(7), Sym(9))))?;
+    for (value, from, to, holds) in [
+        (7, 5, 6, true),
+        (7, 5, 7, false),
+        (9, 5, 7, false),
+        (9, 6, 40, true),
+        (9, 6, 6, true),
+    ] {
+        assert!(rt;
+            filled
+                .history
+                .value_over(Sym(0), &args, Sym(value), from, to)
+                == holds
+        );
+    }
+    filled.forget(6);
+    assert!(rt; filled.history.len() == 3);
+    filled.history.forget_before(7);
+    assert!(rt; filled.history.len() == 1);
+    assert!(rt; filled.history.value_over(Sym(0), &args, Sym(9), 7, 40));
+    assert!(rt; !filled.history.value_over(Sym(1), &args, Sym(9), 7, 40));
+    assert!(rt; count_of(filled.history.range(Sym(0), 0, 40)) == 0);
+    Ok(())
+}
