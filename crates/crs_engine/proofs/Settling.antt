@@ -121,19 +121,6 @@ parted_ahead h after ahead others order parted = record {
 -- ---- one entry more
 
 module _ (olds : List StoreState) (past : HistoryState) (due : List (Entry Sym)) (h : ℕ) (news : List StoreState) (now : HistoryState) (rest : List (Entry Sym)) (so : AreSettledSoFar olds past due h news now rest) where
-  -- what was put
-  pub put_so_far : ArePut past due now
-  put_so_far = (so.done, rest, so.parted, so.kept, so.floor)
-
-  -- all is done
-  pub all_kept : rest ≡ [] → now.entries ≡ past.entries ++ due
-  all_kept e = so.kept ∙ ap (λ (t : List (Entry Sym)). past.entries ++ t) (sym (append-nil so.done) ∙ ap (λ (t : List (Entry Sym)). so.done ++ t) (sym e) ∙ sym so.parted)
-
-  pub all_offered : rest ≡ [] → AreOfferedAll h [] olds past due news now
-  all_offered e =
-      subst (λ (t : List (Entry Sym)). AreOfferedAll h [] olds past t news now) (sym (append-nil so.done) ∙ ap (λ (t : List (Entry Sym)). so.done ++ t) (sym e) ∙ sym so.parted)
-      (subst (λ (t : List (Entry Sym)). AreOfferedAll h t olds past so.done news now) e so.offered)
-
   module _ (x : Entry Sym) (after : List (Entry Sym)) (cut : rest ≡ x ∷ after) where
     parted_more : due ≡ (so.done ++ x ∷ []) ++ after
     parted_more = so.parted ∙ ap (λ (t : List (Entry Sym)). so.done ++ t) cut ∙ sym (append_assoc so.done (x ∷ []) after)
@@ -212,21 +199,10 @@ came_out (y ∷ es) h x e = by (nat_lt y.date h) refl e
     by true t e = let s : y ≡ x = cc in (ap (λ (z : Entry Sym). z ∷ es) s, subst (λ (z : Entry Sym). z.date < h) s (ltb-true y.date h t))
     by false t e = absurd cc
 
-none_out : (es : List (Entry Sym)) (h : ℕ) → released es h ≡ None → left es h ≡ es
-none_out [] h e = refl
-none_out (y ∷ es) h e = by (nat_lt y.date h) e
-  where
-    by : (b : Bool) → cond b (Some y) None ≡ None → cond b es (y ∷ es) ≡ y ∷ es
-    by true e = absurd cc
-    by false e = refl
-
 -- what was taken out so far is dated before h, and the rest comes after it
 pub record AreDueSoFar (h : ℕ) (due held rest : List (Entry Sym)) : Type 0 where
   pub parted : held ≡ due ++ rest
   pub before : AllByRecursion (λ x. x.date < h) due
-
-pub due_none : (h : ℕ) (due held : List (Entry Sym)) → due ≡ [] → AreDueSoFar h due held held
-due_none h due held e = record { parted = sym (ap (λ (t : List (Entry Sym)). t ++ held) e); before = subst (AllByRecursion (λ x. x.date < h)) (sym e) tt }
 
 pub due_more : (h : ℕ) (due held rest after next : List (Entry Sym)) (x : Entry Sym) → AreDueSoFar h due held rest → released rest h ≡ Some x → after ≡ left rest h → next ≡ due ++ x ∷ [] → AreDueSoFar h next held after
 due_more h due held rest after next x so e r n =
@@ -242,13 +218,6 @@ rest_of h due held rest so = (due, so.parted)
 -- the rest, once one more is out
 pub rest_of_more : (h : ℕ) (due held rest after : List (Entry Sym)) (x : Entry Sym) → AreDueSoFar h due held rest → released rest h ≡ Some x → after ≡ left rest h → IsRestOf held after
 rest_of_more h due held rest after x so e r = rest_of h (due ++ x ∷ []) held after (due_more h due held rest after (due ++ x ∷ []) x so e r refl)
-
-pub all_due : (h : ℕ) (due held rest after : List (Entry Sym)) → AreDueSoFar h due held rest → released rest h ≡ None → after ≡ left rest h → AllByRecursion (λ x. h ≤ x.date) rest → AreDue h due held after
-all_due h due held rest after so e r later = record {
-  parted = subst (λ (t : List (Entry Sym)). held ≡ due ++ t) (sym (r ∙ none_out rest h e)) so.parted;
-  before = so.before;
-  after = subst (AllByRecursion (λ x. h ≤ x.date)) (sym (r ∙ none_out rest h e)) later;
-}
 
 -- the history stays in order before what waits
 pub in_order_put : (past now : HistoryState) (done waiting : List (Entry Sym)) (put : ArePut past done now) → IsInKeyOrder (past.entries ++ (done ++ waiting)) → IsInKeyOrder (now.entries ++ waiting)

@@ -6,13 +6,10 @@ use Rattle.crs_base.proofs.Words.{in_from_each}
 use Rattle.std.proofs.lemmas.Bool.{le-ltb}
 use Rattle.std.specs.Prelude.{Some, None}
 use Rattle.crs_base.specs.Words.{IsIn}
-use Rattle.crs_base.proofs.Words.{in_append}
 use Rattle.crs_base.specs.Entry.{Entry}
 use Rattle.crs_model.specs.Models.{Chronicle}
 use Rattle.crs_model.specs.Partial.{Partial, at}
-use Rattle.crs_model.specs.Open.{IsOpen, IsRecognisedWhole, StandsFor, before}
-use Rattle.crs_model.specs.Images.{IsImage}
-use Rattle.crs_model.specs.Steps.{GoesOn}
+use Rattle.crs_model.specs.Open.{IsOpen, IsRecognisedWhole, before}
 use Rattle.crs_model.proofs.Options.{of_some}
 use Rattle.crs_model.proofs.Parts.{open_back}
 
@@ -49,24 +46,3 @@ module _ {S : Type 0} (c : Chronicle S) (pool entries more was : List (Entry S))
   same_pool level a k = open_back c level d n later a a (λ e x i. i) refl
       (λ f x w i. let u = w.unbound in absurd (cc))
       pool pool entries more late (λ e x i. of_some (at a e) x _ i (k.partial.given e)) k.closed k
-
-  -- the held ones that stay fine
-  module _ (level : ℕ → ℕ) (held out : List (Partial S)) (stands : StandsFor c level held was pool entries d g) (more_in : (e : Entry S) → IsIn e more → IsIn e pool) where
-    entries_more : (e : Entry S) → IsIn e (entries ++ more) → IsIn e pool
-    entries_more e i = elim (in_append entries more e i) [ inl a ↦ stands.entries_in e a | inr b ↦ more_in e b ]
-
-    same_before : before g (entries ++ more) ≡ before g entries
-    same_before = before_more g entries more (λ e i. let l = late e i in let m = stands.marked in omega arith)
-
-    pub swept : IsImage (GoesOn (IsOpen c level pool (entries ++ more) n)) held out → StandsFor c level out was pool (entries ++ more) n g
-    swept im = record {
-      was_in = stands.was_in;
-      entries_in = entries_more;
-      marked = let m = stands.marked in omega arith;
-      distinct = im.distinct;
-      each = λ a i.
-          let r = im.sound a i in
-          let k = stands.each r.0 r.1 in
-          ((r.2).1, λ rec. k.1 (subst (λ (b : Partial S). IsRecognisedWhole c was (before g entries) g b) (r.2).0 (subst (λ (t : List (Entry S)). IsRecognisedWhole c was t g a) same_before rec)));
-      all = λ a k. im.complete a a (stands.all a (same_pool level a k.0, λ rec. k.1 (subst (λ (t : List (Entry S)). IsRecognisedWhole c was t g a) (sym same_before) rec))) (refl, k.0);
-    }

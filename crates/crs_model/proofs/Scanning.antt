@@ -1,17 +1,12 @@
 -- What a step of a scan keeps.
-use Rattle.std.proofs.Common.{◌≡◌, ℕ, ◌<◌, length, refl, sym, ap, subst, ◌∙◌, inl, inr, arith, length-set}
+use Rattle.std.proofs.Common.{◌≡◌, ℕ, ◌<◌, length, sym, ap, subst, ◌∙◌, inl, inr, arith, length-set}
 use Rattle.std.specs.Prelude.{Some, None}
 use Rattle.std.proofs.lemmas.Bool.Decides.{eqb_tells}
 use Rattle.crs_base.specs.Entry.{Entry}
 use Rattle.crs_model.specs.Partial.{Partial, at, put, IsLevelClosed, IsAwaited}
-use Rattle.crs_model.specs.Scans.{GrowsTo}
 use Rattle.crs_model.proofs.Parts.{put_same, put_other}
 
 module _ {S : Type 0} (level : ℕ → ℕ) where
-  -- what grows to itself
-  pub grows_self : (l : ℕ) (a : Partial S) → GrowsTo level l a a
-  grows_self l a = record { len = refl; part = λ e x i. i; beyond = λ f y i j. absurd (cc) }
-
   -- a step keeps a partial assignment level-closed
   pub put_closed : (a : Partial S) (f : ℕ) (y : Entry S) → IsAwaited level a f → IsLevelClosed level a → IsLevelClosed level (put a f y)
   put_closed a f y w closed e g inside lower free = elim (eqb_tells e f) [

@@ -1,8 +1,8 @@
 -- What comes of a held partial assignment when an entry is offered.
-use Rattle.std.specs.Prelude.{◌≡◌, ◌≢◌, ◌⊎◌, ◌<◌, ℕ, List, length, None}
+use Rattle.std.specs.Prelude.{◌≡◌, ◌≢◌, ℕ, List}
 use Rattle.crs_base.specs.Words.{IsIn}
 use Rattle.crs_base.specs.Entry.{Entry}
-use Rattle.crs_model.specs.Partial.{Partial, at, put}
+use Rattle.crs_model.specs.Partial.{Partial}
 
 -- all levels are 0
 abbrev pub flat : ℕ → ℕ
@@ -12,10 +12,6 @@ module _ {S : Type 0} where
   -- no entry of the pool has the arrival number of x
   abbrev pub IsFresh : List (Entry S) → Entry S → Type 0
   IsFresh pool x = (e : Entry S) → IsIn e pool → e.arrival ≢ x.arrival
-
-  -- itself, or with one more event bound to x, where that is fine
-  abbrev pub GoesOnWith : (Partial S → Type 0) → Entry S → Partial S → Partial S → Type 0
-  GoesOnWith Fine x a b = ((b ≡ a) × Fine b) ⊎ ((e : ℕ) × (e < length a) × (at a e ≡ None) × (b ≡ put a e x) × Fine b)
 
   -- itself, where that is fine
   abbrev pub GoesOn : (Partial S → Type 0) → Partial S → Partial S → Type 0

@@ -63,8 +63,7 @@ module _ (plan : Plan) (proper : IsProper plan) (pool entries later ahead : List
   hopeless_grown : ⊥
   hopeless_grown = elim (cases_of (at w.grown k.event)) [
     | inl none ↦
-        let inside : k.event < length w.grown = (let a = w.fine.partial.len in let b = k.of.len in let c = k.within in let d = same_events in omega arith) in
-        too_soon (w.fine.dates.0 k.event) k.last beyond h in_time k.early coming.within (w.fine.dates.3 k.event (unbound_awaited plan w.grown k.event inside none))
+        let inside : k.event < length w.grown = (let a = w.fine.partial.len in let b = k.of.len in let c = k.within in let d = same_events in omega arith) in too_soon (w.fine.dates.0 k.event) k.last beyond h in_time k.early coming.within (w.fine.dates.3 k.event (unbound_awaited plan w.grown k.event inside none))
     | inr some ↦
         let y = some.0 in
         let dated : w.fine.dates.0 k.event ≡ pos (some.0).date = agrees_at w.grown w.fine.dates.0 k.event some.0 agrees some.1 in
@@ -85,8 +84,7 @@ module _ (plan : Plan) (proper : IsProper plan) (pool entries later ahead : List
       event_there = let a = k.of.len in let b = k.within in let c = same_events in omega arith
 
 pub hopeless_unwanted : (plan : Plan) → IsProper plan → (focus : Bool) (pool entries later ahead : List (Entry Sym)) (beyond h : ℕ) (i : InstanceState) → AreAhead ahead beyond later h → MayGo plan focus ahead beyond i → IsWanted (chronicle plan) (levels_in plan focus) pool entries later h i.partial → ⊥
-hopeless_unwanted plan proper focus pool entries later ahead beyond h i coming may w =
-    hopeless_grown plan proper pool entries later ahead beyond h i coming may.1 (subst (λ (b : Bool). IsWanted (chronicle plan) (levels_in plan b) pool entries later h i.partial) may.0 w)
+hopeless_unwanted plan proper focus pool entries later ahead beyond h i coming may w = hopeless_grown plan proper pool entries later ahead beyond h i coming may.1 (subst (λ (b : Bool). IsWanted (chronicle plan) (levels_in plan b) pool entries later h i.partial) may.0 w)
 
 -- ---- how it is found
 

@@ -140,8 +140,7 @@ offered_from seen old new history x until ahead beyond up p view is sp same judg
 
 -- what is judged at its date, with nothing ahead, is exact
 pub offered_alone : {E : Type 0} (r : Result Unit E) (old new : StoreState) (history : HistoryState) (x : Entry Sym) → OnOk r (IsOfferedAt old history x x.date [] x.date new) → OnOk r (IsOffered old history x new)
-offered_alone r old new history x = on_ok_weaker r (λ h was settled d g stands kept far few fresh later.
-    exact_now new was (settled ++ x ∷ []) (settled ++ x ∷ []) x.date g
+offered_alone r old new history x = on_ok_weaker r (λ h was settled d g stands kept far few fresh later. exact_now new was (settled ++ x ∷ []) (settled ++ x ∷ []) x.date g
     (h was settled [] d g x.date (ahead_of old was settled settled (x ∷ []) d g x.date stands) (record { each = λ y i. absurd i; within = omega arith }) kept far few fresh later))
 
 -- ---- the root alone
