@@ -1,14 +1,14 @@
 -- The entries that are settled one after another, and all stores' part in it.
 use Rattle.std.proofs.Common.{◌≡◌, ℕ, ◌<◌, ◌≤◌, ◌^◌, List, [], ◌∷◌, ◌++◌, refl, sym, ap, subst, ◌∙◌, inl, inr, arith, append_assoc, append-nil, cond, nat_lt, Bool, true, false}
-use Rattle.std.specs.Prelude.{Some, None, min, pos, ◌≤ℤ◌}
+use Rattle.std.specs.Prelude.{Some, None, min, pos, ◌≤ℤ◌, ℤ}
 use Rattle.std.proofs.lemmas.Int.{ints}
 use Rattle.std.specs.List.{AllByRecursion}
-use Rattle.std.proofs.lemmas.Bool.{ltb-true}
+use Rattle.std.proofs.lemmas.Bool.{ltb-true, le-ltb}
 use Rattle.crs_base.specs.declared.symbols.Sym.{Sym}
 use Rattle.crs_base.specs.Entry.{Entry, entry_cmp, IsInKeyOrder}
 use Rattle.crs_base.specs.Words.{IsIn}
-use Rattle.crs_base.proofs.Words.{each_from_in, in_from_each, in_append}
-use Rattle.crs_base.proofs.Alls.{all_left, all_put}
+use Rattle.crs_base.proofs.Words.{each_from_in, in_from_each, in_append, in_append_left}
+use Rattle.crs_base.proofs.Alls.{all_append, all_left, all_put, all_right}
 use Rattle.crs_base.proofs.KeyOrder.{date_of_less}
 use Rattle.std.specs.declared.cmp.Ordering.TheVariants.{Less}
 use Rattle.crs_model.specs.declared.recognition.Mark.{Mark}
@@ -18,8 +18,8 @@ use Rattle.crs_history.specs.Histories.{HistoryState, EndsWith, IsAfterAll, Stan
 use Rattle.crs_store.specs.Ahead.{AreAhead}
 use Rattle.crs_store.specs.Stores.{StoreState, IsSameStore}
 use Rattle.crs_store.specs.Answers.{IsAdvanced}
-use Rattle.crs_engine.specs.Moves.{AreSameStores, AreOffered, HasPut, AreOfferedAll, AreDue, ArePut, IsRestOf, AreAdvanced, date_after}
-use Rattle.crs_engine.proofs.Order.{ordered_cross, ordered_left, ordered_right, ordered_without}
+use Rattle.crs_engine.specs.Moves.{AreSameStores, AreOffered, HasPut, AreOfferedAll, AreTaken, ArePut, AreSettledInPart, AreSettled, IsRestOf, AreAdvanced, date_after}
+use Rattle.crs_engine.proofs.Order.{ordered_cross, ordered_right, ordered_without}
 
 pub same_all : (ss : List StoreState) → AreSameStores ss ss
 same_all [] = tt
@@ -63,21 +63,22 @@ offered_more h olds past (y ∷ xs) x after news now next put ahead beyond o a p
 abbrev pub IsSmall : Entry Sym → Type 0
 IsSmall x = x.date < 2 ^ 40
 
--- what is known while entries are settled
-pub record AreSettledSoFar (olds : List StoreState) (past : HistoryState) (due : List (Entry Sym)) (h : ℕ) (news : List StoreState) (now : HistoryState) (rest : List (Entry Sym)) : Type 0 where
+-- what is known while entries are settled behind which others wait
+pub record AreSettledSoFar (olds : List StoreState) (past : HistoryState) (due waiting : List (Entry Sym)) (h : ℕ) (news : List StoreState) (now : HistoryState) (rest : List (Entry Sym)) : Type 0 where
   pub same : AreSameStores olds news
   pub small : AllByRecursion IsSmall rest
   pub before : AllByRecursion (λ x. x.date < h) rest
   pub done : List (Entry Sym)
   pub parted : due ≡ done ++ rest
   pub kept : now.entries ≡ past.entries ++ done
-  pub order : IsInKeyOrder (now.entries ++ rest)
+  pub order : IsInKeyOrder (now.entries ++ (rest ++ waiting))
   pub floor : now.floor ≡ past.floor
   pub late : AllByRecursion (λ x. past.floor ≤ℤ pos x.date) rest
-  pub offered : AreOfferedAll h rest olds past done news now
+  pub offered : AreOfferedAll h (rest ++ waiting) olds past done news now
 
-pub settled_none : (olds : List StoreState) (past : HistoryState) (due : List (Entry Sym)) (h : ℕ) → AllByRecursion IsSmall due → AllByRecursion (λ x. x.date < h) due → IsInKeyOrder (past.entries ++ due) → AllByRecursion (λ x. past.floor ≤ℤ pos x.date) due → AreSettledSoFar olds past due h olds past due
-settled_none olds past due h small before order late = record {
+pub settled_none : (olds : List StoreState) (past : HistoryState) (due waiting : List (Entry Sym)) (h : ℕ) → AllByRecursion IsSmall due → AllByRecursion (λ x. x.date < h) due → IsInKeyOrder (past.entries ++ (due ++ waiting))
+    → AllByRecursion (λ x. past.floor ≤ℤ pos x.date) due → AreSettledSoFar olds past due waiting h olds past due
+settled_none olds past due waiting h small before order late = record {
   same = same_all olds;
   small = small;
   before = before;
@@ -109,7 +110,7 @@ first_before h (y ∷ es) o x (inl s) = subst (λ (t : Entry Sym). min y.date h 
 first_before h (y ∷ es) o x (inr i) = let d : y.date ≤ x.date = date_of_less y x (in_from_each (λ z. entry_cmp y z ≡ Less) es o.0 x i) in omega arith
 
 -- those of a list up to a place are ahead of the others
-pub parted_ahead : (h : ℕ) (after ahead others : List (Entry Sym)) → IsInKeyOrder after → after ≡ ahead ++ others → AreAhead ahead (date_after h others) after h
+parted_ahead : (h : ℕ) (after ahead others : List (Entry Sym)) → IsInKeyOrder after → after ≡ ahead ++ others → AreAhead ahead (date_after h others) after h
 parted_ahead h after ahead others order parted = record {
   each = λ x i. elim (in_append ahead others x (subst (IsIn x) parted i)) [
     | inl a ↦ inl a
@@ -120,20 +121,30 @@ parted_ahead h after ahead others order parted = record {
 
 -- ---- one entry more
 
-module _ (olds : List StoreState) (past : HistoryState) (due : List (Entry Sym)) (h : ℕ) (news : List StoreState) (now : HistoryState) (rest : List (Entry Sym)) (so : AreSettledSoFar olds past due h news now rest) where
+module _ (olds : List StoreState) (past : HistoryState) (due waiting : List (Entry Sym)) (h : ℕ) (news : List StoreState) (now : HistoryState) (rest : List (Entry Sym)) (so : AreSettledSoFar olds past due waiting h news now rest) where
   module _ (x : Entry Sym) (after : List (Entry Sym)) (cut : rest ≡ x ∷ after) where
     parted_more : due ≡ (so.done ++ x ∷ []) ++ after
     parted_more = so.parted ∙ ap (λ (t : List (Entry Sym)). so.done ++ t) cut ∙ sym (append_assoc so.done (x ∷ []) after)
 
-    order_cut : IsInKeyOrder (now.entries ++ x ∷ after)
-    order_cut = subst (λ (t : List (Entry Sym)). IsInKeyOrder (now.entries ++ t)) cut so.order
+    -- what comes behind the entry
+    abbrev behind : List (Entry Sym)
+    behind = after ++ waiting
 
-    pub order_after : IsInKeyOrder after
-    order_after = (ordered_right (λ a b. entry_cmp a b ≡ Less) now.entries (x ∷ after) order_cut).1
+    order_cut : IsInKeyOrder (now.entries ++ x ∷ behind)
+    order_cut = subst (λ (t : List (Entry Sym)). IsInKeyOrder (now.entries ++ (t ++ waiting))) cut so.order
+
+    order_here : IsInKeyOrder (x ∷ behind)
+    order_here = ordered_right (λ a b. entry_cmp a b ≡ Less) now.entries (x ∷ behind) order_cut
+
+    pub order_after : IsInKeyOrder (after ++ waiting)
+    order_after = order_here.1
+
+    pub before_after : AllByRecursion (λ x. x.date < h) after
+    before_after = (subst (AllByRecursion (λ x. x.date < h)) cut so.before).1
 
     -- the entry comes after the history
     pub comes_last : (y : Entry Sym) → y ≡ x → IsAfterAll now.entries y
-    comes_last y s = subst (IsAfterAll now.entries) (sym s) (each_from_in (λ d. entry_cmp d x ≡ Less) now.entries (λ d i. ordered_cross (λ a b. entry_cmp a b ≡ Less) now.entries (x ∷ after) order_cut d x i (inl refl)))
+    comes_last y s = subst (IsAfterAll now.entries) (sym s) (each_from_in (λ d. entry_cmp d x ≡ Less) now.entries (λ d i. ordered_cross (λ a b. entry_cmp a b ≡ Less) now.entries (x ∷ behind) order_cut d x i (inl refl)))
 
     -- the entry isn't before the floor
     pub not_early : (y : Entry Sym) → y ≡ x → now.floor ≤ℤ pos y.date
@@ -143,10 +154,8 @@ module _ (olds : List StoreState) (past : HistoryState) (due : List (Entry Sym))
     is_small = (subst (AllByRecursion IsSmall) cut so.small).0
 
     -- what is judged once the entry is offered is judged at no date before it
-    pub judged_later : (until : ℕ) → until ≡ date_after h after → x.date ≤ until
-    judged_later until u =
-        let l = first_later h x after (subst (AllByRecursion (λ x. x.date < h)) cut so.before).0 (ordered_right (λ a b. entry_cmp a b ≡ Less) now.entries (x ∷ after) order_cut).0 in
-        omega (arith, u, l)
+    pub judged_later : (until : ℕ) → until ≡ date_after h (after ++ waiting) → x.date ≤ until
+    judged_later until u = let l = first_later h x behind (subst (AllByRecursion (λ x. x.date < h)) cut so.before).0 order_here.0 in omega (arith, u, l)
 
     module _ (pushed : HistoryState) (y : Entry Sym) (same_entry : y ≡ x) (is : pushed ≡ record { entries = now.entries ++ y ∷ []; floor = now.floor }) where
       entries_are : pushed.entries ≡ now.entries ++ x ∷ []
@@ -171,20 +180,20 @@ module _ (olds : List StoreState) (past : HistoryState) (due : List (Entry Sym))
           stands = λ es k. subst (λ (t : Entry Sym). StandsFor (es ++ t ∷ []) pushed) same_entry (stands_on es k);
         }
 
-        pub settled_on : (next : List StoreState) → AreSameStores news next → (until : ℕ) → until ≡ date_after h after → (ahead : List (Entry Sym)) (beyond : ℕ) → AreAhead ahead beyond after h
+        pub settled_on : (next : List StoreState) → AreSameStores news next → (until : ℕ) → until ≡ date_after h (after ++ waiting) → (ahead : List (Entry Sym)) (beyond : ℕ) → AreAhead ahead beyond (after ++ waiting) h
             → AreOffered news pushed x until ahead beyond next
-            → AreSettledSoFar olds past due h next pushed after
+            → AreSettledSoFar olds past due waiting h next pushed after
         settled_on next same until u ahead beyond coming offered = record {
           same = same_on olds news next so.same same;
           small = (subst (AllByRecursion IsSmall) cut so.small).1;
-          before = (subst (AllByRecursion (λ x. x.date < h)) cut so.before).1;
+          before = before_after;
           done = so.done ++ x ∷ [];
           parted = parted_more;
           kept = kept_more;
-          order = subst IsInKeyOrder (sym (ap (λ (t : List (Entry Sym)). t ++ after) entries_are ∙ append_assoc now.entries (x ∷ []) after)) order_cut;
+          order = subst IsInKeyOrder (sym (ap (λ (t : List (Entry Sym)). t ++ behind) entries_are ∙ append_assoc now.entries (x ∷ []) behind)) order_cut;
           floor = floor_with;
           late = (subst (AllByRecursion (λ y. past.floor ≤ℤ pos y.date)) cut so.late).1;
-          offered = offered_more h olds past so.done x after news now next pushed ahead beyond (subst (λ (t : List (Entry Sym)). AreOfferedAll h t olds past so.done news now) cut so.offered) coming put_last same
+          offered = offered_more h olds past so.done x behind news now next pushed ahead beyond (subst (λ (t : List (Entry Sym)). AreOfferedAll h (t ++ waiting) olds past so.done news now) cut so.offered) coming put_last same
               (subst (λ (n : ℕ). AreOffered news pushed x n ahead beyond next) u offered);
         }
 
@@ -199,25 +208,54 @@ came_out (y ∷ es) h x e = by (nat_lt y.date h) refl e
     by true t e = let s : y ≡ x = cc in (ap (λ (z : Entry Sym). z ∷ es) s, subst (λ (z : Entry Sym). z.date < h) s (ltb-true y.date h t))
     by false t e = absurd cc
 
--- what was taken out so far is dated before h, and the rest comes after it
-pub record AreDueSoFar (h : ℕ) (due held rest : List (Entry Sym)) : Type 0 where
-  pub parted : held ≡ due ++ rest
-  pub before : AllByRecursion (λ x. x.date < h) due
+-- the first entry comes out
+pub first_taken : (h : ℕ) (held after : List (Entry Sym)) (x : Entry Sym) → released held h ≡ Some x → after ≡ left held h → (held ≡ x ∷ after) × (x.date < h)
+first_taken h held after x e r =
+    let out = came_out held h x e in
+    (out.0 ∙ ap (λ (t : List (Entry Sym)). x ∷ t) (sym r), out.1)
 
-pub due_more : (h : ℕ) (due held rest after next : List (Entry Sym)) (x : Entry Sym) → AreDueSoFar h due held rest → released rest h ≡ Some x → after ≡ left rest h → next ≡ due ++ x ∷ [] → AreDueSoFar h next held after
-due_more h due held rest after next x so e r n =
-    let out = came_out rest h x e in
+-- what was taken out so far, behind the first entry
+pub record AreTakenSoFar (h : ℕ) (taken : List (Entry Sym)) (x : Entry Sym) (held rest : List (Entry Sym)) : Type 0 where
+  pub taken_out : AreTaken h taken (x ∷ held) rest
+  pub rest_of : IsRestOf held rest
+
+pub taken_one : (h : ℕ) (taken : List (Entry Sym)) (x : Entry Sym) (held : List (Entry Sym)) → x.date < h → taken ≡ x ∷ [] → AreTakenSoFar h taken x held held
+taken_one h taken x held l t = record {
+  taken_out = record { parted = ap (λ (t : List (Entry Sym)). t ++ held) (sym t); before = subst (AllByRecursion (λ x. x.date < h)) (sym t) (l, tt) };
+  rest_of = ([], refl);
+}
+
+pub rest_on : (xs ys zs : List (Entry Sym)) → IsRestOf xs ys → IsRestOf ys zs → IsRestOf xs zs
+rest_on xs ys zs a b = (a.0 ++ b.0, a.1 ∙ ap (λ (t : List (Entry Sym)). a.0 ++ t) b.1 ∙ sym (append_assoc a.0 b.0 zs))
+
+pub rest_behind : (x : Entry Sym) (held rest : List (Entry Sym)) → IsRestOf held rest → IsRestOf (x ∷ held) rest
+rest_behind x held rest r = (x ∷ r.0, ap (λ (t : List (Entry Sym)). x ∷ t) r.1)
+
+pub rest_first : (h : ℕ) (held after : List (Entry Sym)) (x : Entry Sym) → released held h ≡ Some x → after ≡ left held h → IsRestOf held after
+rest_first h held after x e r = (x ∷ [], (first_taken h held after x e r).0)
+
+-- one more is out
+pub rest_more : (h : ℕ) (taken : List (Entry Sym)) (x : Entry Sym) (held rest after : List (Entry Sym)) (y : Entry Sym) → AreTakenSoFar h taken x held rest → released rest h ≡ Some y → after ≡ left rest h → IsRestOf held after
+rest_more h taken x held rest after y so e r = rest_on held rest after so.rest_of (rest_first h rest after y e r)
+
+pub taken_more : (h : ℕ) (taken : List (Entry Sym)) (x : Entry Sym) (held rest after next : List (Entry Sym)) (y : Entry Sym) → AreTakenSoFar h taken x held rest → released rest h ≡ Some y → after ≡ left rest h → next ≡ taken ++ y ∷ [] → AreTakenSoFar h next x held after
+taken_more h taken x held rest after next y so e r n =
+    let out = first_taken h rest after y e r in
     record {
-      parted = so.parted ∙ ap (λ (t : List (Entry Sym)). due ++ t) (out.0 ∙ ap (λ (t : List (Entry Sym)). x ∷ t) (sym r)) ∙ sym (append_assoc due (x ∷ []) after) ∙ ap (λ (t : List (Entry Sym)). t ++ after) (sym n);
-      before = subst (AllByRecursion (λ x. x.date < h)) (sym n) (all_put (λ y. y.date < h) due x so.before out.1);
+      taken_out = record {
+        parted = (so.taken_out).parted ∙ ap (λ (t : List (Entry Sym)). taken ++ t) out.0 ∙ sym (append_assoc taken (y ∷ []) after) ∙ ap (λ (t : List (Entry Sym)). t ++ after) (sym n);
+        before = subst (AllByRecursion (λ x. x.date < h)) (sym n) (all_put (λ z. z.date < h) taken y (so.taken_out).before out.1);
+      };
+      rest_of = rest_more h taken x held rest after y so e r;
     }
 
-pub rest_of : (h : ℕ) (due held rest : List (Entry Sym)) → AreDueSoFar h due held rest → IsRestOf held rest
-rest_of h due held rest so = (due, so.parted)
+-- nothing comes out where none is due
+left_none : (h : ℕ) (es : List (Entry Sym)) → AllByRecursion (λ x. h ≤ x.date) es → left es h ≡ es
+left_none h [] k = refl
+left_none h (e ∷ es) k = ap (λ (b : Bool). cond b es (e ∷ es)) (le-ltb e.date h k.0)
 
--- the rest, once one more is out
-pub rest_of_more : (h : ℕ) (due held rest after : List (Entry Sym)) (x : Entry Sym) → AreDueSoFar h due held rest → released rest h ≡ Some x → after ≡ left rest h → IsRestOf held after
-rest_of_more h due held rest after x so e r = rest_of h (due ++ x ∷ []) held after (due_more h due held rest after (due ++ x ∷ []) x so e r refl)
+pub taken_all : (h : ℕ) (taken : List (Entry Sym)) (x : Entry Sym) (held rest after : List (Entry Sym)) → AreTakenSoFar h taken x held rest → AllByRecursion (λ x. h ≤ x.date) rest → after ≡ left rest h → AreTakenSoFar h taken x held after
+taken_all h taken x held rest after so none r = subst (AreTakenSoFar h taken x held) (sym (r ∙ left_none h rest none)) so
 
 -- the history stays in order before what waits
 pub in_order_put : (past now : HistoryState) (done waiting : List (Entry Sym)) (put : ArePut past done now) → IsInKeyOrder (past.entries ++ (done ++ waiting)) → IsInKeyOrder (now.entries ++ waiting)
@@ -230,12 +268,130 @@ in_order_put past now done waiting put order =
 pub in_order_rest : (past : HistoryState) (held rest : List (Entry Sym)) (r : IsRestOf held rest) → IsInKeyOrder (past.entries ++ held) → IsInKeyOrder (past.entries ++ rest)
 in_order_rest past held rest r order = ordered_without (λ a b. entry_cmp a b ≡ Less) past.entries r.0 rest (subst (λ (t : List (Entry Sym)). IsInKeyOrder (past.entries ++ t)) r.1 order)
 
--- with it alone
-pub in_order_due : (h : ℕ) (past : HistoryState) (due held rest : List (Entry Sym)) → AreDue h due held rest → IsInKeyOrder (past.entries ++ held) → IsInKeyOrder (past.entries ++ due)
-in_order_due h past due held rest d order = ordered_left (λ a b. entry_cmp a b ≡ Less) (past.entries ++ due) rest (subst IsInKeyOrder (ap (λ (t : List (Entry Sym)). past.entries ++ t) d.parted ∙ sym (append_assoc past.entries due rest)) order)
+pub each_taken : (P : Entry Sym → Type 0) (h : ℕ) (taken held rest : List (Entry Sym)) → AreTaken h taken held rest → AllByRecursion P held → AllByRecursion P taken
+each_taken P h taken held rest t all = all_left P taken rest (subst (AllByRecursion P) t.parted all)
 
-pub each_due : (P : Entry Sym → Type 0) (h : ℕ) (due held rest : List (Entry Sym)) → AreDue h due held rest → AllByRecursion P held → AllByRecursion P due
-each_due P h due held rest d all = all_left P due rest (subst (AllByRecursion P) d.parted all)
+-- ---- the date behind a piece
+
+pub date_joined : (h : ℕ) (xs ys : List (Entry Sym)) → AllByRecursion (λ x. x.date < h) xs → IsInKeyOrder (xs ++ ys) → (next : ℕ) → next ≡ date_after h ys → date_after next xs ≡ date_after h (xs ++ ys)
+date_joined h [] ys before order next n = n
+date_joined h (x ∷ xs) ys before order next n =
+    let l = first_later h x ys before.0 (all_right (λ y. entry_cmp x y ≡ Less) xs ys order.0) in
+    let d = before.0 in
+    omega (arith, n, l, d)
+
+-- of a piece, those up to a place are ahead of all others
+pub parted_behind : (h : ℕ) (after ahead others waiting : List (Entry Sym)) → IsInKeyOrder (after ++ waiting) → AllByRecursion (λ x. x.date < h) after → after ≡ ahead ++ others → (next : ℕ) → next ≡ date_after h waiting → (beyond : ℕ) → beyond ≡ date_after next others
+    → AreAhead ahead beyond (after ++ waiting) h
+parted_behind h after ahead others waiting order before parted next n beyond b =
+    let regrouped : after ++ waiting ≡ ahead ++ (others ++ waiting) = ap (λ (t : List (Entry Sym)). t ++ waiting) parted ∙ append_assoc ahead others waiting in
+    let order_others : IsInKeyOrder (others ++ waiting) = ordered_right (λ a b. entry_cmp a b ≡ Less) ahead (others ++ waiting) (subst IsInKeyOrder regrouped order) in
+    let before_others : AllByRecursion (λ x. x.date < h) others = all_right (λ x. x.date < h) ahead others (subst (AllByRecursion (λ x. x.date < h)) parted before) in
+    subst (λ (m : ℕ). AreAhead ahead m (after ++ waiting) h) (sym (b ∙ date_joined h others waiting before_others order_others next n))
+    (parted_ahead h (after ++ waiting) ahead (others ++ waiting) order regrouped)
+
+-- ---- piece by piece
+
+-- what a second piece does, behind the first
+offered_on : (h : ℕ) (xs ys rest : List (Entry Sym)) (olds mid news : List StoreState) (past put now : HistoryState) → AreOfferedAll h (ys ++ rest) olds past xs mid put → AreOfferedAll h rest mid put ys news now → AreOfferedAll h rest olds past (xs ++ ys) news now
+offered_on h [] ys rest olds mid news past put now first second =
+    subst (λ (t : List StoreState). AreOfferedAll h rest t past ys news now) first.0 (subst (λ (t : HistoryState). AreOfferedAll h rest mid t ys news now) first.1 second)
+offered_on h (x ∷ xs) ys rest olds mid news past put now first second = (
+  first.0,
+  first.1,
+  first.2,
+  first.3,
+  subst (λ (t : List (Entry Sym)). AreAhead first.2 first.3 t h) (sym (append_assoc xs ys rest)) first.4,
+  first.5,
+  first.6,
+  subst (λ (t : List (Entry Sym)). AreOffered olds first.1 x (date_after h t) first.2 first.3 first.0) (sym (append_assoc xs ys rest)) first.7,
+  offered_on h xs ys rest first.0 mid news first.1 put now first.8 second,
+)
+
+-- what isn't due is as if it didn't come
+date_without : (h : ℕ) (xs rest : List (Entry Sym)) → AllByRecursion (λ x. h ≤ x.date) rest → date_after h (xs ++ rest) ≡ date_after h (xs ++ [])
+date_without h [] [] after = refl
+date_without h [] (r ∷ rest) after = let l = after.0 in omega (arith, l)
+date_without h (x ∷ xs) rest after = refl
+
+ahead_without : (ahead : List (Entry Sym)) (beyond : ℕ) (xs rest : List (Entry Sym)) (h : ℕ) → AreAhead ahead beyond (xs ++ rest) h → AreAhead ahead beyond (xs ++ []) h
+ahead_without ahead beyond xs rest h a = record {
+  each = λ x i. a.each x (in_append_left xs rest x (subst (IsIn x) (append-nil xs) i));
+  within = a.within;
+}
+
+offered_without : (h : ℕ) (xs rest : List (Entry Sym)) (olds news : List StoreState) (past now : HistoryState) → AllByRecursion (λ x. h ≤ x.date) rest → AreOfferedAll h rest olds past xs news now → AreOfferedAll h [] olds past xs news now
+offered_without h [] rest olds news past now after o = o
+offered_without h (x ∷ xs) rest olds news past now after o = (
+  o.0,
+  o.1,
+  o.2,
+  o.3,
+  ahead_without o.2 o.3 xs rest h o.4,
+  o.5,
+  o.6,
+  subst (λ (n : ℕ). AreOffered olds o.1 x n o.2 o.3 o.0) (date_without h xs rest after) o.7,
+  offered_without h xs rest o.0 news o.1 now after o.8,
+)
+
+-- what is known between two pieces
+pub record AreSettledByPieces (olds : List StoreState) (past : HistoryState) (held : List (Entry Sym)) (h : ℕ) (news : List StoreState) (now : HistoryState) (rest : List (Entry Sym)) : Type 0 where
+  pub part : AreSettledInPart olds past held h news now rest
+  pub order : IsInKeyOrder (now.entries ++ rest)
+  pub floor : now.floor ≡ past.floor
+
+pub pieces_none : (olds : List StoreState) (past : HistoryState) (held : List (Entry Sym)) (h : ℕ) → IsInKeyOrder (past.entries ++ held) → AreSettledByPieces olds past held h olds past held
+pieces_none olds past held h order = record {
+  part = record { same = same_all olds; done = []; taken = record { parted = refl; before = tt }; kept = sym (append-nil past.entries); offered = (refl, refl) };
+  order = order;
+  floor = refl;
+}
+
+module _ (olds mid news : List StoreState) (past put now : HistoryState) (held : List (Entry Sym)) (h : ℕ) (between rest : List (Entry Sym)) (so : AreSettledByPieces olds past held h mid put between) (piece : AreSettledInPart mid put between h news now rest) where
+  abbrev done_on : List (Entry Sym)
+  done_on = (so.part).done ++ piece.done
+
+  taken_on : AreTaken h done_on held rest
+  taken_on = record {
+    parted = ((so.part).taken).parted ∙ ap (λ (t : List (Entry Sym)). (so.part).done ++ t) (piece.taken).parted ∙ sym (append_assoc (so.part).done piece.done rest);
+    before = all_append (λ x. x.date < h) (so.part).done piece.done ((so.part).taken).before (piece.taken).before;
+  }
+
+  pub piece_more : IsInKeyOrder (now.entries ++ rest) → now.floor ≡ put.floor → AreSettledByPieces olds past held h news now rest
+  piece_more order floor = record {
+    part = record {
+      same = same_on olds mid news (so.part).same piece.same;
+      done = done_on;
+      taken = taken_on;
+      kept = piece.kept ∙ ap (λ (t : List (Entry Sym)). t ++ piece.done) (so.part).kept ∙ append_assoc past.entries (so.part).done piece.done;
+      offered = offered_on h (so.part).done piece.done rest olds mid news past put now (subst (λ (t : List (Entry Sym)). AreOfferedAll h t olds past (so.part).done mid put) (piece.taken).parted (so.part).offered) piece.offered;
+    };
+    order = order;
+    floor = floor ∙ so.floor;
+  }
+
+-- once none is due any more
+pub settled_whole : (olds news : List StoreState) (past now : HistoryState) (held : List (Entry Sym)) (h : ℕ) (rest : List (Entry Sym)) → AreSettledByPieces olds past held h news now rest → AllByRecursion (λ x. h ≤ x.date) rest → AreSettled olds past held h news now rest
+settled_whole olds news past now held h rest so after = record {
+  same = (so.part).same;
+  done = (so.part).done;
+  due = record { parted = ((so.part).taken).parted; before = ((so.part).taken).before; after = after };
+  kept = (so.part).kept;
+  offered = offered_without h (so.part).done rest olds news past now after (so.part).offered;
+}
+
+pub settled_at_end : (olds news : List StoreState) (past now : HistoryState) (held : List (Entry Sym)) (h : ℕ) (rest after : List (Entry Sym)) → AreSettledByPieces olds past held h news now rest → AllByRecursion (λ x. h ≤ x.date) rest → after ≡ left rest h → AreSettled olds past held h news now after
+settled_at_end olds news past now held h rest after so none r = subst (AreSettled olds past held h news now) (sym (r ∙ left_none h rest none)) (settled_whole olds news past now held h rest so none)
+
+pub rest_at_end : (olds news : List StoreState) (past now : HistoryState) (held : List (Entry Sym)) (h : ℕ) (rest after : List (Entry Sym)) → AreSettledByPieces olds past held h news now rest → IsRestOf rest after → IsRestOf held after
+rest_at_end olds news past now held h rest after so r = rest_on held rest after ((so.part).done, ((so.part).taken).parted) r
+
+-- what holds of all that was held holds of what waits behind some of it
+pub each_waiting : (P : Entry Sym → Type 0) (olds news : List StoreState) (past now : HistoryState) (held : List (Entry Sym)) (h : ℕ) (rest : List (Entry Sym)) → AreSettledByPieces olds past held h news now rest → AllByRecursion P held → AllByRecursion P rest
+each_waiting P olds news past now held h rest so all = all_right P (so.part).done rest (subst (AllByRecursion P) ((so.part).taken).parted all)
+
+pub each_late : (olds news : List StoreState) (past now : HistoryState) (held : List (Entry Sym)) (h : ℕ) (rest : List (Entry Sym)) → AreSettledByPieces olds past held h news now rest → AllByRecursion (λ x. past.floor ≤ℤ pos x.date) held → AllByRecursion (λ x. now.floor ≤ℤ pos x.date) rest
+each_late olds news past now held h rest so all = subst (λ (z : ℤ). AllByRecursion (λ x. z ≤ℤ pos x.date) rest) (sym so.floor) (each_waiting (λ x. past.floor ≤ℤ pos x.date) olds news past now held h rest so all)
 
 -- ---- lists of stores
 

@@ -36,6 +36,11 @@ AreOfferedAll h rest olds past (x ∷ xs) news now =
     (next : List StoreState) × (put : HistoryState) × (ahead : List (Entry Sym)) × (beyond : ℕ) × AreAhead ahead beyond (xs ++ rest) h × HasPut past x put × AreSameStores olds next
     × AreOffered olds put x (date_after h (xs ++ rest)) ahead beyond next × AreOfferedAll h rest next put xs news now
 
+-- the first of the entries, all dated before h, and then the others
+pub record AreTaken (h : ℕ) (taken held rest : List (Entry Sym)) : Type 0 where
+  pub parted : held ≡ taken ++ rest
+  pub before : AllByRecursion (λ x. x.date < h) taken
+
 -- those of the entries that are dated before h, and then the others
 pub record AreDue (h : ℕ) (due held rest : List (Entry Sym)) : Type 0 where
   pub parted : held ≡ due ++ rest
@@ -45,6 +50,14 @@ pub record AreDue (h : ℕ) (due held rest : List (Entry Sym)) : Type 0 where
 -- the first of the entries were put last in the history
 abbrev pub ArePut : HistoryState → List (Entry Sym) → HistoryState → Type 0
 ArePut past entries now = (done : List (Entry Sym)) × (rest : List (Entry Sym)) × (entries ≡ done ++ rest) × (now.entries ≡ past.entries ++ done) × (now.floor ≡ past.floor)
+
+-- the first of the entries, all dated before h, were taken out in turn, put last in the history, and offered
+pub record AreSettledInPart (olds : List StoreState) (past : HistoryState) (held : List (Entry Sym)) (h : ℕ) (news : List StoreState) (now : HistoryState) (rest : List (Entry Sym)) : Type 0 where
+  pub same : AreSameStores olds news
+  pub done : List (Entry Sym)
+  pub taken : AreTaken h done held rest
+  pub kept : now.entries ≡ past.entries ++ done
+  pub offered : AreOfferedAll h rest olds past done news now
 
 -- the entries dated before h were taken out in turn, put last in the history, and offered; the rest is dated at or after h
 pub record AreSettled (olds : List StoreState) (past : HistoryState) (held : List (Entry Sym)) (h : ℕ) (news : List StoreState) (now : HistoryState) (rest : List (Entry Sym)) : Type 0 where

@@ -1,4 +1,4 @@
-ghost use Rattle.std.specs.Prelude.{◌≡◌, ◌<◌, ◌≤◌, ◌≤ℤ◌, ◌<ℤ◌, ◌-ℤ◌, ◌^◌, [], ◌++◌, ℕ, map, pos, OnOk, OnErr, IfOk, List as Items};
+ghost use Rattle.std.specs.Prelude.{◌≡◌, ◌<◌, ◌≤◌, ◌≤ℤ◌, ◌<ℤ◌, ◌-ℤ◌, ◌^◌, [], ◌∷◌, ◌++◌, ℕ, map, pos, OnOk, OnErr, IfOk, List as Items};
 ghost use Rattle.std.specs.Int.{int_max};
 ghost use Rattle.std.specs.List.{AllByRecursion};
 ghost use Rattle.crs_base.specs.declared.symbols.Sym.{Sym};
@@ -6,7 +6,7 @@ ghost use Rattle.crs_base.specs.Entry.{Entry as LogEntry, IsInKeyOrder};
 ghost use Rattle.crs_base.specs.Seen.{entry_of};
 ghost use Rattle.crs_history.specs.Histories.{EndsWith, StandsFor};
 ghost use Rattle.crs_model.specs.declared.recognition.Recognition.{Recognition};
-ghost use Rattle.crs_engine.specs.Moves.{AreSameStores, AreOffered, AreOfferedAll, AreDue, ArePut, AreSettled, IsRestOf, AreAdvanced, AreMarked, date_after};
+ghost use Rattle.crs_engine.specs.Moves.{AreSameStores, AreOffered, AreOfferedAll, AreTaken, ArePut, AreSettledInPart, AreSettled, IsRestOf, AreAdvanced, AreMarked, date_after};
 ghost use Rattle.crs_buffer.specs.Entries.{IsNewKey};
 ghost use Rattle.crs_model.specs.Order.{put_in_order};
 
@@ -22,6 +22,10 @@ use std::sync::ledger::Ledger;
 
 /// Of how many entries that come next a store is told.
 const AHEAD: usize = 8;
+
+/// How many entries are taken out of the buffer before they are settled, at most: few enough that each
+/// is still at hand when it is offered.
+const PIECE: usize = 64;
 
 /// Offers the entry, which is the last of the history, to each store, and has it judge what it holds
 /// at `until`, which no later entry is before. Each is told of the entries that come next.
@@ -61,55 +65,104 @@ fn date_after(entries: &[Rc<Entry>], h: u64) -> u64
     }
 }
 
-/// Takes the entries dated before `h` out of the buffer, in key order. What an error leaves in the
-/// list is not to be used.
-fn take_due(buffer: &mut Buffer, due: &mut Vec<Rc<Entry>>, h: u64) -> Result<(), AllocError>
-    requires empty { due.old.items ≡ [] }
+/// Fills the list anew with the first entry and those behind it in the buffer that are dated before
+/// `h`, up to a piece of them. What an error leaves in the list is not to be used.
+fn take_piece(
+    buffer: &mut Buffer,
+    due: &mut Vec<Rc<Entry>>,
+    first: Rc<Entry>,
+    h: u64,
+) -> Result<(), AllocError>
+    requires before { first.value.date < h }
     ensures rest { IsRestOf buffer.old buffer.new }
-    ensures due { OnOk result (AreDue h (map (λ r. entry_of r.value) due.new.items) buffer.old buffer.new) }
+    ensures taken { OnOk result (AreTaken h (map (λ r. entry_of r.value) due.new.items) (entry_of first.value ∷ buffer.old) buffer.new) }
 {
-    while let Some(entry) = buffer.release_before(h) {
+    due.clear();
+    due.push(first)?;
+    while due.len() < PIECE {
+        let Some(entry) = buffer.release_before(h) else {
+            return Ok(());
+        };
         due.push(entry)?;
     }
     Ok(())
 }
 
+/// The date of the first waiting entry, or `h` where that is the lesser or none waits.
+fn date_behind(buffer: &Buffer, h: u64) -> u64
+    ensures { result ≡ date_after h buffer.now }
+{
+    match buffer.first_date() {
+        Some(date) => date.min(h),
+        None => h,
+    }
+}
+
 /// Adds each of the entries, which are dated before `h` and in key order, to the history, and offers
-/// it to all stores, which judge what they hold at the date of the next of these entries, and at `h`
-/// after the last.
+/// it to all stores, which judge what they hold at the date of the entry that comes next, and at `h`
+/// where none is due. Behind these entries come those of the buffer.
 fn settle_due<L: Ledger>(
     stores: &mut [Store],
     history: &mut History,
+    buffer: &Buffer,
     due: &[Rc<Entry>],
     h: u64,
     steps: &mut Steps<L>,
 ) -> Result<(), NoMemory>
     requires small { AllByRecursion (λ x. x.date < 2 ^ 40) (map (λ r. entry_of r.value) due.now) }
-    requires order { IsInKeyOrder (history.old.entries ++ map (λ r. entry_of r.value) due.now) }
+    requires order { IsInKeyOrder (history.old.entries ++ (map (λ r. entry_of r.value) due.now ++ buffer.now)) }
     requires due { AllByRecursion (λ x. history.old.floor ≤ℤ pos x.date) (map (λ r. entry_of r.value) due.now) }
     requires before { AllByRecursion (λ x. x.date < h) (map (λ r. entry_of r.value) due.now) }
     requires horizon { h ≤ 2 ^ 42 }
     ensures same { AreSameStores stores.old stores.new }
     ensures put { ArePut history.old (map (λ r. entry_of r.value) due.now) history.new }
     ensures kept { OnOk result (history.new.entries ≡ history.old.entries ++ map (λ r. entry_of r.value) due.now) }
-    ensures offered { OnOk result (AreOfferedAll h [] stores.old history.old (map (λ r. entry_of r.value) due.now) stores.new history.new) }
+    ensures offered { OnOk result (AreOfferedAll h buffer.now stores.old history.old (map (λ r. entry_of r.value) due.now) stores.new history.new) }
 {
+    let next = date_behind(buffer, h);
     let mut left = due;
     while let Some((entry, rest)) = left.split_first() {
         let shared = entry.clone()?;
         history.push(shared)?;
-        let until = date_after(rest, h);
+        let until = date_after(rest, next);
         let (ahead, others) = rest.split_at(rest.len().min(AHEAD));
-        let beyond = date_after(others, h);
+        let beyond = date_after(others, next);
         offer_all(stores, history, entry, until, ahead, beyond, steps)?;
         left = rest;
     }
     Ok(())
 }
 
+/// Settles the first entry, and those behind it in the buffer that are dated before `h`, up to a
+/// piece of them.
+fn settle_piece<L: Ledger>(
+    stores: &mut [Store],
+    history: &mut History,
+    buffer: &mut Buffer,
+    due: &mut Vec<Rc<Entry>>,
+    first: Rc<Entry>,
+    h: u64,
+    steps: &mut Steps<L>,
+) -> Result<(), NoMemory>
+    requires small { AllByRecursion (λ x. x.date < 2 ^ 40) (entry_of first.value ∷ buffer.old) }
+    requires order { IsInKeyOrder (history.old.entries ++ entry_of first.value ∷ buffer.old) }
+    requires due { AllByRecursion (λ x. history.old.floor ≤ℤ pos x.date) (entry_of first.value ∷ buffer.old) }
+    requires before { first.value.date < h }
+    requires horizon { h ≤ 2 ^ 42 }
+    ensures same { AreSameStores stores.old stores.new }
+    ensures rest { IsRestOf buffer.old buffer.new }
+    ensures order { IsInKeyOrder (history.new.entries ++ buffer.new) }
+    ensures floor { history.new.floor ≡ history.old.floor }
+    ensures settled { OnOk result (AreSettledInPart stores.old history.old (entry_of first.value ∷ buffer.old) h stores.new history.new buffer.new) }
+{
+    take_piece(buffer, due, first, h)?;
+    settle_due(stores, history, buffer, due.as_slice(), h, steps)?;
+    Ok(())
+}
+
 /// Takes the entries dated before `h` out of the buffer in key order, adds each to the history, and
 /// offers it to all stores, which judge what they hold at the date of the next of these entries, and
-/// at `h` after the last. The list is filled anew, and keeps its memory.
+/// at `h` after the last. The list is filled anew with each piece, and keeps its memory.
 pub(crate) fn settle<L: Ledger>(
     stores: &mut [Store],
     history: &mut History,
@@ -128,9 +181,9 @@ pub(crate) fn settle<L: Ledger>(
     ensures floor { history.new.floor ≡ history.old.floor }
     ensures settled { OnOk result (AreSettled stores.old history.old buffer.old h stores.new history.new buffer.new) }
 {
-    due.clear();
-    take_due(buffer, due, h)?;
-    settle_due(stores, history, due.as_slice(), h, steps)?;
+    while let Some(first) = buffer.release_before(h) {
+        settle_piece(stores, history, buffer, due, first, h, steps)?;
+    }
     due.clear();
     Ok(())
 }

@@ -58,6 +58,12 @@ put_tidy plan focus events windows old new p i puts was index grows old_dues due
 
 -- ---- lists
 
+-- the partial assignments of some of a list's instances
+pub parts_sub : (xs ys : List InstanceState) → ((i : InstanceState) → IsIn i ys → IsIn i xs) → (a : Partial Sym) → IsIn a (parts ys) → IsIn a (parts xs)
+parts_sub xs ys sub a k =
+    let m = in_map_back (λ (t : InstanceState). t.partial) ys a k in
+    subst (λ (t : Partial Sym). IsIn t (parts xs)) (sym m.2) (in_map (λ (t : InstanceState). t.partial) xs m.0 (sub m.0 m.1))
+
 module _ {A : Type 0} where
   abbrev pub Apart : List A → Type 0
   Apart xs = Ordered (λ (a b : A). a ≡ b → ⊥) xs
@@ -144,11 +150,6 @@ module _ (Out : InstanceState → Type 0) where
     | inr j ↦ elim (left_or xs s.0 s.2 i j) [ inl m ↦ inl (subst (IsIn i) (sym s.1) (inr m)) | inr o ↦ inr o ]
   ]
   left_or (x ∷ xs) kept (inr s) i k = elim k [ inl e ↦ inr (subst Out (sym e) s.0) | inr j ↦ left_or xs kept s.1 i j ]
-
-  parts_sub : (xs ys : List InstanceState) → ((i : InstanceState) → IsIn i ys → IsIn i xs) → (a : Partial Sym) → IsIn a (parts ys) → IsIn a (parts xs)
-  parts_sub xs ys sub a k =
-      let m = in_map_back (λ (t : InstanceState). t.partial) ys a k in
-      subst (λ (t : Partial Sym). IsIn t (parts xs)) (sym m.2) (in_map (λ (t : InstanceState). t.partial) xs m.0 (sub m.0 m.1))
 
   kept_apart : (xs kept : List InstanceState) → LeavesOut Out xs kept → AreApart xs → AreApart kept
   kept_apart [] kept e o = subst AreApart (sym e) tt

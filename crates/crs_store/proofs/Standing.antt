@@ -30,6 +30,7 @@ use Rattle.crs_store.specs.Windows.{IsAble, IsOver, IsOpenAt, IsSameInstance}
 use Rattle.crs_store.specs.Sweeps.{IsFree, IsReady, TakesIn, TakesInSome}
 use Rattle.crs_store.proofs.Ahead.{stands_ahead, ahead_stands, some_stand, offered_ahead}
 use Rattle.crs_store.proofs.Hopeless.{hopeless_unwanted}
+use Rattle.crs_store.proofs.Joined.{parts_sub}
 use Rattle.crs_store.proofs.Overs.{open_able, floor_early}
 use Rattle.crs_store.proofs.Progress.{still_of}
 
@@ -99,11 +100,6 @@ ahead_of s was pool entries later d g h k = record { stands = stands_ahead (chro
 exact_now : (s : StoreState) (was pool entries : List (Entry Sym)) (d g : ℕ) → StandsAhead s was pool entries [] d g d → Stands s was pool entries d g
 exact_now s was pool entries d g k = record { stands = ahead_stands (chronicle s.plan) (levels_of s) (parts s.held) was pool entries d g k.stands; follows = k.follows; judged = k.judged }
 
-parts_back : (made some : List InstanceState) → ((i : InstanceState) → IsIn i some → IsIn i made) → (a : Partial Sym) → IsIn a (parts some) → IsIn a (parts made)
-parts_back made some back a k =
-    let m = in_map_back (λ (t : InstanceState). t.partial) some a k in
-    subst (λ (t : Partial Sym). IsIn t (parts made)) (sym m.2) (in_map (λ (t : InstanceState). t.partial) made m.0 (back m.0 m.1))
-
 -- what is wanted isn't left out
 wanted_stays : (plan : Plan) → IsProper plan → (focus : Bool) (pool entries later ahead : List (Entry Sym)) (beyond h : ℕ) (made some : List InstanceState) → AreAhead ahead beyond later h → ((i : InstanceState) → IsIn i made → IsIn i some ⊎ MayGo plan focus ahead beyond i)
     → (a : Partial Sym) → IsIn a (parts made) → IsWanted (chronicle plan) (levels_in plan focus) pool entries later h a → IsIn a (parts some)
@@ -126,7 +122,7 @@ store_offered old new history x until ahead beyond up is same judged takes was s
     let taken_in = subst (λ (k : ℕ). TakesIn old.plan old.focus history x until k old.held made) stands.judged takes.1 in
     let r = taken_in settled dated up (record { kept = kept; few = few; far = far_d }) (floor_early old.plan is.proper d history.floor far_d) over (ready c level (parts old.held) was settled settled (x ∷ later) d g h x one fresh) in
     let all = offered_ahead c level settled settled was later d until g h (omega arith) x dated fresh (parts old.held) (parts made) one r.0 in
-    let some = some_stand c level (parts made) (parts new.held) was now now later until g h all (takes.2.apart all.distinct) (parts_back made new.held takes.2.back) (wanted_stays old.plan is.proper old.focus now now later ahead beyond h made new.held coming takes.2.each) in
+    let some = some_stand c level (parts made) (parts new.held) was now now later until g h all (takes.2.apart all.distinct) (parts_sub made new.held takes.2.back) (wanted_stays old.plan is.proper old.focus now now later ahead beyond h made new.held coming takes.2.each) in
     record {
       stands = same_levels_ahead old new same was now now later until g h (parts new.held) some;
       follows = subst (λ (p : Plan). AllByRecursion (Follows p now until) new.held) (sym same.plan) (each_from_in (Follows old.plan now until) new.held (λ i k. (in_from_each (IsOver old.plan old.focus now now until) made r.1 i (takes.2.back i k)).follows));

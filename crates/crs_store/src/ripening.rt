@@ -99,6 +99,8 @@ pub(crate) fn take_ripe(
     ensures empty { OnOk result (ripe.new.items ≡ []) }
 {
     let mut found = Vec::new(alloc);
+    // those that were ripe first are mostly the first in the order of the answer
+    ripe.reverse();
     while let Some(place) = ripe.pop() {
         take_at(plan, slots, place, h, number, mark, &mut found)?;
     }

@@ -215,7 +215,7 @@ impl Store {
     /// Takes in an entry as `offer` does, and judges all that is held at the date `until`, which no
     /// later entry is before. Where it is told of the entries that come next, `ahead`, before all that
     /// are dated at or after `beyond`, it may leave out what they can't complete. It passes over an
-    /// entry for which the chronicle doesn't look.
+    /// entry for which the chronicle doesn't look. Neither `until` nor `beyond` is after 2^42.
     pub fn offer_until<L: Ledger>(
         &mut self,
         history: &History,

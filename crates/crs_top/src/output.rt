@@ -14,7 +14,7 @@ use std::marker::Model;
 #[derive(Drop)]
 pub struct Output {
     text: Vec<u8>,
-    found: Vec<Recognition>,
+    found: List<Recognition>,
 }
 
 impl Model for Output {
@@ -22,7 +22,7 @@ impl Model for Output {
 
     ghost Value = { Written };
 
-    ghost view = { λ o. record { text = o.text.items; found = o.found.items } };
+    ghost view = { λ o. record { text = o.text.items; found = o.found } };
 }
 
 impl Output {
@@ -31,7 +31,7 @@ impl Output {
     {
         Output {
             text: Vec::new(alloc),
-            found: Vec::new(alloc),
+            found: List::new(alloc),
         }
     }
 
@@ -53,7 +53,7 @@ impl Output {
         ensures { OnOk result (self.new ≡ with_answer self.old (flat_map (line_in plans.now symbols.now.texts) answer) answer) }
     {
         push_lines(&mut self.text, plans, symbols, answer.as_slice())?;
-        self.found.append(&mut answer.into_vec())
+        self.found.append(answer)
     }
 
     /// The recognitions whose lines stand in the text.

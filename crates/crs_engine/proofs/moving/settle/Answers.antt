@@ -1,37 +1,43 @@
-use Rattle.std.proofs.Common.{◌<◌, ◌≤ℤ◌, ◌^◌, ◌++◌, List, map, pos, sym, subst, Global}
+use Rattle.std.proofs.Common.{rules, ◌<◌, ◌≤ℤ◌, ◌^◌, List, pos, sym, ap, subst, ◌∙◌, Global}
+use Rattle.std.specs.Prelude.{Option, option_map}
 use Rattle.std.specs.List.{AllByRecursion}
 use Rattle.std.specs.declared.rc.Rc.{Rc}
 use Rattle.crs_base.specs.declared.entry.Entry.{Entry as CodeEntry}
 use Rattle.crs_base.specs.declared.symbols.Sym.{Sym}
-use Rattle.crs_base.specs.Entry.{Entry, IsInKeyOrder}
+use Rattle.crs_base.specs.Entry.{Entry}
 use Rattle.crs_base.specs.Seen.{entry_of}
-use Rattle.crs_engine.proofs.Settling.{same_all, each_due, in_order_due, in_order_put, in_order_rest}
+use Rattle.crs_engine.specs.Moves.{AreSettledInPart, IsRestOf}
+use Rattle.crs_engine.proofs.Settling.{pieces_none, piece_more, first_taken, each_waiting, each_late, same_on, rest_behind, rest_at_end, settled_at_end}
 use Rattle.crs_engine.proofs.moving.settle.Goals as goal
 
-pub returns-in_err-take_due-clause-same : goal.returns-in_err-take_due-clause-same
-returns-in_err-take_due-clause-same g c = same_all c.args.stores.now
+pub loop-first-init : goal.loop-first-init
+loop-first-init g c = pieces_none c.args.stores.now c.args.history.now c.args.buffer.now c.args.h c.requires.order
 
-pub returns-in_err-take_due-clause-order : goal.returns-in_err-take_due-clause-order
-returns-in_err-take_due-clause-order g c = in_order_rest c.args.history.now c.args.buffer.now c.take_due.new.buffer c.take_due.ensures.rest c.requires.order
+pub settle_piece-requires-clause-small : goal.settle_piece-requires-clause-small
+settle_piece-requires-clause-small g c =
+    let out = first_taken c.args.h c.loop-first.buffer c.release_before.new.self (entry_of c.in-Some.first.value) (sym c.release_before.ensures.first ∙ ap (λ (o : Option (Rc CodeEntry Global)). option_map (λ r. entry_of r.value) o) c.in-Some.is) c.release_before.ensures.rest in
+    subst (AllByRecursion (λ x. x.date < 2 ^ 40)) out.0 (each_waiting (λ x. x.date < 2 ^ 40) c.args.stores.now c.loop-first.stores c.args.history.now c.loop-first.history c.args.buffer.now c.args.h c.loop-first.buffer c.loop-first.invariant c.requires.small)
 
-pub settle_due-requires-clause-small : goal.settle_due-requires-clause-small
-settle_due-requires-clause-small g c =
-    subst (λ (rs : List (Rc CodeEntry Global)). AllByRecursion (λ x. x.date < 2 ^ 40) (map (λ r. entry_of r.value) rs)) (sym c.as_slice.ensures.value)
-    (each_due (λ x. x.date < 2 ^ 40) c.args.h (map (λ r. entry_of r.value) c.take_due.new.due.items) c.args.buffer.now c.take_due.new.buffer ((c.in_ok-take_due.ensures {u = tt}).due) c.requires.small)
+pub settle_piece-requires-clause-due : goal.settle_piece-requires-clause-due
+settle_piece-requires-clause-due g c =
+    let out = first_taken c.args.h c.loop-first.buffer c.release_before.new.self (entry_of c.in-Some.first.value) (sym c.release_before.ensures.first ∙ ap (λ (o : Option (Rc CodeEntry Global)). option_map (λ r. entry_of r.value) o) c.in-Some.is) c.release_before.ensures.rest in
+    subst (AllByRecursion (λ x. c.loop-first.history.floor ≤ℤ pos x.date)) out.0 (each_late c.args.stores.now c.loop-first.stores c.args.history.now c.loop-first.history c.args.buffer.now c.args.h c.loop-first.buffer c.loop-first.invariant c.requires.due)
 
-pub settle_due-requires-clause-order : goal.settle_due-requires-clause-order
-settle_due-requires-clause-order g c =
-    subst (λ (rs : List (Rc CodeEntry Global)). IsInKeyOrder (c.args.history.now.entries ++ map (λ r. entry_of r.value) rs)) (sym c.as_slice.ensures.value)
-    (in_order_due c.args.h c.args.history.now (map (λ r. entry_of r.value) c.take_due.new.due.items) c.args.buffer.now c.take_due.new.buffer ((c.in_ok-take_due.ensures {u = tt}).due) c.requires.order)
+pub loop-first-preserved : goal.loop-first-preserved
+loop-first-preserved g c =
+    let out = first_taken c.args.h c.loop-first.buffer c.release_before.new.self (entry_of c.in-Some.first.value) (sym c.release_before.ensures.first ∙ ap (λ (o : Option (Rc CodeEntry Global)). option_map (λ r. entry_of r.value) o) c.in-Some.is) c.release_before.ensures.rest in
+    piece_more c.args.stores.now c.loop-first.stores c.settle_piece.new.stores c.args.history.now c.loop-first.history c.settle_piece.new.history c.args.buffer.now c.args.h c.loop-first.buffer c.settle_piece.new.buffer c.loop-first.invariant
+    (subst (λ (t : List (Entry Sym)). AreSettledInPart c.loop-first.stores c.loop-first.history t c.args.h c.settle_piece.new.stores c.settle_piece.new.history c.settle_piece.new.buffer) (sym out.0) ((c.in_ok-settle_piece.ensures {u = tt}).settled))
+    c.settle_piece.ensures.order c.settle_piece.ensures.floor
 
-pub settle_due-requires-clause-due : goal.settle_due-requires-clause-due
-settle_due-requires-clause-due g c =
-    subst (λ (rs : List (Rc CodeEntry Global)). AllByRecursion (λ x. c.args.history.now.floor ≤ℤ pos x.date) (map (λ r. entry_of r.value) rs)) (sym c.as_slice.ensures.value)
-    (each_due (λ x. c.args.history.now.floor ≤ℤ pos x.date) c.args.h (map (λ r. entry_of r.value) c.take_due.new.due.items) c.args.buffer.now c.take_due.new.buffer ((c.in_ok-take_due.ensures {u = tt}).due) c.requires.due)
+pub returns-in_err-settle_piece-clause-same : goal.returns-in_err-settle_piece-clause-same
+returns-in_err-settle_piece-clause-same g c = same_on c.args.stores.now c.loop-first.stores c.settle_piece.new.stores ((c.loop-first.invariant).part).same c.settle_piece.ensures.same
 
-pub returns-in_err-settle_due-clause-order : goal.returns-in_err-settle_due-clause-order
-returns-in_err-settle_due-clause-order g c =
-    let due = (c.in_ok-take_due.ensures {u = tt}).due in
-    in_order_put c.args.history.now c.settle_due.new.history (map (λ r. entry_of r.value) c.as_slice.result.now) c.take_due.new.buffer c.settle_due.ensures.put
-    (subst (λ (rs : List (Rc CodeEntry Global)). IsInKeyOrder (c.args.history.now.entries ++ (map (λ r. entry_of r.value) rs ++ c.take_due.new.buffer))) (sym c.as_slice.ensures.value)
-    (subst (λ (t : List (Entry Sym)). IsInKeyOrder (c.args.history.now.entries ++ t)) due.parted c.requires.order))
+pub returns-in_err-settle_piece-clause-rest : goal.returns-in_err-settle_piece-clause-rest
+returns-in_err-settle_piece-clause-rest g c =
+    let out = first_taken c.args.h c.loop-first.buffer c.release_before.new.self (entry_of c.in-Some.first.value) (sym c.release_before.ensures.first ∙ ap (λ (o : Option (Rc CodeEntry Global)). option_map (λ r. entry_of r.value) o) c.in-Some.is) c.release_before.ensures.rest in
+    rest_at_end c.args.stores.now c.loop-first.stores c.args.history.now c.loop-first.history c.args.buffer.now c.args.h c.loop-first.buffer c.settle_piece.new.buffer c.loop-first.invariant
+    (subst (λ (t : List (Entry Sym)). IsRestOf t c.settle_piece.new.buffer) (sym out.0) (rest_behind (entry_of c.in-Some.first.value) c.release_before.new.self c.settle_piece.new.buffer c.settle_piece.ensures.rest))
+
+pub returns-clause-settled : goal.returns-clause-settled
+returns-clause-settled g c = settled_at_end c.args.stores.now c.loop-first.stores c.args.history.now c.loop-first.history c.args.buffer.now c.args.h c.loop-first.buffer c.release_before.new.self c.loop-first.invariant (c.release_before.ensures.none.0 (search rules)) c.release_before.ensures.rest

@@ -1,6 +1,14 @@
-use Rattle.std.proofs.Common.{rules}
-use Rattle.crs_store.proofs.Ripened.{taken_at, named_at, all_left, all_found}
+use Rattle.std.proofs.Common.{rules, sym, subst, List}
+use Rattle.crs_model.specs.declared.recognition.Recognition.{Recognition}
+use Rattle.crs_store.proofs.Ascending.{moved_in}
+use Rattle.crs_store.proofs.Ripened.{AreTaken, taken_none, taken_at, named_at, all_left, all_found}
 use Rattle.crs_store.proofs.ripening.take_ripe.Goals as goal
+
+pub loop-place-init : goal.loop-place-init
+loop-place-init c = (
+  subst (λ (rs : List Recognition). AreTaken c.args.plan.now c.args.h c.args.number c.args.mark c.args.slots.now c.args.slots.now rs) (sym c.new-found.ensures.items) (taken_none c.args.plan.now c.args.h c.args.number c.args.mark c.args.slots.now),
+  λ p i f done. moved_in _ _ c.reverse.ensures.permutation p (c.requires.ripe p i f done),
+)
 
 pub loop-place-preserved : goal.loop-place-preserved
 loop-place-preserved c =

@@ -1,0 +1,9 @@
+use Rattle.std.proofs.Common.{length}
+use Rattle.crs_engine.proofs.Settling.{AreSettledByPieces}
+use Rattle.crs_engine.proofs.moving.settle.Given as goal
+
+abbrev pub invariant-loop-first : goal.invariant-loop-first
+invariant-loop-first g l = AreSettledByPieces l.initial.stores l.initial.history l.initial.buffer l.h l.stores l.history l.buffer
+
+abbrev pub decreases-loop-first : goal.decreases-loop-first
+decreases-loop-first g l = length l.buffer
