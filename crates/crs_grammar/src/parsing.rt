@@ -3,6 +3,7 @@ ghost use Rattle.crs_grammar.specs.Gives.{Gives};
 ghost use Rattle.crs_grammar.specs.Reading.{symbol_at, number_at, mark_at, whole, term_at, closed_at, terms_on, values_on, arguments_at, pair_at, change_at, pattern_at, shift_at, anchor_at, span_of, level_of, event_of, noevent_of, most_at, occurs_of, hold_of, keyword_at, end_at, distance_of, values_of, differ_of, of_variable, variable_of, called_of, point_of, worded_of, inside_of, attribute_of, named_of, outside_of, statement_of};
 ghost use Rattle.crs_grammar.specs.SeenTokens.{seen};
 ghost use Rattle.crs_grammar.specs.SeenStatements as see;
+ghost use Rattle.crs_grammar.specs.Statements as said;
 
 use crate::statements::{
     Anchor, Body, Declaration, Distance, Event, Pattern, Shift, Statement, Term, Unread, Window,
@@ -211,8 +212,8 @@ fn whole<'a>(statement: Statement<'a>, rest: &[Token<'a>]) -> Result<Statement<'
 
 /// A window's range, and the end of the statement.
 #[tactic(auto, unfolding(crate::specs::Reading::span_of))]
-fn window<'a>(body: Body<'a>, tokens: &[Token<'a>]) -> Result<Statement<'a>, Unread>
-    ensures { Gives see.statement_of result (span_of (see.body_of body.entry) (seen tokens.now)) }
+fn range<'a>(tokens: &[Token<'a>]) -> Result<(Anchor<'a>, Anchor<'a>), Unread>
+    ensures { (body : said.Body) → Gives (λ x. said.Over (record { body = body; from = see.anchor_of x.0; to = see.anchor_of x.1 })) result (span_of body (seen tokens.now)) }
 {
     let rest = mark(tokens, b',')?;
     let rest = mark(rest, b'(')?;
@@ -221,7 +222,18 @@ fn window<'a>(body: Body<'a>, tokens: &[Token<'a>]) -> Result<Statement<'a>, Unr
     let (to, rest) = anchor(rest)?;
     let rest = mark(rest, b')')?;
     let rest = mark(rest, b')')?;
-    whole(Statement::Over(Window { body, from, to }), rest)
+    match rest {
+        [] => Ok((from, to)),
+        _ => Err(Unread::Form),
+    }
+}
+
+/// A window over a range, and the end of the statement.
+fn window<'a>(body: Body<'a>, tokens: &[Token<'a>]) -> Result<Statement<'a>, Unread>
+    ensures { Gives see.statement_of result (span_of (see.body_of body.entry) (seen tokens.now)) }
+{
+    let (from, to) = range(tokens)?;
+    Ok(Statement::Over(Window { body, from, to }))
 }
 
 #[tactic(auto, unfolding(crate::specs::Reading::level_of))]
@@ -459,7 +471,7 @@ pub fn inside<'a>(alloc: Global, tokens: &[Token<'a>]) -> Result<Statement<'a>, 
     ensures { Gives see.statement_of result (inside_of (seen tokens.now)) }
 {
     match tokens {
-        [Token::Mark(b'}'), rest @ ..] => whole(Statement::Close, rest),
+        [Token::Mark(b'}')] => Ok(Statement::Close),
         [Token::Mark(b'?'), rest @ ..] => variable(alloc, rest),
         [Token::Word(word), rest @ ..] => worded(alloc, word, rest),
         _ => Err(Unread::Form),

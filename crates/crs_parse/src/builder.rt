@@ -306,7 +306,6 @@ impl<T: Drop> From<AllocFailed<T>> for Refused {
 }
 
 impl<'a> Written<'a> {
-    #[tactic(auto, using(crate::proofs::Sizes::length_seen))]
     fn add_point(&mut self, name: &'a [u8]) -> Result<(), Refused>
         ensures { Adds result (faults.own_fault [] [] (see.written_of self.old) (Point name.now)) (see.written_of self.new) (faults.with_statement (see.written_of self.old) (Point name.now)) }
     {
@@ -320,7 +319,6 @@ impl<'a> Written<'a> {
         Ok(())
     }
 
-    #[tactic(auto, using(crate::proofs::Sizes::length_seen))]
     fn add_bound(&mut self, distance: Distance<'a>) -> Result<(), Refused>
         ensures { Adds result (faults.own_fault [] [] (see.written_of self.old) (Between (seen.distance_of distance.entry))) (see.written_of self.new) (faults.with_statement (see.written_of self.old) (Between (seen.distance_of distance.entry))) }
     {
@@ -340,7 +338,6 @@ impl<'a> Written<'a> {
         Ok(())
     }
 
-    #[tactic(auto, using(crate::proofs::Sizes::length_seen))]
     fn add_set(&mut self, set: VariableSet<'a>) -> Result<(), Refused>
         ensures { Adds result (faults.own_fault [] [] (see.written_of self.old) (Among (see.set_of set.entry).0 (see.set_of set.entry).1)) (see.written_of self.new) (faults.with_statement (see.written_of self.old) (Among (see.set_of set.entry).0 (see.set_of set.entry).1)) }
     {
@@ -357,7 +354,6 @@ impl<'a> Written<'a> {
         Ok(())
     }
 
-    #[tactic(auto, using(crate::proofs::Sizes::length_seen))]
     fn add_differ(&mut self, left: &'a [u8], right: &'a [u8]) -> Result<(), Refused>
         ensures { Adds result (faults.own_fault [] [] (see.written_of self.old) (Differ left.now right.now)) (see.written_of self.new) (faults.with_statement (see.written_of self.old) (Differ left.now right.now)) }
     {
@@ -591,7 +587,6 @@ impl<'a> Written<'a> {
 }
 
 /// Declares a message.
-#[tactic(auto, using(crate::proofs::Sizes::length_seen))]
 pub fn add_message<'a>(names: &mut Vec<Name<'a>>, name: &'a [u8], arity: u64) -> Result<(), Refused>
     ensures { Adds result (faults.own_fault (map see.name_of names.old.items) [] (faults.begun []) (Message name.now arity)) (map see.name_of names.new.items) (map see.name_of names.old.items ++ faults.message_named name.now arity ∷ []) }
 {
@@ -619,7 +614,6 @@ fn is_long(values: &Option<Vec<&[u8]>>) -> bool
 }
 
 /// Declares an attribute.
-#[tactic(auto, using(crate::proofs::Sizes::length_seen))]
 pub fn add_attribute<'a>(
     names: &mut Vec<Name<'a>>,
     name: &'a [u8],

@@ -360,22 +360,57 @@ fn push_all<'a>(out: &mut Vec<&'a [u8]>, texts: &[&'a [u8]]) -> Result<(), Alloc
     Ok(())
 }
 
+/// What stands on a chronicle's points: its bounds and its windows.
+fn on_points(
+    alloc: Global,
+    symbols: &Symbols,
+    c: &Written<'_>,
+) -> Result<(List<Bound>, List<Window>), AllocError>
+    requires { held.IsHeldChronicle symbols.now.texts (see.written_of c.now) }
+    ensures bounds { IfOk result (λ x. x.0 ≡ flat_map (meant.bounds_of (meant.points_of (see.written_of c.now))) (see.written_of c.now).bounds) }
+    ensures windows { IfOk result (λ x. map (renamed.renamed_window (renamed.text_in symbols.now.texts)) (map view.window_of x.1) ≡ map (meant.window_of (see.written_of c.now).variables (meant.points_of (see.written_of c.now))) (see.written_of c.now).windows) }
+{
+    let points = points(alloc, c)?;
+    let bounds = bounds(alloc, &points, &c.bounds)?;
+    let windows = windows(alloc, symbols, &c.variables, &points, &c.windows)?;
+    Ok((bounds, windows))
+}
+
+/// What stands on a chronicle's variables alone: their values, and which of them differ.
+fn on_variables(
+    alloc: Global,
+    symbols: &Symbols,
+    c: &Written<'_>,
+) -> Result<(List<VarSet>, List<(u8, u8)>), AllocError>
+    requires { held.IsHeldChronicle symbols.now.texts (see.written_of c.now) }
+    ensures sets { IfOk result (λ x. map (renamed.renamed_set (renamed.text_in symbols.now.texts)) (map view.set_of x.0) ≡ map (meant.set_of (see.written_of c.now).variables) (see.written_of c.now).sets) }
+    ensures differs { IfOk result (λ x. x.1 ≡ map (meant.differ_of (see.written_of c.now).variables) (see.written_of c.now).differs) }
+{
+    let sets = sets(alloc, symbols, &c.variables, &c.sets)?;
+    let differs = differs(alloc, &c.variables, &c.differs)?;
+    Ok((sets, differs))
+}
+
 fn chronicle(alloc: Global, symbols: &Symbols, closed: &Closed<'_>) -> Result<Chronicle, AllocError>
     requires { held.IsHeldChronicle symbols.now.texts (see.closed_of closed.now).1 }
     ensures { IfOk result (λ c. renamed.renamed_chronicle (renamed.text_in symbols.now.texts) (view.chronicle_of c) ≡ meant.chronicle_of (see.closed_of closed.now)) }
 {
     let c = &closed.chronicle;
-    let points = points(alloc, c)?;
+    let events = events(alloc, symbols, &c.variables, &c.events)?;
+    let free = numbers(alloc, symbols, &c.free)?;
+    let variables = numbers(alloc, symbols, &c.variables)?;
+    let (sets, differs) = on_variables(alloc, symbols, c)?;
+    let (bounds, windows) = on_points(alloc, symbols, c)?;
     Ok(Chronicle {
         name: symbol(symbols, c.name),
         line: closed.line,
-        events: events(alloc, symbols, &c.variables, &c.events)?,
-        free: numbers(alloc, symbols, &c.free)?,
-        bounds: bounds(alloc, &points, &c.bounds)?,
-        variables: numbers(alloc, symbols, &c.variables)?,
-        sets: sets(alloc, symbols, &c.variables, &c.sets)?,
-        differs: differs(alloc, &c.variables, &c.differs)?,
-        windows: windows(alloc, symbols, &c.variables, &points, &c.windows)?,
+        events,
+        free,
+        bounds,
+        variables,
+        sets,
+        differs,
+        windows,
     })
 }
 

@@ -45,7 +45,7 @@ pub fn drill<D: Desk>(
 {
     // nobody else chooses the symbols of a made log, so any seed will do
     match prepare(alloc, drill_models(), focus, limits, 0) {
-        Ok(session) => sum_up(alloc, desk, session, seed, lines, limits.bytes),
+        Ok(mut session) => sum_up(alloc, desk, &mut session, seed, lines, limits.bytes),
         Err(refused) => refuse(alloc, desk, refused),
     }
 }
@@ -55,7 +55,7 @@ pub fn drill<D: Desk>(
 fn sum_up<D: Desk>(
     alloc: Global,
     desk: &mut D,
-    session: Session,
+    session: &mut Session,
     seed: u32,
     lines: u32,
     limit: u64,
@@ -63,12 +63,12 @@ fn sum_up<D: Desk>(
     requires least { 1 ≤ seed }
     requires most { seed ≤ 2147483646 }
     requires lines { lines ≤ 1000000 }
-    requires ready { IsReady session }
-    requires uncounted { IsUncounted session }
+    requires ready { IsReady session.old }
+    requires uncounted { IsUncounted session.old }
     ensures inputs { D.inputs desk.new ≡ D.inputs desk.old }
     ensures words { result ≡ Status.Words → ⊥ }
     ensures causes { HasCauses (D.in_faults desk.old) (D.in_faults desk.new) (D.out_faults desk.old) (D.out_faults desk.new) result }
-    ensures told { D.tells ≡ true → (f : Frame) → Represents f session (at_start f.texts) → SumsUp session.engine.focus f limit (drill_text seed lines) (D.told desk.old) result (D.told desk.new) }
+    ensures told { D.tells ≡ true → (f : Frame) → Represents f session.old (at_start f.texts) → SumsUp session.old.engine.focus f limit (drill_text seed lines) (D.told desk.old) result (D.told desk.new) }
 {
     let Ok(log) = make_log(alloc, seed, lines) else {
         return Status::Memory;
@@ -83,13 +83,13 @@ fn sum_up<D: Desk>(
 }
 
 /// The numbers of a run over a log that is held whole.
-fn summary_over(alloc: Global, mut session: Session, log: &[u8]) -> Result<Summary, AllocError>
-    requires ready { IsReady session }
-    requires uncounted { IsUncounted session }
-    ensures { IfOk result (IsSummed session log.now) }
+fn summary_over(alloc: Global, session: &mut Session, log: &[u8]) -> Result<Summary, AllocError>
+    requires ready { IsReady session.old }
+    requires uncounted { IsUncounted session.old }
+    ensures { IfOk result (IsSummed session.old log.now) }
 {
-    take_log(alloc, &mut session, log)?;
-    Ok(summary_of(&session))
+    take_log(alloc, session, log)?;
+    Ok(summary_of(session))
 }
 
 /// Takes each line of a log that is held whole, piece by piece, and drops what is to be written for

@@ -175,19 +175,19 @@ fn take_end(
 fn finish<D: Desk>(
     alloc: Global,
     desk: &mut D,
-    mut session: Session,
+    session: &mut Session,
     mut lines: Lines,
     summary: bool,
-    mut listeners: Vec<Box<dyn Listener>>,
+    listeners: &mut Vec<Box<dyn Listener>>,
 ) -> Status
-    requires ready { IsReady session }
+    requires ready { IsReady session.old }
     requires limit { lines.limit ≡ 4096 }
     ensures inputs { D.inputs desk.new ≡ D.inputs desk.old }
     ensures words { result ≡ Status.Words → ⊥ }
     ensures causes { HasCauses (D.in_faults desk.old) (D.in_faults desk.new) (D.out_faults desk.old) (D.out_faults desk.new) result }
-    ensures told { D.tells ≡ true → Finishes summary (map (λ b. (kind b, figures b)) listeners.items) (D.told desk.old) session lines result (D.told desk.new) }
+    ensures told { D.tells ≡ true → Finishes summary (map (λ b. (kind b, figures b)) listeners.old.items) (D.told desk.old) session.old lines result (D.told desk.new) }
 {
-    let Ok(text) = take_end(alloc, &mut session, &mut lines, summary, &mut listeners) else {
+    let Ok(text) = take_end(alloc, session, &mut lines, summary, listeners) else {
         return Status::Memory;
     };
     let refused = session.counts.refused > 0;
@@ -202,18 +202,18 @@ pub fn read_log<D: Desk>(
     desk: &mut D,
     log: u32,
     limit: u64,
-    mut session: Session,
+    session: &mut Session,
     summary: bool,
-    mut listeners: Vec<Box<dyn Listener>>,
+    listeners: &mut Vec<Box<dyn Listener>>,
 ) -> Status
     requires opened { log < D.inputs desk.old }
     requires fresh { D.tells ≡ true → (stream_at (D.told desk.old).left log).taken ≡ 0 }
-    requires ready { IsReady session }
-    requires uncounted { IsUncounted session }
+    requires ready { IsReady session.old }
+    requires uncounted { IsUncounted session.old }
     ensures inputs { D.inputs desk.new ≡ D.inputs desk.old }
     ensures words { result ≡ Status.Words → ⊥ }
     ensures causes { HasCauses (D.in_faults desk.old) (D.in_faults desk.new) (D.out_faults desk.old) (D.out_faults desk.new) result }
-    ensures told { D.tells ≡ true → (f : Frame) → Represents f session (at_start f.texts) → HasReadLog (tail_of session.engine.focus summary (map (λ b. (kind b, figures b)) listeners.items)) f (D.told desk.old) log limit result (D.told desk.new) }
+    ensures told { D.tells ≡ true → (f : Frame) → Represents f session.old (at_start f.texts) → HasReadLog (tail_of session.old.engine.focus summary (map (λ b. (kind b, figures b)) listeners.old.items)) f (D.told desk.old) log limit result (D.told desk.new) }
 {
     let Ok(mut lines) = Lines::new(alloc, LINE_LIMIT) else {
         return Status::Memory;
@@ -231,13 +231,7 @@ pub fn read_log<D: Desk>(
             return finish(alloc, desk, session, lines, summary, listeners);
         }
         taken += count as u64;
-        let Ok(text) = tell_piece(
-            alloc,
-            &mut session,
-            &mut lines,
-            &mut listeners,
-            &buf[..count],
-        ) else {
+        let Ok(text) = tell_piece(alloc, session, &mut lines, listeners, &buf[..count]) else {
             return Status::Memory;
         };
         match write_all(desk, text.as_slice()) {

@@ -81,7 +81,16 @@ pub fn run_with<D: Desk>(
             ),
         ) => {
             keep_kinds(&mut listeners, &tally.kinds());
-            recognise(alloc, desk, models, log, limits, focus, summary, listeners)
+            recognise(
+                alloc,
+                desk,
+                models,
+                log,
+                limits,
+                focus,
+                summary,
+                &mut listeners,
+            )
         }
         Ok(Some(Command::Print { listing, models })) => {
             print(alloc, desk, models, listing, limits.symbols)
@@ -102,21 +111,29 @@ fn recognise<D: Desk>(
     limits: Limits,
     focus: bool,
     summary: bool,
-    listeners: Vec<Box<dyn Listener>>,
+    listeners: &mut Vec<Box<dyn Listener>>,
 ) -> Status
     requires { D.inputs desk.old < 2 ^ 31 }
     ensures words { result ≡ Status.Words → ⊥ }
     ensures causes { HasCauses (D.in_faults desk.old) (D.in_faults desk.new) (D.out_faults desk.old) (D.out_faults desk.new) result }
     ensures least { D.inputs desk.old ≤ D.inputs desk.new }
     ensures most { D.inputs desk.new ≤ D.inputs desk.old + 2 }
-    ensures told { D.tells ≡ true → Runs (D.inputs desk.old) (D.inputs desk.new) (tail_of focus summary (map (λ b. (kind b, figures b)) listeners.items)) (most_of limits) (D.told desk.old) models.now log.now result (D.told desk.new) }
+    ensures told { D.tells ≡ true → Runs (D.inputs desk.old) (D.inputs desk.new) (tail_of focus summary (map (λ b. (kind b, figures b)) listeners.old.items)) (most_of limits) (D.told desk.old) models.now log.now result (D.told desk.new) }
 {
     let text = match load(alloc, desk, models, MODELS_LIMIT, MODELS_TOO_LONG) {
         Ok(text) => text,
         Err(status) => return status,
     };
     match prepare(alloc, text.as_slice(), focus, limits, desk.seed()) {
-        Ok(session) => follow(alloc, desk, log, limits.bytes, session, summary, listeners),
+        Ok(mut session) => follow(
+            alloc,
+            desk,
+            log,
+            limits.bytes,
+            &mut session,
+            summary,
+            listeners,
+        ),
         Err(refused) => refuse(alloc, desk, refused),
     }
 }
@@ -127,19 +144,19 @@ fn follow<D: Desk>(
     desk: &mut D,
     log: &str,
     limit: u64,
-    session: Session,
+    session: &mut Session,
     summary: bool,
-    listeners: Vec<Box<dyn Listener>>,
+    listeners: &mut Vec<Box<dyn Listener>>,
 ) -> Status
     requires inputs { D.inputs desk.old < 2 ^ 32 - 1 }
-    requires ready { IsReady session }
-    requires uncounted { IsUncounted session }
+    requires ready { IsReady session.old }
+    requires uncounted { IsUncounted session.old }
     ensures words { result ≡ Status.Words → ⊥ }
     ensures causes { HasCauses (D.in_faults desk.old) (D.in_faults desk.new) (D.out_faults desk.old) (D.out_faults desk.new) result }
     ensures least { D.inputs desk.old ≤ D.inputs desk.new }
     ensures most { D.inputs desk.new ≤ D.inputs desk.old + 1 }
-    ensures told { D.tells ≡ true → (f : Frame) → Represents f session (at_start f.texts)
-        → Follows (D.inputs desk.old) (D.inputs desk.new) (tail_of session.engine.focus summary (map (λ b. (kind b, figures b)) listeners.items)) f limit (D.told desk.old) log.now result (D.told desk.new) }
+    ensures told { D.tells ≡ true → (f : Frame) → Represents f session.old (at_start f.texts)
+        → Follows (D.inputs desk.old) (D.inputs desk.new) (tail_of session.old.engine.focus summary (map (λ b. (kind b, figures b)) listeners.old.items)) f limit (D.told desk.old) log.now result (D.told desk.new) }
 {
     let input = match desk.open(log) {
         Ok(input) => input,

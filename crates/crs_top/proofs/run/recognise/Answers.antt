@@ -25,8 +25,8 @@ returns-in-Ok-prepare-clause-told g c = λ t.
     (g.D.Desk.told c.load.new.desk)
     (g.D.Desk.told c.follow.new.desk) c.args.models.now c.args.log.now _ f.0 f.1 f.2 h.0 f.3 c.follow.result h.1 k p.accepted f.4
 
-pub returns-in-Err-prepare-clause-told : goal.returns-in-Err-prepare-clause-told
-returns-in-Err-prepare-clause-told g c = λ t.
+pub returns-clause-told : goal.returns-clause-told
+returns-clause-told g c = λ t.
     let h = c.in-Ok.ensures.told t in
     let models = bytes_of (g.D.Desk.told c.args.desk.now) c.args.models.now in
     let p = rw (c.as_slice.ensures.value, h.2) at c.in-Err-prepare.ensures.refused in

@@ -68,8 +68,8 @@ returns-in-Ok-Some-Drill-clause-complete g c = λ t.
     ⊎ Rose (g.D.Desk.out_faults c.args.desk.now) (g.D.Desk.out_faults c.drill.new.desk)) c.drill.result
     (λ e. inr (c.drill.ensures.causes.write_fault e)) (c.drill.ensures.told t))
 
-pub returns-in-Ok-Some-Import-clause-complete : goal.returns-in-Ok-Some-Import-clause-complete
-returns-in-Ok-Some-Import-clause-complete g c = λ t.
+pub returns-clause-complete : goal.returns-clause-complete
+returns-clause-complete g c = λ t.
     let asked = rw (c.in-Ok-Some-Import.field-0-is, c.in-Ok-Some-Import.field-0-0-is) at c.in-Ok-Some-Import.ensures in
     rw (sym asked) (completes_import (g.D.Desk.inputs c.args.desk.now) (g.D.Desk.inputs c.import_table.new.desk)
     (g.D.Desk.told c.args.desk.now) (g.D.Desk.told c.import_table.new.desk) c.in-Ok-Some-Import.table.now
