@@ -27,6 +27,3 @@ pub use sym_list::SymList;
 pub use symbols::{Sym, SymRefused, Symbols, is_symbol, is_symbol_byte};
 pub use text::Text;
 pub use tokens::{Marks, Token, fill_tokens, read_tokens, word_bytes};
-
-#[cfg(test)]
-mod tests;

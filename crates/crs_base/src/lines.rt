@@ -81,38 +81,3 @@ pub fn passed_over(bytes: &[u8]) -> bool
     }
     true
 }
-
-#[cfg(test)]
-mod tests {
-    use super::{RawLine, first_line, is_long, line_bytes, passed_over};
-
-    #[test]
-    fn lines_end_at_line_feeds(rt: HostRuntime) {
-        for (text, bytes, behind) in [
-            (b"ab\r\nc\n".as_slice(), b"ab".as_slice(), b"c\n".as_slice()),
-            (b"\n\n", b"", b"\n"),
-            (b"a\r\r\n", b"a\r", b""),
-            (b"a\r", b"a\r", b""),
-        ] {
-            assert!(rt; !text.is_empty());
-            let (line, rest) = first_line(text);
-            assert!(rt; line_bytes(line) == bytes);
-            assert!(rt; rest == behind);
-        }
-        assert!(rt; passed_over(b" \t# x") && passed_over(b"  ") && !passed_over(b"a #"));
-        let raw = [b'x'; 4097];
-        let (front, _) = raw.as_slice().split_at(4096);
-        assert!(rt;
-            !is_long(RawLine {
-                raw: front,
-                ended: true
-            })
-        );
-        assert!(rt;
-            is_long(RawLine {
-                raw: raw.as_slice(),
-                ended: true
-            })
-        );
-    }
-}

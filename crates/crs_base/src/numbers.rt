@@ -35,32 +35,3 @@ pub fn integer(word: &[u8]) -> Option<i128>
         _ => number(word).map(|n| n as i128),
     }
 }
-
-#[cfg(test)]
-mod tests {
-    use super::{integer, number};
-
-    #[test]
-    fn numbers_have_up_to_19_digits(rt: HostRuntime) {
-        for (word, want) in [
-            (b"0".as_slice(), Some(0)),
-            (b"0000000000000000007", Some(7)),
-            (b"9999999999999999999", Some(9999999999999999999)),
-            (b"00000000000000000007", None),
-            (b"", None),
-            (b"-1", None),
-            (b"1a", None),
-        ] {
-            assert!(rt; number(word) == want, "at {}", word.len());
-        }
-        for (word, want) in [
-            (b"12".as_slice(), Some(12)),
-            (b"-012", Some(-12)),
-            (b"-", None),
-            (b"--1", None),
-            (b"1-", None),
-        ] {
-            assert!(rt; integer(word) == want, "at {}", word.len());
-        }
-    }
-}

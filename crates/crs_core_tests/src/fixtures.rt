@@ -1,7 +1,7 @@
 //! A plan of two events, and entries without arguments.
-ghost use Rattle.std.specs.Prelude.{◌≡◌, ◌<◌, ◌^◌, Some, IfOk, pos};
+ghost use Rattle.std.specs.Prelude.{◌≡◌, ◌<◌, ◌≤◌, ◌^◌, Some, IfOk, pos};
 ghost use Rattle.crs_model.specs.Plans.{IsProper};
-ghost use Rattle.crs_instance.specs.Fixtures.{IsPlain, IsFixture, spaced};
+ghost use Rattle.crs_core_tests.specs.Fixtures.{IsPlain, IsFixture, spaced};
 
 use crs_base::{Entry, List, Sym, SymList, Text};
 use crs_model::{Chronicle, EventDef, Pattern, Plan};
@@ -9,8 +9,9 @@ use crs_stn::{Bound, Network};
 use std::alloc::{AllocError, Global};
 use std::rc::Rc;
 
-/// An event of this name, without arguments.
-fn event(alloc: Global, name: u32) -> EventDef
+/// An event of this name and level, without arguments.
+pub(crate) fn event(alloc: Global, name: u32, level: u8) -> EventDef
+    requires { level ≤ 7 }
     ensures { IsPlain result }
 {
     EventDef {
@@ -20,7 +21,7 @@ fn event(alloc: Global, name: u32) -> EventDef
             change: None,
         },
         point: Sym(name),
-        level: 0,
+        level,
     }
 }
 
@@ -43,12 +44,19 @@ fn bounds(alloc: Global, least: u8) -> Result<List<Bound>, AllocError>
 }
 
 /// The one event, and the other from `least` to 5 ticks later.
-fn one_then_other(alloc: Global, one: u32, other: u32, least: u8) -> Result<Chronicle, AllocError>
+fn one_then_other(
+    alloc: Global,
+    one: EventDef,
+    other: EventDef,
+    least: u8,
+) -> Result<Chronicle, AllocError>
+    requires one { IsPlain one }
+    requires other { IsPlain other }
     ensures { IfOk result (IsFixture least) }
 {
     let mut events = List::new(alloc);
-    events.push(event(alloc, one))?;
-    events.push(event(alloc, other))?;
+    events.push(one)?;
+    events.push(other)?;
     let bounds = bounds(alloc, least)?;
     Ok(Chronicle {
         name: Sym(2),
@@ -64,7 +72,14 @@ fn one_then_other(alloc: Global, one: u32, other: u32, least: u8) -> Result<Chro
 }
 
 /// A plan of the one event, and the other from `least` to 5 ticks later.
-pub(crate) fn plan(alloc: Global, one: u32, other: u32, least: u8) -> Result<Rc<Plan>, AllocError>
+pub(crate) fn plan_of(
+    alloc: Global,
+    one: EventDef,
+    other: EventDef,
+    least: u8,
+) -> Result<Rc<Plan>, AllocError>
+    requires one { IsPlain one }
+    requires other { IsPlain other }
     ensures proper { IfOk result (λ r. IsProper r.value) }
     ensures reach { IfOk result (λ r. r.value.reach ≡ Some (pos 5)) }
 {
@@ -82,6 +97,14 @@ pub(crate) fn plan(alloc: Global, one: u32, other: u32, least: u8) -> Result<Rc<
     }
 }
 
+/// A plan of two events of level 0 and of these names, the other from `least` to 5 ticks later.
+pub(crate) fn plan(alloc: Global, one: u32, other: u32, least: u8) -> Result<Rc<Plan>, AllocError>
+    ensures proper { IfOk result (λ r. IsProper r.value) }
+    ensures reach { IfOk result (λ r. r.value.reach ≡ Some (pos 5)) }
+{
+    plan_of(alloc, event(alloc, one, 0), event(alloc, other, 0), least)
+}
+
 /// An entry of this name, without arguments.
 pub(crate) fn entry(alloc: Global, arrival: u32, date: u64, name: u32) -> Result<Entry, AllocError>
     ensures arrival { IfOk result (λ e. e.arrival ≡ arrival) }
@@ -95,4 +118,16 @@ pub(crate) fn entry(alloc: Global, arrival: u32, date: u64, name: u32) -> Result
         change: None,
         text: Text::new(alloc, b"")?,
     })
+}
+
+/// An entry of this name, without arguments, to be shared.
+pub(crate) fn shared(
+    alloc: Global,
+    arrival: u32,
+    date: u64,
+    name: u32,
+) -> Result<Rc<Entry>, AllocError>
+    ensures { IfOk result (λ r. r.value.date ≡ date) }
+{
+    Ok(Rc::new(alloc, entry(alloc, arrival, date, name)?)?)
 }

@@ -1,8 +1,8 @@
 //! Stores, by the numbers of what they hold and answer.
-ghost use Rattle.std.specs.Prelude.{◌≡◌, ◌<◌, ◌^◌, IfOk};
+ghost use Rattle.std.specs.Prelude.{◌≡◌, ◌<◌, ◌^◌};
 ghost use Rattle.crs_model.specs.Plans.{IsProper};
 
-use crate::fixtures::{entry, plan};
+use crate::fixtures::{plan, shared};
 use crs_base::{Entry, List, Steps};
 use crs_history::History;
 use crs_model::{Mark, Plan, Recognition};
@@ -12,13 +12,6 @@ use std::marker::Brand;
 use std::rc::Rc;
 use std::sync::ledger::{Blank, Ledger};
 use std::test::Fail;
-
-/// An entry of this name, without arguments, to be shared.
-fn shared(alloc: Global, arrival: u32, date: u64, name: u32) -> Result<Rc<Entry>, AllocError>
-    ensures { IfOk result (λ r. r.value.date ≡ date) }
-{
-    Ok(Rc::new(alloc, entry(alloc, arrival, date, name)?)?)
-}
 
 /// Offers an entry as the only one of a history, with a counter of its own.
 fn offer_apart<L: Ledger>(

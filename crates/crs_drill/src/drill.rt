@@ -7,8 +7,10 @@ use std::alloc::AllocError;
 use std::marker::Model;
 
 /// What the next line is drawn from: the number drawn last, the base date and the stage of each unit.
+/// A caller can make draws of its own with it, and compare them with those of other programs: the
+/// numbers are those of the generator `minstd_rand` of C++.
 #[derive(Drop)]
-pub(crate) struct Drill {
+pub struct Drill {
     x: u32,
     base: u64,
     stages: [u32; 64],
@@ -26,7 +28,8 @@ impl Model for Drill {
 }
 
 impl Drill {
-    pub(crate) fn new(seed: u32) -> Drill
+    /// The start: the seed counts as the number drawn last, the base date and all stages are 0.
+    pub fn new(seed: u32) -> Drill
         requires { seed < 2147483647 }
         ensures { result ≡ first_state seed }
     {
@@ -37,9 +40,9 @@ impl Drill {
         }
     }
 
-    /// A draw of `m`.
+    /// A draw of `m`: the next number, which is below 2147483647, modulo `m`.
     #[tactic(auto, unfolding(crate::specs::Drill::next))]
-    fn draw(&mut self, m: u32) -> u32
+    pub fn draw(&mut self, m: u32) -> u32
         requires { 0 < m }
         ensures value { result ≡ next self.old.x % m }
         ensures below { result < m }
@@ -108,20 +111,5 @@ impl Drill {
         push_bytes(out, b"clock ")?;
         push_number(out, self.base)?;
         push_bytes(out, b"\n")
-    }
-}
-
-#[cfg(test)]
-mod tests {
-    use super::Drill;
-
-    #[test]
-    fn seven_draws_these_first(rt: HostRuntime) {
-        let mut drill = Drill::new(7);
-        for want in [
-            337897, 1278240558, 449829614, 518142577, 1665781405, 704006134, 1298864186, 1688048241,
-        ] {
-            assert!(rt; drill.draw(2147483647) == want, "{want}");
-        }
     }
 }

@@ -9,8 +9,8 @@ mod drill;
 mod laws;
 mod writing;
 
-use crate::drill::Drill;
 use crs_base::push_bytes;
+pub use drill::Drill;
 pub use laws::seven_makes;
 use std::alloc::{AllocError, Global};
 
@@ -66,6 +66,3 @@ pub fn drill_models() -> &'static [u8]
     \x20 noevent(m0[?u], (t0 + 1, t0 + 60))\n\
     }\n"
 }
-
-#[cfg(test)]
-mod tests;

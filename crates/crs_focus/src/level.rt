@@ -45,7 +45,7 @@ fn lesser(least: Option<u8>, level: u8) -> u8
 }
 
 /// The least level of an event whose bit isn't set.
-pub(crate) fn least_unset(events: &[EventDef], bits: u16, focus: bool) -> Option<u8>
+fn least_unset(events: &[EventDef], bits: u16, focus: bool) -> Option<u8>
     requires { length events.now ≤ 16 }
     ensures { IsLeastUnset (level_in (map event_of events.now) focus) bits (length events.now) result }
 {

@@ -8,6 +8,3 @@ mod up_to;
 pub use finding::candidates;
 pub use level::{current_level, level_of};
 pub use up_to::Candidates;
-
-#[cfg(test)]
-mod tests;

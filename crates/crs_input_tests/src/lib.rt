@@ -1,10 +1,13 @@
-//! The tests of what comes in: command lines, desks, tables, and hints at mistakes in models.
+//! The tests of what comes in: command lines, desks, tables, made logs, and hints at mistakes in
+//! models.
 #![tactic(auto)]
 
 #[cfg(test)]
 mod command_lines;
 #[cfg(test)]
 mod desks;
+#[cfg(test)]
+mod drills;
 #[cfg(test)]
 mod mistakes;
 #[cfg(test)]

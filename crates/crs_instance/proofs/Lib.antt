@@ -9,7 +9,6 @@ pub mod Deadline
 pub mod GoesOn
 pub mod Openings
 pub mod Pushes
-pub mod Fixture
 pub mod Stretches
 pub mod Waits
 pub mod Kept

@@ -5,7 +5,6 @@ pub mod Stored
 pub mod Deadlines
 pub mod Narrowed
 pub mod Extended
-pub mod Fixtures
 pub mod Followed
 pub mod CurrentLevel
 pub mod Waits

@@ -436,17 +436,19 @@ impl Instance {
             alloc: self.alloc,
         })
     }
-}
 
-#[cfg(test)]
-impl Instance {
-    /// Whether all that the two know stands in the same memory.
-    pub(crate) fn shares_all(&self, other: &Instance) -> bool {
+    /// Whether the two have their bound entries in the same memory, with all that these tell: the
+    /// symbols of the variables and the date windows. It is so of an instance and what `share` makes
+    /// of it, until one of them binds an event. No clause says where something stands in memory: who
+    /// counts memory asks here.
+    pub fn shares_all(&self, other: &Instance) -> bool {
         Rc::ptr_eq(&self.links, &other.links)
     }
 
-    /// Whether the entries bound before the last one stand where the other one has its entries.
-    pub(crate) fn shares_rest(&self, other: &Instance) -> bool {
+    /// Whether this one has the entries that it bound before its last one where the other one has all
+    /// of its own, so that they take memory once. It is so of what `fork` makes and the instance that
+    /// it is made from. False where nothing is bound.
+    pub fn shares_rest(&self, other: &Instance) -> bool {
         match &*self.links {
             Links::End { .. } => false,
             Links::Link { rest, .. } => Rc::ptr_eq(rest, &other.links),

@@ -12,6 +12,3 @@ mod waiting;
 
 pub use fit::Fit;
 pub use instance::Instance;
-
-#[cfg(test)]
-mod tests;

@@ -14,6 +14,7 @@ use crs_model::{
 };
 use crs_stn::Bound;
 use std::alloc::{AllocError, Global};
+use std::process::Abort;
 use std::test::Fail;
 
 fn at_most(from: u8, to: u8, most: i64) -> Bound
@@ -182,11 +183,31 @@ fn six_symbols(alloc: Global) -> Result<Symbols, Fail> {
     Ok(symbols)
 }
 
-#[test]
-fn two_events_near_a_free_point(rt: HostRuntime) -> Result<(), Fail> {
-    let alloc = rt.alloc();
+/// The models of one chronicle of two events and a free point, with these bounds.
+fn bounded(alloc: Global, bounds: &[Bound]) -> Result<Models, AllocError>
+    requires few { length bounds.now ≤ 4 }
+    requires bounds { IsWithin 3 bounds.now }
+    ensures proper { IfOk result (λ models. AreProper (models_of models)) }
+    ensures printable { (texts : List (List ℕ)) → 5 < length texts → IfOk result (λ models. AllByRecursion (IsPrintable texts) (map chronicle_of models.chronicles)) }
+{
+    let names = two_messages(alloc)?;
+    let one = chronicle(alloc, &names, 8, bounds, List::new(alloc))?;
+    alone(alloc, names, one)
+}
+
+/// The text of the least bounds of these models.
+fn least_bounds(rt: &impl Abort, alloc: Global, bounds: &[Bound]) -> Result<Text, Fail>
+    requires few { length bounds.now ≤ 4 }
+    requires bounds { IsWithin 3 bounds.now }
+{
+    let models = bounded(alloc, bounds)?;
     let symbols = six_symbols(alloc)?;
     assert!(rt; symbols.len() == 6);
+    text_of(alloc, models, &symbols)
+}
+
+#[test]
+fn two_events_near_a_free_point(rt: HostRuntime) -> Result<(), Fail> {
     // t1 - z in [0, 3], t2 - z in [0, 3]
     let bounds = [
         at_most(2, 0, 3),
@@ -194,19 +215,18 @@ fn two_events_near_a_free_point(rt: HostRuntime) -> Result<(), Fail> {
         at_most(2, 1, 3),
         at_most(1, 2, 0),
     ];
-    let names = two_messages(alloc)?;
-    let near = chronicle(alloc, &names, 8, &bounds, List::new(alloc))?;
-    let models = alone(alloc, names, near)?;
-    let text = text_of(alloc, models, &symbols)?;
+    let text = least_bounds(&rt, rt.alloc(), &bounds)?;
     assert!(rt;
         text.bytes()
             == b"chronicle f reach 3\n  t2 - t1 in [-3, 3]\n  z - t1 in [-3, 0]\n  z - t2 in [-3, 0]\n  earliest t1=0 t2=0 z=0\n".as_slice()
     );
+    Ok(())
+}
+
+#[test]
+fn two_events_far_from_a_free_point(rt: HostRuntime) -> Result<(), Fail> {
     // t2 - t1 in [-inf, 5]
-    let names = two_messages(alloc)?;
-    let loose = chronicle(alloc, &names, 8, &[at_most(0, 1, 5)], List::new(alloc))?;
-    let models = alone(alloc, names, loose)?;
-    let text = text_of(alloc, models, &symbols)?;
+    let text = least_bounds(&rt, rt.alloc(), &[at_most(0, 1, 5)])?;
     assert!(rt;
         text.bytes()
             == b"chronicle f reach inf\n  t2 - t1 in [-inf, 5]\n  z - t1 in [-inf, inf]\n  z - t2 in [-inf, inf]\n  earliest t1=0 t2=0 z=0\n".as_slice()
@@ -250,12 +270,12 @@ fn a_window_reaches_back(rt: HostRuntime) -> Result<(), Fail> {
     Ok(())
 }
 
-#[test]
-fn the_first_inconsistent_chronicle_is_named(rt: HostRuntime) -> Result<(), Fail> {
-    let alloc = rt.alloc();
-    let names = two_messages(alloc)?;
-    let mut chronicles = List::new(alloc);
-    chronicles.push(chronicle(alloc, &names, 5, &[], List::new(alloc))?)?;
+/// A chronicle without dates that meet its bounds, closed at this line.
+fn inconsistent(alloc: Global, names: &List<Name>, line: u32) -> Result<Chronicle, AllocError>
+    requires symbols { map (λ n. n.name.0) names.now ≡ 1 ∷ 2 ∷ [] }
+    requires plain { AllByRecursion (λ n. (n.arity ≡ 0) × (n.kind ≡ Message)) names.now }
+    ensures { IfOk result (λ c. IsProperChronicle (map name_of names.now) (chronicle_of c)) }
+{
     // t2 - t1 in [5, 10], and t2 - t1 in [0, 4]
     let bounds = [
         at_most(0, 1, 10),
@@ -263,31 +283,63 @@ fn the_first_inconsistent_chronicle_is_named(rt: HostRuntime) -> Result<(), Fail
         at_most(0, 1, 4),
         at_most(1, 0, 0),
     ];
-    chronicles.push(chronicle(alloc, &names, 9, &bounds, List::new(alloc))?)?;
-    chronicles.push(chronicle(alloc, &names, 14, &bounds, List::new(alloc))?)?;
-    let models = together(names, chronicles);
+    chronicle(alloc, names, line, &bounds, List::new(alloc))
+}
+
+/// A chronicle without bounds, and two inconsistent ones.
+fn three_chronicles(alloc: Global, names: &List<Name>) -> Result<List<Chronicle>, AllocError>
+    requires symbols { map (λ n. n.name.0) names.now ≡ 1 ∷ 2 ∷ [] }
+    requires plain { AllByRecursion (λ n. (n.arity ≡ 0) × (n.kind ≡ Message)) names.now }
+    ensures few { IfOk result (λ chronicles. length chronicles ≤ 64) }
+    ensures proper { IfOk result (λ chronicles. AllByRecursion (IsProperChronicle (map name_of names.now)) (map chronicle_of chronicles)) }
+{
+    let mut chronicles = List::new(alloc);
+    chronicles.push(chronicle(alloc, names, 5, &[], List::new(alloc))?)?;
+    chronicles.push(inconsistent(alloc, names, 9)?)?;
+    chronicles.push(inconsistent(alloc, names, 14)?)?;
+    Ok(chronicles)
+}
+
+#[test]
+fn the_first_inconsistent_chronicle_is_named(rt: HostRuntime) -> Result<(), Fail> {
+    let alloc = rt.alloc();
+    let names = two_messages(alloc)?;
+    let chronicles = three_chronicles(alloc, &names)?;
     let refused = ModelRefused::At {
         line: 9,
         word: ModelWord::Inconsistent,
     };
-    match compile(alloc, models) {
+    match compile(alloc, together(names, chronicles)) {
         Ok(_plans) => assert!(rt; false),
         Err(why) => assert!(rt; why == refused),
     }
     Ok(())
 }
 
+/// The models of an empty text.
+fn no_models(alloc: Global) -> Models
+    ensures chronicles { result.chronicles ≡ [] }
+    ensures proper { AreProper (models_of result) }
+{
+    Models {
+        names: List::new(alloc),
+        chronicles: List::new(alloc),
+    }
+}
+
 #[test]
 fn no_chronicles_reach_nowhere(rt: HostRuntime) -> Result<(), Fail> {
     let alloc = rt.alloc();
-    let models = Models {
-        names: List::new(alloc),
-        chronicles: List::new(alloc),
-    };
-    let symbols = Symbols::new(alloc, 0)?;
-    let plans = compile(alloc, models)?;
+    let plans = compile(alloc, no_models(alloc))?;
     assert!(rt; plans.reach == Some(0));
-    let text = minimal_text(alloc, &plans, &symbols)?;
+    Ok(())
+}
+
+#[test]
+fn no_chronicles_have_no_bounds(rt: HostRuntime) -> Result<(), Fail> {
+    let alloc = rt.alloc();
+    let symbols = Symbols::new(alloc, 0)?;
+    let text = text_of(alloc, no_models(alloc), &symbols)?;
     assert!(rt; text.bytes().is_empty());
     Ok(())
 }

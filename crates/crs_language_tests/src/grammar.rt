@@ -21,11 +21,11 @@ fn places(alloc: Global, line: &[u8]) -> Result<(bool, bool), Fail> {
 fn all_stand(
     rt: &impl Abort,
     alloc: Global,
-    lines: &[&[u8]],
+    lines: &str,
     wanted: (bool, bool),
 ) -> Result<(), Fail> {
-    for (i, line) in lines.iter().enumerate() {
-        assert!(rt; places(alloc, line)? == wanted, "line {i}");
+    for line in lines.lines() {
+        assert!(rt; places(alloc, line.as_bytes())? == wanted, "{line}");
     }
     Ok(())
 }
@@ -33,87 +33,84 @@ fn all_stand(
 #[test]
 fn statements_stand_in_their_places(rt: HostRuntime) -> Result<(), Fail> {
     let alloc = rt.alloc();
-    let outer: [&[u8]; 6] = [
-        b"message a 0",
-        b"message message 0009999999999999999",
-        b"attribute v 1",
-        b"attribute v 1 in(on)",
-        b"\tattribute v 1 in ( on , off ) ",
-        b"chronicle -1{",
-    ];
-    all_stand(&rt, alloc, &outer, (true, false))?;
-    let inner: [&[u8]; 20] = [
-        b"event(a, t1)",
-        b"event ( event [ ? x , * , - ] : ( * , on ) , - ) level 00",
-        b"point -",
-        b"point - p in [0, 1]",
-        b"t2 - t1 in [-inf, inf]",
-        b"t2 - t1 in [-0, -007]",
-        b"?x in (p)",
-        b"?x in (in, inf)",
-        b"?x != ?x",
-        b"? x!=?y",
-        b"noevent(a, (t, t))",
-        b"noevent(a[?x], (t+1, t - 1))",
-        b"noevent(a, (t-1, t))",
-        b"occurs((0, 3), a, (t, t))",
-        b"occurs((2, inf), v: (*, *), (t, t))",
-        b"occurs((3, 2), a, (t, t))",
-        b"hold(v: on, (t, t + 5))",
-        b"hold(v[*]: ?x, (t, t))",
-        b"hold(hold: *, (t, t))",
-        b" } ",
-    ];
-    all_stand(&rt, alloc, &inner, (false, true))?;
+    let outer = "message a 0
+message message 0009999999999999999
+attribute v 1
+attribute v 1 in(on)
+\tattribute v 1 in ( on , off )\x20
+chronicle -1{
+";
+    all_stand(&rt, alloc, outer, (true, false))?;
+    let inner = "event(a, t1)
+event ( event [ ? x , * , - ] : ( * , on ) , - ) level 00
+point -
+point - p in [0, 1]
+t2 - t1 in [-inf, inf]
+t2 - t1 in [-0, -007]
+?x in (p)
+?x in (in, inf)
+?x != ?x
+? x!=?y
+noevent(a, (t, t))
+noevent(a[?x], (t+1, t - 1))
+noevent(a, (t-1, t))
+occurs((0, 3), a, (t, t))
+occurs((2, inf), v: (*, *), (t, t))
+occurs((3, 2), a, (t, t))
+hold(v: on, (t, t + 5))
+hold(v[*]: ?x, (t, t))
+hold(hold: *, (t, t))
+ }\x20
+";
+    all_stand(&rt, alloc, inner, (false, true))?;
     Ok(())
 }
 
 #[test]
 fn other_lines_are_no_statements(rt: HostRuntime) -> Result<(), Fail> {
     let alloc = rt.alloc();
-    let neither: [&[u8]; 36] = [
-        b"",
-        b"message a",
-        b"message a -1",
-        b"message a 00000000000000000000",
-        b"message a 0 in (on)",
-        b"message a 0 }",
-        b"attribute v 1 in ()",
-        b"attribute v 1 in (on,)",
-        b"attribute v 1 in (on off)",
-        b"attribute v in (on)",
-        b"chronicle c",
-        b"chronicle c {}",
-        b"{",
-        b"}}",
-        b"event(a t1)",
-        b"event(a,, t1)",
-        b"event(a, t1) level",
-        b"event(a, t1) level 1 2",
-        b"event(a, t1) level -1",
-        b"event(a[], t1)",
-        b"event(a[?], t1)",
-        b"event(v: (on), t1)",
-        b"event(v: on, t1)",
-        b"event(*, t1)",
-        b"point",
-        b"point p q",
-        b"t2 - t1 in [inf, 5]",
-        b"t2 - t1 in [0, -inf]",
-        b"t2 -t1 in [0, 5]",
-        b"t2 - t1 in [0; 5]",
-        b"?x in ()",
-        b"?x ! = ?y",
-        b"?x != y",
-        b"noevent(a, (t + -1, t))",
-        b"occurs((inf, 1), a, (t, t))",
-        b"hold(v: (on, off), (t, t))",
-    ];
-    all_stand(&rt, alloc, &neither, (false, false))
+    let neither = "
+message a
+message a -1
+message a 00000000000000000000
+message a 0 in (on)
+message a 0 }
+attribute v 1 in ()
+attribute v 1 in (on,)
+attribute v 1 in (on off)
+attribute v in (on)
+chronicle c
+chronicle c {}
+{
+}}
+event(a t1)
+event(a,, t1)
+event(a, t1) level
+event(a, t1) level 1 2
+event(a, t1) level -1
+event(a[], t1)
+event(a[?], t1)
+event(v: (on), t1)
+event(v: on, t1)
+event(*, t1)
+point
+point p q
+t2 - t1 in [inf, 5]
+t2 - t1 in [0, -inf]
+t2 -t1 in [0, 5]
+t2 - t1 in [0; 5]
+?x in ()
+?x ! = ?y
+?x != y
+noevent(a, (t + -1, t))
+occurs((inf, 1), a, (t, t))
+hold(v: (on, off), (t, t))
+";
+    all_stand(&rt, alloc, neither, (false, false))
 }
 
 #[test]
-fn statements_have_the_parts_that_are_written(rt: HostRuntime) -> Result<(), Fail> {
+fn an_attribute_has_its_parts(rt: HostRuntime) -> Result<(), Fail> {
     let alloc = rt.alloc();
     let line = tokens(alloc, b"attribute v 3 in (on, off)")?.ok_or("form")?;
     assert!(rt;
@@ -122,6 +119,12 @@ fn statements_have_the_parts_that_are_written(rt: HostRuntime) -> Result<(), Fai
             Declaration::Attribute(b"v", 3, Some(values)) if values.len() == 2
         )
     );
+    Ok(())
+}
+
+#[test]
+fn a_bound_has_its_parts(rt: HostRuntime) -> Result<(), Fail> {
+    let alloc = rt.alloc();
     let line = tokens(alloc, b"t2 - t1 in [-5, inf]")?.ok_or("form")?;
     match inside(alloc, &line)? {
         Statement::Between(d) => {

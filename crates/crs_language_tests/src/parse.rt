@@ -1,20 +1,19 @@
 //! Model texts: the line and the word of each refusal, and the limits at their edges.
+ghost use Rattle.std.specs.Prelude.{◌<◌};
+
 use crate::texts::{ALL_FORMS, CANONICAL};
 use crs_base::{Sym, Symbols, is_symbol};
 use crs_model::{ModelRefused, ModelWord};
 use crs_parse::read_models;
 use itoa::Buffer;
-use std::alloc::Global;
+use std::alloc::{AllocError, Global};
 use std::process::Abort;
 use std::test::Fail;
 
 /// The refusal of a text, or None where it is accepted.
 fn refusal_with(alloc: Global, limit: u32, text: &[u8]) -> Result<Option<ModelRefused>, Fail> {
     let mut symbols = Symbols::new(alloc, limit)?;
-    match read_models(alloc, text, &mut symbols) {
-        Ok(_) => Ok(None),
-        Err(e) => Ok(Some(e)),
-    }
+    Ok(read_models(alloc, text, &mut symbols).err())
 }
 
 fn refusal(alloc: Global, text: &[u8]) -> Result<Option<ModelRefused>, Fail> {
@@ -25,15 +24,36 @@ fn at(line: u32, word: ModelWord) -> Option<ModelRefused> {
     Some(ModelRefused::At { line, word })
 }
 
-/// A text behind others, with the line and the word of its refusal, or line 0 where it is accepted.
-type Row<'a> = (&'a [u8], u32, ModelWord);
+/// What a refusal tells: its line and its word.
+fn shown(alloc: Global, refusal: Option<ModelRefused>) -> Result<String, AllocError> {
+    match refusal {
+        None => String::from_str(alloc, "accepted"),
+        Some(ModelRefused::At { line, word }) => format!(in alloc; "{line} {word:?}"),
+        Some(ModelRefused::Memory) => String::from_str(alloc, "memory"),
+    }
+}
 
-fn check_rows(rt: &impl Abort, alloc: Global, before: &[u8], rows: &[Row<'_>]) -> Result<(), Fail> {
-    for (i, row) in rows.iter().enumerate() {
-        let mut text = Vec::from_slice(alloc, before)?;
-        text.extend_from_slice(row.0)?;
-        let wanted = if row.1 == 0 { None } else { at(row.1, row.2) };
-        assert!(rt; refusal(alloc, &text)? == wanted, "row {i}");
+/// A text, and behind it another one with a line end in place of each slash.
+fn lines_behind(alloc: Global, before: &[u8], lines: &str) -> Result<Vec<u8>, Fail> {
+    let mut text = Vec::from_slice(alloc, before)?;
+    for byte in lines.bytes() {
+        text.push(if byte == b'/' { b'\n' } else { byte })?;
+    }
+    Ok(text)
+}
+
+fn check_row(rt: &impl Abort, alloc: Global, before: &[u8], row: &str) -> Result<(), Fail> {
+    let (wanted, lines) = row.split_once('|').ok_or("row")?;
+    let text = lines_behind(alloc, before, lines)?;
+    let told = shown(alloc, refusal(alloc, &text)?)?;
+    assert!(rt; told.as_str() == wanted, "{lines}: {told}");
+    Ok(())
+}
+
+/// Rows of the answer, a bar, and the text behind others, with slashes for line ends.
+fn check_rows(rt: &impl Abort, alloc: Global, before: &[u8], rows: &str) -> Result<(), Fail> {
+    for row in rows.lines() {
+        check_row(rt, alloc, before, row)?;
     }
     Ok(())
 }
@@ -41,53 +61,20 @@ fn check_rows(rt: &impl Abort, alloc: Global, before: &[u8], rows: &[Row<'_>]) -
 #[test]
 fn each_word_names_the_first_faulty_line(rt: HostRuntime) -> Result<(), Fail> {
     let alloc = rt.alloc();
-    let rows: [Row<'_>; 12] = [
-        (b"message a 9\n", 1, ModelWord::Limit),
-        (b"message a 0\nmessage a 1\n", 2, ModelWord::Twice),
-        (b"chronicle c {\nevent(a, t1)\n", 2, ModelWord::Name),
-        (
-            b"message a 1\nchronicle c {\nevent(a, t1)\n",
-            3,
-            ModelWord::Arity,
-        ),
-        (
-            b"attribute v 0 in (on, off)\nchronicle c {\nevent(v: (on, up), t1)\n",
-            3,
-            ModelWord::Value,
-        ),
-        (
-            b"message a 0\nchronicle c {\nevent(a, t1)\n?x in (p, q)\n",
-            4,
-            ModelWord::Variable,
-        ),
-        (
-            b"message a 0\nchronicle c {\nevent(a, t1)\nt2 - t1 in [0, 5]\n",
-            4,
-            ModelWord::Point,
-        ),
-        (
-            b"message a 0\nchronicle c {\nevent(a, t1)\nt1 - t1 in [5, 2]\n",
-            4,
-            ModelWord::Bound,
-        ),
-        (
-            b"attribute v 1\nchronicle c {\nevent(v[?x]: (*, on), t1)\nhold(v[*]: on, (t1, t1 + 5))\n",
-            4,
-            ModelWord::Window,
-        ),
-        (b"chronicle c {\n}\n", 2, ModelWord::Events),
-        (
-            b"message a 1\nmessage b 0\nchronicle c {\nevent(b, t1)\nnoevent(a[?x], (t1, t1 + 5))\n}\n",
-            6,
-            ModelWord::Unbound,
-        ),
-        (
-            b"message a 0\nchronicle c {\nevent(a, t1)\n",
-            4,
-            ModelWord::Form,
-        ),
-    ];
-    check_rows(&rt, alloc, b"", &rows)
+    let rows = "1 Limit|message a 9/
+2 Twice|message a 0/message a 1/
+2 Name|chronicle c {/event(a, t1)/
+3 Arity|message a 1/chronicle c {/event(a, t1)/
+3 Value|attribute v 0 in (on, off)/chronicle c {/event(v: (on, up), t1)/
+4 Variable|message a 0/chronicle c {/event(a, t1)/?x in (p, q)/
+4 Point|message a 0/chronicle c {/event(a, t1)/t2 - t1 in [0, 5]/
+4 Bound|message a 0/chronicle c {/event(a, t1)/t1 - t1 in [5, 2]/
+4 Window|attribute v 1/chronicle c {/event(v[?x]: (*, on), t1)/hold(v[*]: on, (t1, t1 + 5))/
+2 Events|chronicle c {/}/
+6 Unbound|message a 1/message b 0/chronicle c {/event(b, t1)/noevent(a[?x], (t1, t1 + 5))/}/
+4 Form|message a 0/chronicle c {/event(a, t1)/
+";
+    check_rows(&rt, alloc, b"", rows)
 }
 
 /// Six lines, in a chronicle.
@@ -102,58 +89,41 @@ event(m[?x, ?y], t)
 #[test]
 fn each_way_to_a_word_is_met(rt: HostRuntime) -> Result<(), Fail> {
     let alloc = rt.alloc();
-    let rows: [Row<'_>; 33] = [
-        (b"}\nattribute m 0\n", 8, ModelWord::Twice),
-        (b"}\nchronicle c {\n", 8, ModelWord::Twice),
-        (b"event(a, t)\n", 7, ModelWord::Twice),
-        (b"point z\npoint z\n", 8, ModelWord::Twice),
-        (b"point t\n", 7, ModelWord::Twice),
-        (b"?x in (p)\n?x in (q)\n", 8, ModelWord::Twice),
-        (b"event(q, t)\n", 7, ModelWord::Twice),
-        (b"noevent(c, (t, t))\n", 7, ModelWord::Name),
-        (b"occurs((0, 1), q, (t, t))\n", 7, ModelWord::Name),
-        (b"hold(a: on, (t, t))\n", 7, ModelWord::Name),
-        (b"hold(q[?x, ?y, ?z]: up, (q, q))\n", 7, ModelWord::Name),
-        (b"event(a: (on, off), s)\n", 7, ModelWord::Arity),
-        (b"event(v, s)\n", 7, ModelWord::Arity),
-        (b"event(m[?x], s)\n", 7, ModelWord::Arity),
-        (b"noevent(m[?x, ?x, ?x], (t, t))\n", 7, ModelWord::Arity),
-        (b"hold(w: on, (t, t))\n", 7, ModelWord::Arity),
-        (
-            b"event(m[1, 2, 3, 4, 5, 6, 7, 8, 9], s)\n",
-            7,
-            ModelWord::Arity,
-        ),
-        (b"occurs((0, 1), v: (*, up), (t, t))\n", 7, ModelWord::Value),
-        (b"hold(v: up, (t, t))\n", 7, ModelWord::Value),
-        (b"event(v: (up, on), s)\n}\n", 0, ModelWord::Value),
-        (b"?x != ?z\n", 7, ModelWord::Variable),
-        (
-            b"noevent(w[?z]: (*, *), (t, t))\n?z in (p)\n",
-            8,
-            ModelWord::Variable,
-        ),
-        (b"t - z in [5, 2]\n", 7, ModelWord::Point),
-        (b"point z\nnoevent(a, (t, z))\n", 8, ModelWord::Point),
-        (b"occurs((2, 1), a, (q, t))\n", 7, ModelWord::Point),
-        (b"occurs((2, 1), a, (t, t))\n", 7, ModelWord::Bound),
-        (b"hold(v: *, (t - 1099511627777, t))\n", 7, ModelWord::Bound),
-        (b"hold(v: *, (t, t))\n", 7, ModelWord::Window),
-        (
-            b"occurs((0, 1), w[?z]: (*, *), (t, t))\n}\n",
-            8,
-            ModelWord::Unbound,
-        ),
-        (b"hold(w[?x]: ?z, (t, t))\n\n}\n", 9, ModelWord::Unbound),
-        (
-            b"hold(w[?x]: ?y, (t, t))\n}\nmessage b\n",
-            9,
-            ModelWord::Form,
-        ),
-        (b"point z\nz-t in [0, 0]\n", 8, ModelWord::Form),
-        (b"t - t in [1, 1]\n}\n", 0, ModelWord::Inconsistent),
-    ];
-    check_rows(&rt, alloc, DECLARED, &rows)
+    let rows = "8 Twice|}/attribute m 0/
+8 Twice|}/chronicle c {/
+7 Twice|event(a, t)/
+8 Twice|point z/point z/
+7 Twice|point t/
+8 Twice|?x in (p)/?x in (q)/
+7 Twice|event(q, t)/
+7 Name|noevent(c, (t, t))/
+7 Name|occurs((0, 1), q, (t, t))/
+7 Name|hold(a: on, (t, t))/
+7 Name|hold(q[?x, ?y, ?z]: up, (q, q))/
+7 Arity|event(a: (on, off), s)/
+7 Arity|event(v, s)/
+7 Arity|event(m[?x], s)/
+7 Arity|noevent(m[?x, ?x, ?x], (t, t))/
+7 Arity|hold(w: on, (t, t))/
+7 Arity|event(m[1, 2, 3, 4, 5, 6, 7, 8, 9], s)/
+7 Value|occurs((0, 1), v: (*, up), (t, t))/
+7 Value|hold(v: up, (t, t))/
+accepted|event(v: (up, on), s)/}/
+7 Variable|?x != ?z/
+8 Variable|noevent(w[?z]: (*, *), (t, t))/?z in (p)/
+7 Point|t - z in [5, 2]/
+8 Point|point z/noevent(a, (t, z))/
+7 Point|occurs((2, 1), a, (q, t))/
+7 Bound|occurs((2, 1), a, (t, t))/
+7 Bound|hold(v: *, (t - 1099511627777, t))/
+7 Window|hold(v: *, (t, t))/
+8 Unbound|occurs((0, 1), w[?z]: (*, *), (t, t))/}/
+9 Unbound|hold(w[?x]: ?z, (t, t))//}/
+9 Form|hold(w[?x]: ?y, (t, t))/}/message b/
+8 Form|point z/z-t in [0, 0]/
+accepted|t - t in [1, 1]/}/
+";
+    check_rows(&rt, alloc, DECLARED, rows)
 }
 
 fn repeated(alloc: Global, piece: &[u8], count: usize) -> Result<Vec<u8>, Fail> {
@@ -164,45 +134,64 @@ fn repeated(alloc: Global, piece: &[u8], count: usize) -> Result<Vec<u8>, Fail> 
     Ok(text)
 }
 
+/// The refusal of a text of equal pieces, and of one more behind them.
+fn size_refusal(
+    alloc: Global,
+    piece: &[u8],
+    count: usize,
+    more: &[u8],
+) -> Result<Option<ModelRefused>, Fail> {
+    let mut text = repeated(alloc, piece, count)?;
+    text.extend_from_slice(more)?;
+    refusal(alloc, &text)
+}
+
 #[test]
 fn a_text_has_at_most_a_mebibyte(rt: HostRuntime) -> Result<(), Fail> {
     let alloc = rt.alloc();
-    let mut text = repeated(alloc, b"#\n", 1 << 19)?;
-    assert!(rt; refusal(alloc, &text)? == None);
-    text.push(b'#')?;
-    assert!(rt; refusal(alloc, &text)? == at(0, ModelWord::Size));
-    let mut line = repeated(alloc, b"#", 1 << 20)?;
-    assert!(rt; refusal(alloc, &line)? == at(1, ModelWord::Limit));
-    line.push(b'#')?;
-    assert!(rt; refusal(alloc, &line)? == at(0, ModelWord::Size));
-    let braces = repeated(alloc, b"{", 1000000)?;
-    assert!(rt; refusal(alloc, &braces)? == at(1, ModelWord::Limit));
+    let size = at(0, ModelWord::Size);
+    let limit = at(1, ModelWord::Limit);
+    assert!(rt; size_refusal(alloc, b"#\n", 1 << 19, b"")? == None);
+    assert!(rt; size_refusal(alloc, b"#\n", 1 << 19, b"#")? == size);
+    assert!(rt; size_refusal(alloc, b"#", 1 << 20, b"")? == limit);
+    assert!(rt; size_refusal(alloc, b"#", 1 << 20, b"#")? == size);
+    assert!(rt; size_refusal(alloc, b"{", 1000000, b"")? == limit);
     Ok(())
 }
 
-/// A text with a number of pieces, each with its own number between two parts. One more than the
-/// greatest count is refused in this line.
-#[derive(Clone, Copy)]
-struct Pieces<'a> {
-    before: &'a [u8],
-    first: &'a [u8],
-    second: &'a [u8],
-    after: &'a [u8],
-    most: u32,
-    line: u32,
-}
-
-fn many(alloc: Global, pieces: &Pieces<'_>, count: u32) -> Result<Vec<u8>, Fail> {
-    let mut text = Vec::new(alloc);
-    text.extend_from_slice(pieces.before)?;
+/// Lines with a number of pieces, each with its own number between two parts, and what stands behind them.
+fn many(alloc: Global, row: &str, count: u32) -> Result<String, Fail> {
+    let (first, others) = row.split_once('|').ok_or("row")?;
+    let (second, after) = others.split_once('|').ok_or("row")?;
+    let mut lines = String::new(alloc);
     for i in 0..count {
         let mut buffer = Buffer::new();
-        text.extend_from_slice(pieces.first)?;
-        text.extend_from_slice(buffer.format(i).as_bytes())?;
-        text.extend_from_slice(pieces.second)?;
+        lines.push_str(first)?;
+        lines.push_str(buffer.format(i))?;
+        lines.push_str(second)?;
     }
-    text.extend_from_slice(pieces.after)?;
-    Ok(text)
+    lines.push_str(after)?;
+    Ok(lines)
+}
+
+/// The greatest count of pieces behind a text is accepted, and one more is refused in this line.
+fn is_kept(
+    rt: &impl Abort,
+    alloc: Global,
+    before: &[u8],
+    most: u32,
+    line: u32,
+    row: &str,
+) -> Result<(), Fail> {
+    let at_most = many(alloc, row, most)?;
+    assert!(rt;
+        refusal(alloc, &lines_behind(alloc, before, &at_most)?)? == None,
+        "{row}"
+    );
+    let past = many(alloc, row, most.saturating_add(1))?;
+    let told = refusal(alloc, &lines_behind(alloc, before, &past)?)?;
+    assert!(rt; told == at(line, ModelWord::Limit), "{row}");
+    Ok(())
 }
 
 /// Five lines, in a chronicle.
@@ -215,96 +204,48 @@ event(m[?x, ?y], t)
 
 #[test]
 fn each_count_is_kept_at_its_edge(rt: HostRuntime) -> Result<(), Fail> {
-    let alloc = rt.alloc();
-    let rows: [Pieces<'_>; 10] = [
-        Pieces {
-            before: b"",
-            first: b"message n",
-            second: b" 0\n",
-            after: b"",
-            most: 256,
-            line: 257,
-        },
-        Pieces {
-            before: b"message a 0\n",
-            first: b"chronicle c",
-            second: b" {\nevent(a, t)\n}\n",
-            after: b"",
-            most: 64,
-            line: 194,
-        },
-        Pieces {
-            before: b"message a 0\nchronicle c {\n",
-            first: b"event(a, t",
-            second: b")\n",
-            after: b"}\n",
-            most: 16,
-            line: 19,
-        },
-        Pieces {
-            before: OPEN,
-            first: b"point p",
-            second: b"\n",
-            after: b"}\n",
-            most: 22,
-            line: 28,
-        },
-        Pieces {
-            before: b"message a 0\nchronicle c {\npoint a\npoint b\npoint c\npoint d\npoint e\npoint f\npoint g\npoint h\npoint i\n",
-            first: b"event(a, t",
-            second: b")\n",
-            after: b"}\n",
-            most: 15,
-            line: 27,
-        },
-        Pieces {
-            before: OPEN,
-            first: b"s - t in [0, ",
-            second: b"]\n",
-            after: b"}\n",
-            most: 256,
-            line: 262,
-        },
-        Pieces {
-            before: OPEN,
-            first: b"?x != ?y\n#",
-            second: b"\n",
-            after: b"}\n",
-            most: 64,
-            line: 134,
-        },
-        Pieces {
-            before: OPEN,
-            first: b"noevent(a, (s, t + ",
-            second: b"))\n",
-            after: b"}\n",
-            most: 16,
-            line: 22,
-        },
-        Pieces {
-            before: b"attribute v 0 in (on",
-            first: b", x",
-            second: b"",
-            after: b")\n",
-            most: 63,
-            line: 1,
-        },
-        Pieces {
-            before: b"message m 2\nchronicle c {\nevent(m[?x, ?y], t)\n?y in (on",
-            first: b", x",
-            second: b"",
-            after: b")\n}\n",
-            most: 63,
-            line: 4,
-        },
-    ];
-    for (i, row) in rows.iter().enumerate() {
-        assert!(rt;
-            refusal(alloc, &many(alloc, row, row.most)?)? == None,
-            "row {i}"
-        );
-        let past = refusal(alloc, &many(alloc, row, row.most + 1)?)?;
-        assert!(rt; past == at(row.line, ModelWord::Limit), "row {i}");
+    for (before, most, line, row) in [
+        (b"".as_slice(), 256, 257, "message n| 0/|"),
+        (
+            b"message a 0\n".as_slice(),
+            64,
+            194,
+            "chronicle c| {/event(a, t)/}/|",
+        ),
+        (
+            b"message a 0\nchronicle c {\n".as_slice(),
+            16,
+            19,
+            "event(a, t|)/|}/",
+        ),
+        (
+            b"message a 0\nchronicle c {\npoint a\npoint b\npoint c\npoint d\npoint e\npoint f\npoint g\npoint h\npoint i\n".as_slice(),
+            15,
+            27,
+            "event(a, t|)/|}/",
+        ),
+        (b"attribute v 0 in (on".as_slice(), 63, 1, ", x||)/"),
+        (
+            b"message m 2\nchronicle c {\nevent(m[?x, ?y], t)\n?y in (on".as_slice(),
+            63,
+            4,
+            ", x||)/}/",
+        ),
+    ] {
+        is_kept(&rt, rt.alloc(), before, most, line, row)?;
+    }
+    Ok(())
+}
+
+#[test]
+fn each_count_of_a_chronicle_is_kept_at_its_edge(rt: HostRuntime) -> Result<(), Fail> {
+    for (most, line, row) in [
+        (22, 28, "point p|/|}/"),
+        (256, 262, "s - t in [0, |]/|}/"),
+        (64, 134, "?x != ?y/#|/|}/"),
+        (16, 22, "noevent(a, (s, t + |))/|}/"),
+    ] {
+        is_kept(&rt, rt.alloc(), OPEN, most, line, row)?;
     }
     Ok(())
 }
@@ -312,88 +253,33 @@ fn each_count_is_kept_at_its_edge(rt: HostRuntime) -> Result<(), Fail> {
 #[test]
 fn each_number_is_kept_at_its_edge(rt: HostRuntime) -> Result<(), Fail> {
     let alloc = rt.alloc();
-    let arities: [Row<'_>; 5] = [
-        (b"message a 8\n", 0, ModelWord::Limit),
-        (b"message a 9999999999999999999\n", 1, ModelWord::Limit),
-        (b"message a 10000000000000000000\n", 1, ModelWord::Form),
-        (b"attribute v 8 in (on)\n", 0, ModelWord::Limit),
-        (b"attribute v 9\n", 1, ModelWord::Limit),
-    ];
-    check_rows(&rt, alloc, b"", &arities)?;
-    let rows: [Row<'_>; 18] = [
-        (b" level 7\n}\n", 0, ModelWord::Limit),
-        (b" level 8\n}\n", 3, ModelWord::Limit),
-        (
-            b"\nt - t in [-1099511627776, 1099511627776]\n}\n",
-            0,
-            ModelWord::Bound,
-        ),
-        (b"\nt - t in [-1099511627777, 0]\n}\n", 4, ModelWord::Bound),
-        (
-            b"\nt - t in [-inf, -1099511627777]\n}\n",
-            4,
-            ModelWord::Bound,
-        ),
-        (b"\nt - t in [0, 1099511627777]\n}\n", 4, ModelWord::Bound),
-        (b"\nt - t in [1099511627777, inf]\n}\n", 4, ModelWord::Bound),
-        (
-            b"\nt - t in [0, 9999999999999999999]\n}\n",
-            4,
-            ModelWord::Bound,
-        ),
-        (
-            b"\nnoevent(a, (t - 1099511627776, t + 1099511627776))\n}\n",
-            0,
-            ModelWord::Bound,
-        ),
-        (
-            b"\nnoevent(a, (t - 1099511627777, t))\n}\n",
-            4,
-            ModelWord::Bound,
-        ),
-        (
-            b"\nnoevent(a, (t, t + 1099511627777))\n}\n",
-            4,
-            ModelWord::Bound,
-        ),
-        (
-            b"\noccurs((4294967295, 4294967295), a, (t, t))\n}\n",
-            0,
-            ModelWord::Bound,
-        ),
-        (
-            b"\noccurs((4294967295, inf), a, (t, t))\n}\n",
-            0,
-            ModelWord::Bound,
-        ),
-        (
-            b"\noccurs((4294967296, inf), a, (t, t))\n}\n",
-            4,
-            ModelWord::Bound,
-        ),
-        (
-            b"\noccurs((0, 4294967296), a, (t, t))\n}\n",
-            4,
-            ModelWord::Bound,
-        ),
-        (b"\noccurs((3, 2), a, (t, t))\n}\n", 4, ModelWord::Bound),
-        (
-            b"\nnoevent(a, (t, t + 0000000000000000001))\n}\n",
-            0,
-            ModelWord::Form,
-        ),
-        (
-            b"\nnoevent(a, (t, t + 00000000000000000001))\n}\n",
-            4,
-            ModelWord::Form,
-        ),
-    ];
-    check_rows(
-        &rt,
-        alloc,
-        b"message a 0\nchronicle c {\nevent(a, t)",
-        &rows,
-    )
+    let arities = "accepted|message a 8/
+1 Limit|message a 9999999999999999999/
+1 Form|message a 10000000000000000000/
+accepted|attribute v 8 in (on)/
+1 Limit|attribute v 9/
+";
+    check_rows(&rt, alloc, b"", arities)?;
+    let rows = "accepted| level 7/}/
+3 Limit| level 8/}/
+accepted|/t - t in [-1099511627776, 1099511627776]/}/
+4 Bound|/t - t in [-1099511627777, 0]/}/
+4 Bound|/t - t in [-inf, -1099511627777]/}/
+4 Bound|/t - t in [0, 1099511627777]/}/
+4 Bound|/t - t in [1099511627777, inf]/}/
+4 Bound|/t - t in [0, 9999999999999999999]/}/
+accepted|/noevent(a, (t - 1099511627776, t + 1099511627776))/}/
+4 Bound|/noevent(a, (t - 1099511627777, t))/}/
+4 Bound|/noevent(a, (t, t + 1099511627777))/}/
+accepted|/occurs((4294967295, 4294967295), a, (t, t))/}/
+accepted|/occurs((4294967295, inf), a, (t, t))/}/
+4 Bound|/occurs((4294967296, inf), a, (t, t))/}/
+4 Bound|/occurs((0, 4294967296), a, (t, t))/}/
+4 Bound|/occurs((3, 2), a, (t, t))/}/
+accepted|/noevent(a, (t, t + 0000000000000000001))/}/
+4 Form|/noevent(a, (t, t + 00000000000000000001))/}/
+";
+    check_rows(&rt, alloc, b"message a 0\nchronicle c {\nevent(a, t)", rows)
 }
 
 #[test]
@@ -401,58 +287,114 @@ fn variables_have_their_limit(rt: HostRuntime) -> Result<(), Fail> {
     let alloc = rt.alloc();
     let before: &[u8] =
         b"message m 8\nchronicle c {\nevent(m[?a, ?b, ?c, ?d, ?e, ?f, ?g, ?h], s)\nevent(m[?i, ?j, ?k, ?l, ?m, ?n, ?o, ?p], t)\n";
-    let rows: [Row<'_>; 3] = [
-        (b"}\n", 0, ModelWord::Limit),
-        (
-            b"event(m[?q, *, *, *, *, *, *, *], u)\n}\n",
-            5,
-            ModelWord::Limit,
-        ),
-        (
-            b"event(m[?a, ?p, *, *, *, *, *, *], u)\n}\n",
-            0,
-            ModelWord::Limit,
-        ),
-    ];
-    check_rows(&rt, alloc, before, &rows)
+    let rows = "accepted|}/
+5 Limit|event(m[?q, *, *, *, *, *, *, *], u)/}/
+accepted|event(m[?a, ?p, *, *, *, *, *, *], u)/}/
+";
+    check_rows(&rt, alloc, before, rows)
 }
 
-/// Two parts with a number of equal bytes between them, and the answer.
-type Filled<'a> = (&'a [u8], u8, usize, &'a [u8], u32, ModelWord);
+/// Two parts with a number of equal bytes between them.
+fn filled(
+    alloc: Global,
+    front: &[u8],
+    byte: u8,
+    count: usize,
+    back: &[u8],
+) -> Result<Vec<u8>, Fail> {
+    let mut text = Vec::from_slice(alloc, front)?;
+    for _ in 0..count {
+        text.push(byte)?;
+    }
+    text.extend_from_slice(back)?;
+    Ok(text)
+}
 
 #[test]
-fn lines_and_symbols_have_their_lengths(rt: HostRuntime) -> Result<(), Fail> {
+fn lines_have_their_lengths(rt: HostRuntime) -> Result<(), Fail> {
     let alloc = rt.alloc();
-    let rows: [Filled<'_>; 13] = [
-        (b"#", b'x', 4095, b"", 0, ModelWord::Limit),
-        (b"#", b'x', 4096, b"", 1, ModelWord::Limit),
-        (b"#", b'x', 4095, b"\n", 0, ModelWord::Limit),
-        (b"#", b'x', 4096, b"\n", 1, ModelWord::Limit),
-        (b"#", b'x', 4094, b"\r\n", 0, ModelWord::Limit),
-        (b"#", b'x', 4095, b"\r\n", 1, ModelWord::Limit),
-        (b"message a", b' ', 4087, b"", 1, ModelWord::Form),
-        (b"message a", b' ', 4088, b"\n", 1, ModelWord::Limit),
+    for (front, byte, count, back, wanted) in [
+        (b"#".as_slice(), b'x', 4095, b"".as_slice(), None),
         (
-            b"message a 0\nchronicle c {\n",
+            b"#".as_slice(),
+            b'x',
+            4096,
+            b"".as_slice(),
+            at(1, ModelWord::Limit),
+        ),
+        (b"#".as_slice(), b'x', 4095, b"\n".as_slice(), None),
+        (
+            b"#".as_slice(),
+            b'x',
+            4096,
+            b"\n".as_slice(),
+            at(1, ModelWord::Limit),
+        ),
+        (b"#".as_slice(), b'x', 4094, b"\r\n".as_slice(), None),
+        (
+            b"#".as_slice(),
+            b'x',
+            4095,
+            b"\r\n".as_slice(),
+            at(1, ModelWord::Limit),
+        ),
+        (
+            b"message a".as_slice(),
+            b' ',
+            4087,
+            b"".as_slice(),
+            at(1, ModelWord::Form),
+        ),
+        (
+            b"message a".as_slice(),
+            b' ',
+            4088,
+            b"\n".as_slice(),
+            at(1, ModelWord::Limit),
+        ),
+        (
+            b"message a 0\nchronicle c {\n".as_slice(),
             b'{',
             4097,
-            b"",
-            3,
-            ModelWord::Limit,
+            b"".as_slice(),
+            at(3, ModelWord::Limit),
         ),
-        (b"message ", b'n', 64, b" 0", 0, ModelWord::Form),
-        (b"message ", b'n', 65, b" 0", 1, ModelWord::Form),
-        (b"attribute v 0 in (", b'-', 64, b")\n", 0, ModelWord::Form),
-        (b"attribute v 0 in (", b'-', 65, b")\n", 1, ModelWord::Form),
-    ];
-    for (i, row) in rows.iter().enumerate() {
-        let mut text = Vec::from_slice(alloc, row.0)?;
-        for _ in 0..row.2 {
-            text.push(row.1)?;
-        }
-        text.extend_from_slice(row.3)?;
-        let wanted = if row.4 == 0 { None } else { at(row.4, row.5) };
-        assert!(rt; refusal(alloc, &text)? == wanted, "row {i}");
+    ] {
+        let text = filled(alloc, front, byte, count, back)?;
+        assert!(rt; refusal(alloc, &text)? == wanted, "{count} times {byte}");
+    }
+    Ok(())
+}
+
+#[test]
+fn symbols_have_their_lengths(rt: HostRuntime) -> Result<(), Fail> {
+    let alloc = rt.alloc();
+    for (front, byte, count, back, wanted) in [
+        (b"message ".as_slice(), b'n', 64, b" 0".as_slice(), None),
+        (
+            b"message ".as_slice(),
+            b'n',
+            65,
+            b" 0".as_slice(),
+            at(1, ModelWord::Form),
+        ),
+        (
+            b"attribute v 0 in (".as_slice(),
+            b'-',
+            64,
+            b")\n".as_slice(),
+            None,
+        ),
+        (
+            b"attribute v 0 in (".as_slice(),
+            b'-',
+            65,
+            b")\n".as_slice(),
+            at(1, ModelWord::Form),
+        ),
+    ] {
+        let text = filled(alloc, front, byte, count, back)?;
+        assert!(rt; refusal(alloc, &text)? == wanted, "{count} times {byte}");
     }
     Ok(())
 }
@@ -463,10 +405,7 @@ fn refusal_behind(alloc: Global, limit: u32, held: &[u8]) -> Result<Option<Model
     if is_symbol(held) {
         let _ = symbols.intern(held);
     }
-    match read_models(alloc, CANONICAL, &mut symbols) {
-        Ok(_) => Ok(None),
-        Err(e) => Ok(Some(e)),
-    }
+    Ok(read_models(alloc, CANONICAL, &mut symbols).err())
 }
 
 #[test]
@@ -544,32 +483,50 @@ fn a_cut_of_all_forms_is_of_no_other_form(rt: HostRuntime) -> Result<(), Fail> {
     Ok(())
 }
 
+/// The small text with this byte at a place, instead of the one there.
+fn with_byte(alloc: Global, place: usize, byte: u8) -> Result<Vec<u8>, Fail>
+    requires { place < 40 }
+{
+    let (front, back) = SMALL.split_at(place);
+    let mut text = Vec::from_slice(alloc, front)?;
+    text.push(byte)?;
+    if let [_, rest @ ..] = back {
+        text.extend_from_slice(rest)?;
+    }
+    Ok(text)
+}
+
 #[test]
 fn other_bytes_are_of_no_form(rt: HostRuntime) -> Result<(), Fail> {
     let alloc = rt.alloc();
     for byte in [0u8, 127, 128, 255] {
         for n in 0..SMALL.len() {
-            let (front, back) = SMALL.split_at(n);
-            let mut text = Vec::from_slice(alloc, front)?;
-            text.push(byte)?;
-            if let [_, rest @ ..] = back {
-                text.extend_from_slice(rest)?;
-            }
+            let text = with_byte(alloc, n, byte)?;
             assert!(rt;
                 refusal(alloc, &text)? == at(line_of(n), ModelWord::Form),
                 "{byte} at {n}"
             );
         }
     }
+    Ok(())
+}
+
+/// The answer to a message with this byte for its arity.
+fn arity_answer(byte: u8) -> Option<ModelRefused> {
+    match byte {
+        b'0'..=b'8' => None,
+        b'9' => at(1, ModelWord::Limit),
+        _ => at(1, ModelWord::Form),
+    }
+}
+
+#[test]
+fn other_bytes_are_no_arity(rt: HostRuntime) -> Result<(), Fail> {
+    let alloc = rt.alloc();
     for byte in 0..=255u8 {
         let mut text = Vec::from_slice(alloc, b"message a ")?;
         text.push(byte)?;
-        let wanted = match byte {
-            b'0'..=b'8' => None,
-            b'9' => at(1, ModelWord::Limit),
-            _ => at(1, ModelWord::Form),
-        };
-        assert!(rt; refusal(alloc, &text)? == wanted, "byte {byte}");
+        assert!(rt; refusal(alloc, &text)? == arity_answer(byte), "byte {byte}");
     }
     Ok(())
 }

@@ -8,8 +8,6 @@ mod lines;
 pub mod naming;
 
 pub use entries::{EntryRefused, Known, make_entry, make_named};
+pub use items::parts::span_text;
 pub use items::{Item, ItemRefused, Raw, Span, read_item};
 pub use lines::{Line, Lines, Told, lines_of_pieces};
-
-#[cfg(test)]
-mod tests;

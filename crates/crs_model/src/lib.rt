@@ -27,6 +27,3 @@ pub use pattern::{Pattern, Term};
 pub use plan::{Plan, Plans};
 pub use progress::{Progress, Stretch, Verdict};
 pub use recognition::{Mark, Recognition};
-
-#[cfg(test)]
-mod tests;

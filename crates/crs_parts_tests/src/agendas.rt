@@ -40,29 +40,40 @@ fn due(calendar: &mut Calendar, h: u64) -> u32
     }
 }
 
+/// The places of what is due first, second and third.
+fn due_thrice(calendar: &mut Calendar, h: u64) -> [u32; 3]
+    requires { calendar.old.date ≤ h }
+    ensures { calendar.new.date ≤ h }
+{
+    let first = due(calendar, h);
+    let second = due(calendar, h);
+    [first, second, due(calendar, h)]
+}
+
+fn put_six(calendar: &mut Calendar) -> Result<(), AllocError>
+    requires { calendar.old.date ≤ 3 }
+    ensures { calendar.new.date ≤ 3 }
+{
+    put(calendar, 40, 1)?;
+    put(calendar, 3, 2)?;
+    put(calendar, 40000, 3)?;
+    put(calendar, 1100, 4)?;
+    put(calendar, 1101, 5)?;
+    put(calendar, 33, 6)
+}
+
 #[test]
 fn a_calendar_gives_the_least_dates_first(rt: HostRuntime) -> Result<(), Fail> {
     let mut calendar = Calendar::new(rt.alloc());
-    put(&mut calendar, 40, 1)?;
-    put(&mut calendar, 3, 2)?;
-    put(&mut calendar, 40000, 3)?;
-    put(&mut calendar, 1100, 4)?;
-    put(&mut calendar, 1101, 5)?;
-    put(&mut calendar, 33, 6)?;
+    put_six(&mut calendar)?;
     assert_eq!(rt; due(&mut calendar, 3), NONE);
     assert_eq!(rt; due(&mut calendar, 4), 2);
     assert_eq!(rt; due(&mut calendar, 33), NONE);
-    assert_eq!(rt; due(&mut calendar, 41), 6);
-    assert_eq!(rt; due(&mut calendar, 41), 1);
-    assert_eq!(rt; due(&mut calendar, 41), NONE);
+    assert_eq!(rt; due_thrice(&mut calendar, 41), [6, 1, NONE]);
     put(&mut calendar, 41, 7)?;
     assert_eq!(rt; calendar.len(), 4);
-    assert_eq!(rt; due(&mut calendar, 1101), 7);
-    assert_eq!(rt; due(&mut calendar, 1101), 4);
-    assert_eq!(rt; due(&mut calendar, 1101), NONE);
-    assert_eq!(rt; due(&mut calendar, 50000), 5);
-    assert_eq!(rt; due(&mut calendar, 50000), 3);
-    assert_eq!(rt; due(&mut calendar, 50000), NONE);
+    assert_eq!(rt; due_thrice(&mut calendar, 1101), [7, 4, NONE]);
+    assert_eq!(rt; due_thrice(&mut calendar, 50000), [5, 3, NONE]);
     assert_eq!(rt; calendar.len(), 0);
     Ok(())
 }
@@ -75,8 +86,6 @@ fn a_sweep_drops_the_stale(rt: HostRuntime) -> Result<(), Fail> {
     put(&mut calendar, 2000, 2)?;
     calendar.sweep(&[7, 8, 7]);
     assert_eq!(rt; calendar.len(), 2);
-    assert_eq!(rt; due(&mut calendar, 3000), 0);
-    assert_eq!(rt; due(&mut calendar, 3000), 2);
-    assert_eq!(rt; due(&mut calendar, 3000), NONE);
+    assert_eq!(rt; due_thrice(&mut calendar, 3000), [0, 2, NONE]);
     Ok(())
 }

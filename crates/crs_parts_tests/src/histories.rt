@@ -9,7 +9,7 @@ use std::rc::Rc;
 use std::test::Fail;
 
 /// An entry without arguments.
-fn entry(
+pub(crate) fn entry(
     alloc: Global,
     arrival: u32,
     date: u64,
@@ -33,8 +33,8 @@ fn entry(
 
 /// A history with what it takes to add an entry behind all others.
 #[derive(Drop)]
-struct Filled {
-    history: History,
+pub(crate) struct Filled {
+    pub(crate) history: History,
     alloc: Global,
     last: u64,
     count: u32,
@@ -53,7 +53,7 @@ impl Model for Filled {
 }
 
 impl Filled {
-    fn new(alloc: Global) -> Filled {
+    pub(crate) fn new(alloc: Global) -> Filled {
         Filled {
             history: History::new(alloc),
             alloc,
@@ -63,7 +63,12 @@ impl Filled {
     }
 
     /// Adds an entry, where it isn't dated before the last one.
-    fn add(&mut self, date: u64, name: u32, change: Option<(Sym, Sym)>) -> Result<(), AllocError> {
+    pub(crate) fn add(
+        &mut self,
+        date: u64,
+        name: u32,
+        change: Option<(Sym, Sym)>,
+    ) -> Result<(), AllocError> {
         if date < self.last || self.count == u32::MAX {
             return Ok(());
         }
@@ -82,6 +87,18 @@ impl Filled {
     }
 }
 
+/// A date, a name and a change.
+type Row = (u64, u32, Option<(Sym, Sym)>);
+
+/// A history of these entries.
+fn filled_with(alloc: Global, rows: &[Row]) -> Result<Filled, AllocError> {
+    let mut filled = Filled::new(alloc);
+    for row in rows {
+        filled.add(row.0, row.1, row.2)?;
+    }
+    Ok(filled)
+}
+
 /// How many entries there are.
 fn count_of(range: Range<'_>) -> usize {
     let mut count: usize = 0;
@@ -94,15 +111,16 @@ fn count_of(range: Range<'_>) -> usize {
 #[test]
 fn the_last_changes_are_kept(rt: HostRuntime) -> Result<(), Fail> {
     let alloc = rt.alloc();
-    let mut filled = Filled::new(alloc);
-    assert!(rt; filled.history.len() == 0);
+    assert!(rt; Filled::new(alloc).history.len() == 0);
     let change = Some((Sym(8), Sym(9)));
-    filled.add(1, 0, change)?;
-    filled.add(2, 0, change)?;
-    filled.add(3, 1, change)?;
-    filled.add(4, 2, None)?;
-    filled.add(6, 0, change)?;
-    let Filled { mut history, .. } = filled;
+    let rows = [
+        (1, 0, change),
+        (2, 0, change),
+        (3, 1, change),
+        (4, 2, None),
+        (6, 0, change),
+    ];
+    let Filled { mut history, .. } = filled_with(alloc, &rows)?;
     for (date, kept) in [(1, 5), (5, 3), (4, 3), (6, 3), (7, 2), (90, 2)] {
         history.forget_before(date);
         assert!(rt; history.len() == kept);
@@ -112,15 +130,16 @@ fn the_last_changes_are_kept(rt: HostRuntime) -> Result<(), Fail> {
 
 #[test]
 fn a_range_has_the_entries_of_its_name(rt: HostRuntime) -> Result<(), Fail> {
-    let alloc = rt.alloc();
-    let mut filled = Filled::new(alloc);
-    filled.add(1, 5, None)?;
-    filled.add(2, 0, None)?;
-    filled.add(3, 5, None)?;
-    filled.add(3, 9, None)?;
-    filled.add(3, 5, None)?;
-    filled.add(6, 4, None)?;
-    filled.add(7, 5, None)?;
+    let rows = [
+        (1, 5, None),
+        (2, 0, None),
+        (3, 5, None),
+        (3, 9, None),
+        (3, 5, None),
+        (6, 4, None),
+        (7, 5, None),
+    ];
+    let filled = filled_with(rt.alloc(), &rows)?;
     for (name, from, to, count) in [
         (5, 0, 8, 4),
         (5, 1, 7, 3),
@@ -137,39 +156,55 @@ fn a_range_has_the_entries_of_its_name(rt: HostRuntime) -> Result<(), Fail> {
     Ok(())
 }
 
+/// Whether the attribute of this name has the value in a stretch of dates.
+fn holds(history: &History, name: u32, value: u32, from: i64, to: i64) -> bool {
+    let args = SymList::from_slice(&[]);
+    history.value_over(Sym(name), &args, Sym(value), from, to)
+}
+
+/// The history of three changes of one attribute, up to date 5.
+fn changed(alloc: Global) -> Result<Filled, AllocError> {
+    let mut filled = filled_with(
+        alloc,
+        &[
+            (1, 0, Some((Sym(8), Sym(9)))),
+            (3, 0, Some((Sym(9), Sym(7)))),
+            (3, 0, Some((Sym(7), Sym(7)))),
+            (5, 1, None),
+        ],
+    )?;
+    filled.forget(5);
+    Ok(filled)
+}
+
 #[test]
 fn a_value_holds_across_the_floor(rt: HostRuntime) -> Result<(), Fail> {
-    let alloc = rt.alloc();
-    let args = SymList::from_slice(&[]);
-    let mut filled = Filled::new(alloc);
-    filled.add(1, 0, Some((Sym(8), Sym(9))))?;
-    filled.add(3, 0, Some((Sym(9), Sym(7))))?;
-    filled.add(3, 0, Some((Sym(7), Sym(7))))?;
-    filled.add(5, 1, None)?;
-    filled.forget(5);
+    let mut filled = changed(rt.alloc())?;
     assert!(rt; filled.history.len() == 3);
-    assert!(rt; filled.history.value_over(Sym(0), &args, Sym(7), 5, 9));
+    assert!(rt; holds(&filled.history, 0, 7, 5, 9));
     filled.add(6, 0, Some((Sym(7), Sym(9))))?;
-    for (value, from, to, holds) in [
+    for (value, from, to, wanted) in [
         (7, 5, 6, true),
         (7, 5, 7, false),
         (9, 5, 7, false),
         (9, 6, 40, true),
         (9, 6, 6, true),
     ] {
-        assert!(rt;
-            filled
-                .history
-                .value_over(Sym(0), &args, Sym(value), from, to)
-                == holds
-        );
+        assert!(rt; holds(&filled.history, 0, value, from, to) == wanted);
     }
+    Ok(())
+}
+
+#[test]
+fn a_value_holds_where_its_change_is_forgotten(rt: HostRuntime) -> Result<(), Fail> {
+    let mut filled = changed(rt.alloc())?;
+    filled.add(6, 0, Some((Sym(7), Sym(9))))?;
     filled.forget(6);
     assert!(rt; filled.history.len() == 3);
     filled.history.forget_before(7);
     assert!(rt; filled.history.len() == 1);
-    assert!(rt; filled.history.value_over(Sym(0), &args, Sym(9), 7, 40));
-    assert!(rt; !filled.history.value_over(Sym(1), &args, Sym(9), 7, 40));
+    assert!(rt; holds(&filled.history, 0, 9, 7, 40));
+    assert!(rt; !holds(&filled.history, 1, 9, 7, 40));
     assert!(rt; count_of(filled.history.range(Sym(0), 0, 40)) == 0);
     Ok(())
 }

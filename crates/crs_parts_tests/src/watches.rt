@@ -101,20 +101,35 @@ fn a_value_holds_from_its_change_on(rt: HostRuntime) -> Result<(), Fail> {
     Ok(())
 }
 
+/// Windows of five instances, armed under three names.
+fn armed(alloc: Global) -> Result<Watch<Sym>, AllocError> {
+    let late = Stretch { from: 3, to: 20 };
+    let mut watch = Watch::new(alloc);
+    for (id, window, name, stretch) in [
+        (7, 1, 4, Stretch { from: -5, to: 9 }),
+        (7, 0, 4, late),
+        (2, 3, 4, late),
+        (2, 3, 5, late),
+        (9, 0, 3, late),
+        (8, 0, 4, Stretch { from: 9, to: 10 }),
+    ] {
+        watch.arm(id, window, Sym(name), stretch)?;
+    }
+    Ok(watch)
+}
+
 #[test]
 fn armed_pairs_are_touched_by_date(rt: HostRuntime) -> Result<(), Fail> {
-    let mut watch = Watch::new(rt.alloc());
-    let late = Stretch { from: 3, to: 20 };
-    watch.arm(7, 1, Sym(4), Stretch { from: -5, to: 9 })?;
-    watch.arm(7, 0, Sym(4), late)?;
-    watch.arm(2, 3, Sym(4), late)?;
-    watch.arm(2, 3, Sym(5), late)?;
-    watch.arm(9, 0, Sym(3), late)?;
-    watch.arm(8, 0, Sym(4), Stretch { from: 9, to: 10 })?;
-    let touched = [(2, 3), (7, 0), (7, 1)];
-    assert!(rt; watch.touched(Sym(4), 8).eq(touched));
+    let watch = armed(rt.alloc())?;
+    assert!(rt; watch.touched(Sym(4), 8).eq([(2, 3), (7, 0), (7, 1)]));
     assert!(rt; watch.touched(Sym(4), 2).eq([(7, 1)]));
     assert!(rt; watch.touched(Sym(4), 9).eq([(2, 3), (7, 0), (8, 0)]));
+    Ok(())
+}
+
+#[test]
+fn pairs_are_armed_anew_and_disarmed(rt: HostRuntime) -> Result<(), Fail> {
+    let mut watch = armed(rt.alloc())?;
     watch.arm(7, 0, Sym(4), Stretch { from: 30, to: 31 })?;
     watch.disarm(2);
     assert!(rt; watch.touched(Sym(4), 8).eq([(7, 1)]));

@@ -1,4 +1,3 @@
 pub mod After
-pub mod Known
 pub mod Lists
 pub mod Members

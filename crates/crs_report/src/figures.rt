@@ -1,4 +1,5 @@
-// What a recognition does to the figures of each kind of listener.
+//! What a recognition does to the figures of each kind of listener. A listener of a caller's own, of
+//! one of these kinds, can keep its figures by them.
 ghost use Rattle.std.specs.Prelude.{◌≡◌, ◌<◌, ◌≤◌, ◌++◌, length, replicate, IfOk, OnOk, OnErr};
 ghost use Rattle.crs_report.specs.Listeners.{notice_of, least, greatest, padded, gained, counted, widened, lengthened, lessened, is_zero};
 
@@ -7,7 +8,7 @@ use crs_model::Recognition;
 use std::alloc::{AllocError, Global};
 
 /// A list of these figures.
-pub(crate) fn figures_of(alloc: Global, figures: &[u64]) -> Result<List<u64>, AllocError>
+pub fn figures_of(alloc: Global, figures: &[u64]) -> Result<List<u64>, AllocError>
     ensures { IfOk result (λ list. list ≡ figures.now) }
 {
     let mut list = List::new(alloc);
@@ -53,11 +54,7 @@ fn gain(figures: &mut List<u64>, place: u32)
 }
 
 /// Counts a recognition at its chronicle's place.
-pub(crate) fn count(
-    alloc: Global,
-    figures: &mut List<u64>,
-    r: &Recognition,
-) -> Result<(), AllocError>
+pub fn count(alloc: Global, figures: &mut List<u64>, r: &Recognition) -> Result<(), AllocError>
     ensures ok { OnOk result (figures.new ≡ counted figures.old (notice_of r.now)) }
     ensures err { OnErr result (figures.new ≡ figures.old) }
 {
@@ -95,11 +92,7 @@ fn dates_of(r: &Recognition) -> Dates
 }
 
 /// Widens the first and the last date by those of a recognition.
-pub(crate) fn widen(
-    alloc: Global,
-    figures: &mut List<u64>,
-    r: &Recognition,
-) -> Result<(), AllocError>
+pub fn widen(alloc: Global, figures: &mut List<u64>, r: &Recognition) -> Result<(), AllocError>
     ensures ok { OnOk result (figures.new ≡ widened figures.old (notice_of r.now)) }
     ensures err { OnErr result (figures.new ≡ figures.old) }
 {
@@ -118,11 +111,7 @@ pub(crate) fn widen(
 }
 
 /// Takes the span of a recognition, where it is longer than the longest.
-pub(crate) fn lengthen(
-    alloc: Global,
-    figures: &mut List<u64>,
-    r: &Recognition,
-) -> Result<(), AllocError>
+pub fn lengthen(alloc: Global, figures: &mut List<u64>, r: &Recognition) -> Result<(), AllocError>
     ensures ok { OnOk result (figures.new ≡ lengthened figures.old (notice_of r.now)) }
     ensures err { OnErr result (figures.new ≡ figures.old) }
 {
@@ -140,7 +129,7 @@ pub(crate) fn lengthen(
 }
 
 /// Takes one from what is wanted.
-pub(crate) fn lessen(figures: &mut List<u64>)
+pub fn lessen(figures: &mut List<u64>)
     ensures { figures.new ≡ lessened figures.old }
 {
     if let [n] = figures.as_slice() {
@@ -150,7 +139,7 @@ pub(crate) fn lessen(figures: &mut List<u64>)
 }
 
 /// Whether there is one figure, and it is 0.
-pub(crate) fn is_zero(figures: &[u64]) -> bool
+pub fn is_zero(figures: &[u64]) -> bool
     ensures { result ≡ is_zero figures.now }
 {
     match figures {

@@ -1,7 +1,7 @@
 //! The lines of a run, as bytes, and the listeners that are told of its recognitions.
 #![tactic(auto)]
 
-mod figures;
+pub mod figures;
 mod kinds;
 mod listener;
 mod pages;
@@ -17,8 +17,3 @@ pub use recognitions::{line_of, push_line_of};
 pub use refusals::{Fault, model_line, push_refusal_line, refusal_line};
 pub use summary::{Summary, push_summary_line, summary_line};
 pub use teller::{keep_kinds, tell_all, tell_each};
-
-#[cfg(test)]
-mod listener_tests;
-#[cfg(test)]
-mod tests;

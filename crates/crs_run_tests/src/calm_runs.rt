@@ -7,6 +7,7 @@ ghost use Rattle.crs_words.specs.Commands.{command_of};
 use crs_desk::CalmDesk;
 use crs_top::{Limits, STANDARD, Status, run_with};
 use std::alloc::{AllocError, Global};
+use std::process::Abort;
 use std::test::Fail;
 
 const MODELS: &str =
@@ -36,36 +37,57 @@ fn run_calmly(alloc: Global, words: &[String], limits: Limits, desk: &mut CalmDe
     run_with(alloc, words, limits, desk, Vec::new(alloc))
 }
 
+/// Fails where a run over a calm desk has another status or another output.
+fn ends_so(
+    rt: &impl Abort,
+    alloc: Global,
+    limits: Limits,
+    desk: &mut CalmDesk,
+    status: Status,
+    output: &str,
+) -> Result<(), Fail>
+    requires { calm_inputs desk.old ≡ 0 }
+{
+    let words = words_of(alloc)?;
+    let ended = run_calmly(alloc, words.as_slice(), limits, desk);
+    assert_eq!(rt; ended, status);
+    assert!(rt; desk.written() == output.as_bytes());
+    Ok(())
+}
+
+/// A desk that reads in pieces, and gives this seed.
+fn seeded_desk(alloc: Global, seed: u64) -> Result<CalmDesk, AllocError>
+    ensures { IfOk result (λ d. calm_inputs d ≡ 0) }
+{
+    let mut desk = desk_of(alloc, MODELS)?;
+    desk.add_file("l", b"10 a\n12 b\nclock 13\n14 b\nclock 15")?;
+    desk.set_piece(3);
+    desk.set_seed(seed);
+    Ok(desk)
+}
+
 #[test]
 fn accepted_models(rt: HostRuntime) -> Result<(), Fail> {
     let alloc = rt.alloc();
-    let words = words_of(alloc)?;
+    let output = "c at 13 t1=10 t2=12\nc at 15 t1=10 t2=14\n";
     // the same bytes from each seed
     for seed in [0, 1, u64::MAX] {
-        let mut desk = desk_of(alloc, MODELS)?;
-        desk.add_file("l", b"10 a\n12 b\nclock 13\n14 b\nclock 15")?;
-        desk.set_piece(3);
-        desk.set_seed(seed);
-        assert_eq!(rt;
-            run_calmly(alloc, words.as_slice(), STANDARD, &mut desk),
-            Status::Done
-        );
-        assert!(rt; desk.written() == "c at 13 t1=10 t2=12\nc at 15 t1=10 t2=14\n".as_bytes());
+        let mut desk = seeded_desk(alloc, seed)?;
+        ends_so(&rt, alloc, STANDARD, &mut desk, Status::Done, output)?;
     }
-    let mut desk = desk_of(alloc, MODELS)?;
-    assert_eq!(rt;
-        run_calmly(alloc, words.as_slice(), STANDARD, &mut desk),
-        Status::Done,
-        "a missing log is an empty one"
-    );
-    assert!(rt; desk.written().is_empty());
     Ok(())
+}
+
+#[test]
+fn a_missing_log_is_an_empty_one(rt: HostRuntime) -> Result<(), Fail> {
+    let alloc = rt.alloc();
+    let mut desk = desk_of(alloc, MODELS)?;
+    ends_so(&rt, alloc, STANDARD, &mut desk, Status::Done, "")
 }
 
 #[test]
 fn refused_models(rt: HostRuntime) -> Result<(), Fail> {
     let alloc = rt.alloc();
-    let words = words_of(alloc)?;
     let few = Limits {
         symbols: 4,
         entries: 9,
@@ -81,11 +103,7 @@ fn refused_models(rt: HostRuntime) -> Result<(), Fail> {
     ] {
         let mut desk = desk_of(alloc, models)?;
         desk.add_file("l", b"1 a\n")?;
-        assert_eq!(rt;
-            run_calmly(alloc, words.as_slice(), limits, &mut desk),
-            Status::Rejected
-        );
-        assert!(rt; desk.written() == output.as_bytes());
+        ends_so(&rt, alloc, limits, &mut desk, Status::Rejected, output)?;
     }
     Ok(())
 }

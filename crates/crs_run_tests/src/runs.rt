@@ -1,10 +1,11 @@
-ghost use Rattle.std.specs.Prelude.{◌≡◌, IfOk};
+ghost use Rattle.std.specs.Prelude.{◌≡◌, ◌<◌, ◌≤◌, ◌+◌, ◌^◌, IfOk};
 ghost use Rattle.crs_desk.specs.Memory.{memory_inputs};
 
 use crs_desk::MemoryDesk;
 use crs_report::{CountByModel, FirstLast, FirstN, Listener, LongestSpan};
 use crs_top::{Limits, STANDARD, Status, run_with};
 use std::alloc::{AllocError, Global};
+use std::process::Abort;
 use std::test::Fail;
 
 const MODELS: &str =
@@ -12,6 +13,15 @@ const MODELS: &str =
 
 const USAGE: &str =
     "usage: crs run [--focus] [--summary] [--tally KINDS] MODELS LOG\n       crs model [--minimal] MODELS\n       crs drill [--focus] SEED N\n       crs import CSV\n";
+
+/// The text with a line end in place of each slash.
+fn lines_of(alloc: Global, text: &str) -> Result<Vec<u8>, AllocError> {
+    let mut lines = Vec::new(alloc);
+    for byte in text.bytes() {
+        lines.push(if byte == b'/' { b'\n' } else { byte })?;
+    }
+    Ok(lines)
+}
 
 fn words_in(alloc: Global, line: &str) -> Result<Vec<String>, AllocError> {
     let mut words = Vec::new(alloc);
@@ -21,125 +31,166 @@ fn words_in(alloc: Global, line: &str) -> Result<Vec<String>, AllocError> {
     Ok(words)
 }
 
-fn words_of(alloc: Global) -> Result<Vec<String>, AllocError> {
-    words_in(alloc, "run m l")
-}
-
-fn desk_of(alloc: Global, models: &str, log: &str) -> Result<MemoryDesk, AllocError>
+/// A desk that holds the models alone.
+fn models_alone(alloc: Global, models: &str) -> Result<MemoryDesk, AllocError>
     ensures { IfOk result (λ d. memory_inputs d ≡ 0) }
 {
     let mut desk = MemoryDesk::new(alloc);
     desk.add_file("m", models.as_bytes())?;
-    desk.add_file("l", log.as_bytes())?;
     Ok(desk)
+}
+
+/// A desk that holds the models and a log of these bytes.
+fn desk_of(alloc: Global, models: &str, log: &[u8]) -> Result<MemoryDesk, AllocError>
+    ensures { IfOk result (λ d. memory_inputs d ≡ 0) }
+{
+    let mut desk = models_alone(alloc, models)?;
+    desk.add_file("l", log)?;
+    Ok(desk)
+}
+
+/// Runs the words over a desk, for no listeners.
+fn run(alloc: Global, words: &[String], limits: Limits, desk: &mut MemoryDesk) -> Status
+    requires { memory_inputs desk.old < 2 ^ 31 }
+    ensures { memory_inputs desk.new ≤ memory_inputs desk.old + 2 }
+{
+    run_with(alloc, words, limits, desk, Vec::new(alloc))
+}
+
+/// Fails where a run over a desk has another status or another output, which is written with slashes
+/// for line ends.
+fn ends_so(
+    rt: &impl Abort,
+    alloc: Global,
+    words: &str,
+    limits: Limits,
+    desk: &mut MemoryDesk,
+    status: Status,
+    output: &str,
+) -> Result<(), Fail>
+    requires { memory_inputs desk.old < 2 ^ 30 }
+    ensures { memory_inputs desk.new ≤ memory_inputs desk.old + 2 }
+{
+    let words = words_in(alloc, words)?;
+    let ended = run(alloc, words.as_slice(), limits, desk);
+    assert!(rt; ended == status, "{output}: {ended:?}");
+    let lines = lines_of(alloc, output)?;
+    assert!(rt; desk.written() == lines.as_slice(), "{output}");
+    Ok(())
+}
+
+/// The same of a row: a log and its output, parted by a bar, with slashes for line ends. A piece of no
+/// bytes stands for reads of any length.
+fn row_ends_so(
+    rt: &impl Abort,
+    alloc: Global,
+    words: &str,
+    models: &str,
+    piece: usize,
+    status: Status,
+    row: &str,
+) -> Result<(), Fail> {
+    let (log, output) = row.split_once('|').ok_or("row")?;
+    let log = lines_of(alloc, log)?;
+    let mut desk = desk_of(alloc, models, &log)?;
+    if 0 < piece {
+        desk.set_piece(piece);
+    }
+    ends_so(rt, alloc, words, STANDARD, &mut desk, status, output)
+}
+
+fn rows_end_so(
+    rt: &impl Abort,
+    alloc: Global,
+    words: &str,
+    models: &str,
+    piece: usize,
+    status: Status,
+    rows: &str,
+) -> Result<(), Fail> {
+    for row in rows.lines() {
+        row_ends_so(rt, alloc, words, models, piece, status, row)?;
+    }
+    Ok(())
 }
 
 #[test]
 fn worked_logs(rt: HostRuntime) -> Result<(), Fail> {
     let alloc = rt.alloc();
-    let words = words_of(alloc)?;
-    for (models, log, status, output) in [
-        (MODELS, "", Status::Done, ""),
-        (
+    let done = "|
+10 a/12 b/clock 13/|c at 13 t1=10 t2=12/
+10 a/12 b/clock 13|c at 13 t1=10 t2=12/
+delay 2/12 b/10 a/clock 14/clock 15/|c at 15 t1=10 t2=12/
+1 a/3 b/end/|c at end t1=1 t2=3/
+1 a/2 a/4 b/clock 5/6 b/clock 7/|c at 5 t1=1 t2=4/c at 5 t1=2 t2=4/c at 7 t1=1 t2=6/c at 7 t1=2 t2=6/
+";
+    let refusals =
+        "delay 2/10 a/12 b/clock 14/clock 15/12 b/13 b/clock 16/|c at 15 t1=10 t2=12/line 6 late 12 13/c at 16 t1=10 t2=13/
+clock 20/clock 19/clock 20/|line 2 back 19 20/
+1 a/delay 2/end/2 a/|line 2 order/line 4 order/
+delay 1/10 a/11 b[x]/11 b/clock 13/|line 3 arity/c at 13 t1=10 t2=11/
+";
+    for piece in [1, 4096] {
+        rows_end_so(&rt, alloc, "run m l", MODELS, piece, Status::Done, done)?;
+        rows_end_so(
+            &rt,
+            alloc,
+            "run m l",
             MODELS,
-            "10 a\n12 b\nclock 13\n",
-            Status::Done,
-            "c at 13 t1=10 t2=12\n",
-        ),
-        (
-            MODELS,
-            "10 a\n12 b\nclock 13",
-            Status::Done,
-            "c at 13 t1=10 t2=12\n",
-        ),
-        (
-            MODELS,
-            "delay 2\n12 b\n10 a\nclock 14\nclock 15\n",
-            Status::Done,
-            "c at 15 t1=10 t2=12\n",
-        ),
-        (
-            MODELS,
-            "delay 2\n10 a\n12 b\nclock 14\nclock 15\n12 b\n13 b\nclock 16\n",
+            piece,
             Status::Refusals,
-            "c at 15 t1=10 t2=12\nline 6 late 12 13\nc at 16 t1=10 t2=13\n",
+            refusals,
+        )?;
+    }
+    Ok(())
+}
+
+/// Two events of one name.
+const TWIN: &str =
+    "message a 0\nchronicle twin {\n  event(a, t1)\n  event(a, t2)\n  t2 - t1 in [0, 5]\n}\n";
+
+/// An event that no other follows within ten ticks.
+const QUIET: &str =
+    "message a 0\nmessage b 0\nchronicle q {\nevent(a, t1)\nnoevent(b, (t1 + 1, t1 + 10))\n}\n";
+
+/// Two events near a free point.
+const FREE: &str =
+    "message a 0\nmessage b 0\nchronicle f {\nevent(a, t1)\nevent(b, t2)\npoint z\nt1 - z in [0, 3]\nt2 - z in [0, 3]\n}\n";
+
+#[test]
+fn worked_logs_of_other_models(rt: HostRuntime) -> Result<(), Fail> {
+    let alloc = rt.alloc();
+    let rows = [
+        (
+            TWIN,
+            "5 a/5 a/clock 6/|twin at 6 t1=5 t2=5/twin at 6 t1=5 t2=5/",
         ),
         (
-            MODELS,
-            "clock 20\nclock 19\nclock 20\n",
-            Status::Refusals,
-            "line 2 back 19 20\n",
+            QUIET,
+            "1 a/clock 10/clock 11/20 a/29 b/40 a/50 b/clock 60/|q at 11 t1=1/q at 60 t1=40/",
         ),
-        (
-            MODELS,
-            "1 a\ndelay 2\nend\n2 a\n",
-            Status::Refusals,
-            "line 2 order\nline 4 order\n",
-        ),
-        (
-            MODELS,
-            "1 a\n3 b\nend\n",
-            Status::Done,
-            "c at end t1=1 t2=3\n",
-        ),
-        (
-            "message a 0\nchronicle twin {\n  event(a, t1)\n  event(a, t2)\n  t2 - t1 in [0, 5]\n}\n",
-            "5 a\n5 a\nclock 6\n",
-            Status::Done,
-            "twin at 6 t1=5 t2=5\ntwin at 6 t1=5 t2=5\n",
-        ),
+        (FREE, "0 a/3 b/4 b/clock 5/|f at 5 t1=0 t2=3/"),
+    ];
+    for (models, row) in rows {
+        row_ends_so(&rt, alloc, "run m l", models, 1, Status::Done, row)?;
+        row_ends_so(&rt, alloc, "run m l", models, 4096, Status::Done, row)?;
+    }
+    Ok(())
+}
+
+#[test]
+fn worked_logs_of_refused_models(rt: HostRuntime) -> Result<(), Fail> {
+    let alloc = rt.alloc();
+    let rows = [
         (
             "message a 0\nchronicle c {\nevent(a, t1)\nevent(a, t2)\nevent(a, t3)\nt2 - t1 in [5, 10]\nt3 - t2 in [5, 10]\nt3 - t1 in [0, 8]\n}\n",
-            "1 a\n",
-            Status::Rejected,
-            "model line 9 inconsistent\n",
+            "1 a/|model line 9 inconsistent/",
         ),
-        (
-            "message a 0\nmessage b 0\nchronicle q {\nevent(a, t1)\nnoevent(b, (t1 + 1, t1 + 10))\n}\n",
-            "1 a\nclock 10\nclock 11\n20 a\n29 b\n40 a\n50 b\nclock 60\n",
-            Status::Done,
-            "q at 11 t1=1\nq at 60 t1=40\n",
-        ),
-        (
-            "message a 0\nmessage a 1\n",
-            "",
-            Status::Rejected,
-            "model line 2 twice\n",
-        ),
-        (
-            MODELS,
-            "1 a\n2 a\n4 b\nclock 5\n6 b\nclock 7\n",
-            Status::Done,
-            "c at 5 t1=1 t2=4\nc at 5 t1=2 t2=4\nc at 7 t1=1 t2=6\nc at 7 t1=2 t2=6\n",
-        ),
-        (
-            MODELS,
-            "delay 1\n10 a\n11 b[x]\n11 b\nclock 13\n",
-            Status::Refusals,
-            "line 3 arity\nc at 13 t1=10 t2=11\n",
-        ),
-        (
-            "message a 0\nmessage b 0\nchronicle f {\nevent(a, t1)\nevent(b, t2)\npoint z\nt1 - z in [0, 3]\nt2 - z in [0, 3]\n}\n",
-            "0 a\n3 b\n4 b\nclock 5\n",
-            Status::Done,
-            "f at 5 t1=0 t2=3\n",
-        ),
-    ] {
-        for piece in [1, 4096] {
-            let mut desk = desk_of(alloc, models, log)?;
-            desk.set_piece(piece);
-            assert_eq!(rt;
-                run_with(
-                    alloc,
-                    words.as_slice(),
-                    STANDARD,
-                    &mut desk,
-                    Vec::new(alloc)
-                ),
-                status
-            );
-            assert!(rt; desk.written() == output.as_bytes(), "in pieces of {piece}");
-        }
+        ("message a 0\nmessage a 1\n", "|model line 2 twice/"),
+    ];
+    for (models, row) in rows {
+        row_ends_so(&rt, alloc, "run m l", models, 1, Status::Rejected, row)?;
+        row_ends_so(&rt, alloc, "run m l", models, 4096, Status::Rejected, row)?;
     }
     Ok(())
 }
@@ -147,100 +198,75 @@ fn worked_logs(rt: HostRuntime) -> Result<(), Fail> {
 #[test]
 fn long_line(rt: HostRuntime) -> Result<(), Fail> {
     let alloc = rt.alloc();
-    let words = words_of(alloc)?;
     let mut log = vec![in alloc; b'x'; 4097]?;
     log.extend_from_slice(b"\n3 unknown\n4 a[x]\n5 a\n6 b\nclock 7\n")?;
-    let mut desk = MemoryDesk::new(alloc);
-    desk.add_file("m", MODELS.as_bytes())?;
-    desk.add_file("l", &log)?;
-    assert_eq!(rt;
-        run_with(
-            alloc,
-            words.as_slice(),
-            STANDARD,
-            &mut desk,
-            Vec::new(alloc)
-        ),
-        Status::Refusals
-    );
-    assert!(rt; desk.written() == "line 1 long\nline 3 arity\nc at 7 t1=5 t2=6\n".as_bytes());
-    Ok(())
+    ends_so(
+        &rt,
+        alloc,
+        "run m l",
+        STANDARD,
+        &mut desk_of(alloc, MODELS, &log)?,
+        Status::Refusals,
+        "line 1 long/line 3 arity/c at 7 t1=5 t2=6/",
+    )
+}
+
+/// Runs a row at small limits: of symbols, of entries and of bytes.
+fn ends_at(
+    rt: &impl Abort,
+    alloc: Global,
+    models: &str,
+    limits: (u32, u32, u64),
+    status: Status,
+    row: &str,
+) -> Result<(), Fail> {
+    let (symbols, entries, bytes) = limits;
+    let limits = Limits {
+        symbols,
+        entries,
+        bytes,
+    };
+    let (log, output) = row.split_once('|').ok_or("row")?;
+    let log = lines_of(alloc, log)?;
+    let mut desk = desk_of(alloc, models, &log)?;
+    ends_so(rt, alloc, "run m l", limits, &mut desk, status, output)
 }
 
 #[test]
 fn small_limits(rt: HostRuntime) -> Result<(), Fail> {
     let alloc = rt.alloc();
-    let words = words_of(alloc)?;
     let lone = "message a 1\nchronicle c {\nevent(a[?x], t1)\n}\n";
-    for (models, log, symbols, entries, bytes, status, output) in [
-        (
-            MODELS,
-            "1 a\n3 b\nclock 4\n",
-            9,
-            1,
-            99,
-            Status::Refusals,
-            "line 2 full 1\n",
-        ),
-        (
-            lone,
-            "1 a[p]\n1 a[c]\nclock 2\n",
-            4,
-            9,
-            99,
-            Status::Refusals,
-            "line 1 values 4\nc at 2 t1=1 ?x=c\n",
-        ),
-        (
-            MODELS,
-            "1 a\n3 b\nclock 4\n",
-            9,
-            9,
-            17,
-            Status::Done,
-            "c at 4 t1=1 t2=3\n",
-        ),
-        (
-            MODELS,
-            "1 a\n3 b\nclock 4\n",
-            9,
-            9,
-            16,
-            Status::TooLong,
-            "c at 4 t1=1 t2=3\n",
-        ),
-        (MODELS, "1 a\n3 b\nclock 4\n", 9, 9, 12, Status::TooLong, ""),
-        (
-            MODELS,
-            "1 a\n",
-            4,
-            9,
-            99,
-            Status::Rejected,
-            "model line 5 limit\n",
-        ),
-    ] {
-        let limits = Limits {
-            symbols,
-            entries,
-            bytes,
-        };
-        let mut desk = desk_of(alloc, models, log)?;
-        assert_eq!(rt;
-            run_with(alloc, words.as_slice(), limits, &mut desk, Vec::new(alloc)),
-            status
-        );
-        assert!(rt; desk.written() == output.as_bytes());
-    }
+    let full = "1 a/3 b/clock 4/|line 2 full 1/";
+    ends_at(&rt, alloc, MODELS, (9, 1, 99), Status::Refusals, full)?;
+    let values = "1 a[p]/1 a[c]/clock 2/|line 1 values 4/c at 2 t1=1 ?x=c/";
+    ends_at(&rt, alloc, lone, (4, 9, 99), Status::Refusals, values)?;
+    let whole = "1 a/3 b/clock 4/|c at 4 t1=1 t2=3/";
+    ends_at(&rt, alloc, MODELS, (9, 9, 17), Status::Done, whole)?;
+    ends_at(&rt, alloc, MODELS, (9, 9, 16), Status::TooLong, whole)?;
+    let none = "1 a/3 b/clock 4/|";
+    ends_at(&rt, alloc, MODELS, (9, 9, 12), Status::TooLong, none)?;
+    let limit = "1 a/|model line 5 limit/";
+    ends_at(&rt, alloc, MODELS, (4, 9, 99), Status::Rejected, limit)?;
     Ok(())
+}
+
+/// A desk of a log at which the open, the read of the log and the write of these numbers fail.
+fn failing_desk(alloc: Global, open: u64, read: u64, write: u64) -> Result<MemoryDesk, AllocError>
+    ensures { IfOk result (λ d. memory_inputs d ≡ 0) }
+{
+    let log = b"1 a\n3 b\nclock 4\n5 a\n6 b\nclock 7\n8 a\n";
+    let mut desk = desk_of(alloc, MODELS, log)?;
+    desk.set_piece(16);
+    desk.fail_open(open)?;
+    desk.fail_read("l", read)?;
+    desk.fail_write(write)?;
+    Ok(desk)
 }
 
 #[test]
 fn failing_calls(rt: HostRuntime) -> Result<(), Fail> {
     let alloc = rt.alloc();
-    let words = words_of(alloc)?;
-    let log = "1 a\n3 b\nclock 4\n5 a\n6 b\nclock 7\n8 a\n";
-    let output = "c at 4 t1=1 t2=3\nc at 7 t1=1 t2=6\nc at 7 t1=5 t2=6\n";
+    let output = "c at 4 t1=1 t2=3/c at 7 t1=1 t2=6/c at 7 t1=5 t2=6/";
     for (open, read, write, status, lines) in [
         (1, 9, 9, Status::ReadFault, ""),
         (2, 9, 9, Status::ReadFault, ""),
@@ -248,118 +274,109 @@ fn failing_calls(rt: HostRuntime) -> Result<(), Fail> {
         (9, 9, 1, Status::WriteFault, ""),
         (9, 9, 9, Status::Done, output),
     ] {
-        let mut desk = desk_of(alloc, MODELS, log)?;
-        desk.set_piece(16);
-        desk.fail_open(open)?;
-        desk.fail_read("l", read)?;
-        desk.fail_write(write)?;
-        assert_eq!(rt;
-            run_with(
-                alloc,
-                words.as_slice(),
-                STANDARD,
-                &mut desk,
-                Vec::new(alloc)
-            ),
-            status
-        );
-        assert!(rt; desk.written() == lines.as_bytes());
+        let mut desk = failing_desk(alloc, open, read, write)?;
+        ends_so(&rt, alloc, "run m l", STANDARD, &mut desk, status, lines)?;
     }
-    let mut desk = MemoryDesk::new(alloc);
-    assert_eq!(rt;
-        run_with(
-            alloc,
-            words.as_slice(),
-            STANDARD,
-            &mut desk,
-            Vec::new(alloc)
-        ),
-        Status::ReadFault
-    );
-    assert_eq!(rt;
-        run_with(alloc, &words[..2], STANDARD, &mut desk, Vec::new(alloc)),
-        Status::Words
-    );
-    assert!(rt; desk.written() == USAGE.as_bytes());
     Ok(())
 }
 
 #[test]
-fn printed_models(rt: HostRuntime) -> Result<(), Fail> {
+fn missing_files(rt: HostRuntime) -> Result<(), Fail> {
     let alloc = rt.alloc();
-    let free =
-        "message a 0\nmessage b 0\nchronicle f {\nevent(a, t1)\nevent(b, t2)\npoint z\nt1 - z in [0, 3]\nt2 - z in [0, 3]\n}\n";
-    let round =
-        "message a 0\nmessage b 0\nchronicle c {\nevent(a, t1)\nevent(b, t2)\nt2 - t1 in [1, 5]\nt1 - t2 in [0, 9]\n}\n";
+    let mut desk = MemoryDesk::new(alloc);
+    ends_so(
+        &rt,
+        alloc,
+        "run m l",
+        STANDARD,
+        &mut desk,
+        Status::ReadFault,
+        "",
+    )?;
+    ends_so(
+        &rt,
+        alloc,
+        "run m",
+        STANDARD,
+        &mut desk,
+        Status::Words,
+        USAGE,
+    )
+}
+
+/// Runs the words over models alone.
+fn prints(
+    rt: &impl Abort,
+    alloc: Global,
+    words: &str,
+    models: &str,
+    status: Status,
+    output: &str,
+) -> Result<(), Fail> {
+    let mut desk = models_alone(alloc, models)?;
+    ends_so(rt, alloc, words, STANDARD, &mut desk, status, output)
+}
+
+#[test]
+fn printed_models(rt: HostRuntime) -> Result<(), Fail> {
     let quiet =
         "message a 0\n# quiet\nchronicle q {\nevent(a , t1) level 0\nnoevent( a,(t1 + 1,t1+ 010))\n}";
-    for (words, models, status, output) in [
-        ("model m", MODELS, Status::Done, MODELS),
+    for (words, models, output) in [
+        ("model m", MODELS, MODELS),
         (
             "model --minimal m",
             MODELS,
-            Status::Done,
-            "chronicle c reach 5\n  t2 - t1 in [1, 5]\n  earliest t1=0 t2=1\n",
+            "chronicle c reach 5/  t2 - t1 in [1, 5]/  earliest t1=0 t2=1/",
         ),
         (
             "model --minimal m",
-            free,
-            Status::Done,
-            "chronicle f reach 3\n  t2 - t1 in [-3, 3]\n  z - t1 in [-3, 0]\n  z - t2 in [-3, 0]\n  earliest t1=0 t2=0 z=0\n",
+            FREE,
+            "chronicle f reach 3/  t2 - t1 in [-3, 3]/  z - t1 in [-3, 0]/  z - t2 in [-3, 0]/  earliest t1=0 t2=0 z=0/",
         ),
         (
             "model m",
             quiet,
-            Status::Done,
-            "message a 0\nchronicle q {\n  event(a, t1)\n  noevent(a, (t1 + 1, t1 + 10))\n}\n",
+            "message a 0/chronicle q {/  event(a, t1)/  noevent(a, (t1 + 1, t1 + 10))/}/",
         ),
-        (
-            "model m",
-            round,
-            Status::Rejected,
-            "model line 8 inconsistent\n",
-        ),
-        (
-            "model --minimal m",
-            round,
-            Status::Rejected,
-            "model line 8 inconsistent\n",
-        ),
-        (
-            "run m l",
-            round,
-            Status::Rejected,
-            "model line 8 inconsistent\n",
-        ),
-        (
-            "model m",
-            "message a 9\n",
-            Status::Rejected,
-            "model line 1 limit\n",
-        ),
-        ("model m", "", Status::Done, ""),
-        ("model l", MODELS, Status::ReadFault, ""),
-        ("model m m", MODELS, Status::Words, USAGE),
-        ("model --minimal", MODELS, Status::Words, USAGE),
-        ("model -x", MODELS, Status::Words, USAGE),
-        ("run m", MODELS, Status::Words, USAGE),
-        ("run --summaries m l", MODELS, Status::Words, USAGE),
-        ("models m", MODELS, Status::Words, USAGE),
+        ("model m", "", ""),
     ] {
-        let words = words_in(alloc, words)?;
-        let mut desk = MemoryDesk::new(alloc);
-        desk.add_file("m", models.as_bytes())?;
-        assert_eq!(rt;
-            run_with(
-                alloc,
-                words.as_slice(),
-                STANDARD,
-                &mut desk,
-                Vec::new(alloc)
-            ),
-            status
-        );
-        assert!(rt; desk.written() == output.as_bytes());
+        prints(&rt, rt.alloc(), words, models, Status::Done, output)?;
+    }
+    Ok(())
+}
+
+#[test]
+fn models_that_are_not_printed(rt: HostRuntime) -> Result<(), Fail> {
+    let alloc = rt.alloc();
+    let round =
+        "message a 0\nmessage b 0\nchronicle c {\nevent(a, t1)\nevent(b, t2)\nt2 - t1 in [1, 5]\nt1 - t2 in [0, 9]\n}\n";
+    let inconsistent = "model line 8 inconsistent/";
+    for words in ["model m", "model --minimal m", "run m l"] {
+        prints(&rt, alloc, words, round, Status::Rejected, inconsistent)?;
+    }
+    let limit = "model line 1 limit/";
+    prints(
+        &rt,
+        alloc,
+        "model m",
+        "message a 9\n",
+        Status::Rejected,
+        limit,
+    )?;
+    prints(&rt, alloc, "model l", MODELS, Status::ReadFault, "")
+}
+
+#[test]
+fn other_words(rt: HostRuntime) -> Result<(), Fail> {
+    for words in [
+        "model m m",
+        "model --minimal",
+        "model -x",
+        "run m",
+        "run --summaries m l",
+        "models m",
+    ] {
+        prints(&rt, rt.alloc(), words, MODELS, Status::Words, USAGE)?;
     }
     Ok(())
 }
@@ -367,113 +384,74 @@ fn printed_models(rt: HostRuntime) -> Result<(), Fail> {
 #[test]
 fn summaries(rt: HostRuntime) -> Result<(), Fail> {
     let alloc = rt.alloc();
-    let words = words_in(alloc, "run --summary m l")?;
-    for (log, status, output) in [
+    let words = "run --summary m l";
+    let done = "|summary entries 0 refused 0 recognitions 0 kept 1 peak 1/
+delay 2/10 a/12 b/clock 14/clock 15/|c at 15 t1=10 t2=12/summary entries 2 refused 0 recognitions 1 kept 2 peak 2/
+";
+    rows_end_so(&rt, alloc, words, MODELS, 0, Status::Done, done)?;
+    let refusals =
+        "1 a[x]/1 a/clock 2/clock 1/clock 7/end|line 1 arity/line 4 back 1 2/summary entries 1 refused 2 recognitions 0 kept 1 peak 2/";
+    row_ends_so(&rt, alloc, words, MODELS, 0, Status::Refusals, refusals)
+}
+
+/// Events of three levels.
+const LEVELS: &str =
+    "message often 0\nmessage mid 0\nmessage rare 0\nchronicle lv {\nevent(often, t1) level 2\nevent(mid, t2) level 1\nevent(rare, t3)\nt3 - t1 in [0, 10]\nt2 - t3 in [0, 90]\n}\n";
+
+#[test]
+fn levels(rt: HostRuntime) -> Result<(), Fail> {
+    for (words, status, row) in [
         (
-            "",
+            "run --summary m l",
             Status::Done,
-            "summary entries 0 refused 0 recognitions 0 kept 1 peak 1\n",
+            "5 often/8 often/12 rare/clock 13/102 mid/clock 103/|lv at 103 t1=5 t2=102 t3=12/lv at 103 t1=8 t2=102 t3=12/summary entries 4 refused 0 recognitions 2 kept 1 peak 5/",
         ),
         (
-            "delay 2\n10 a\n12 b\nclock 14\nclock 15\n",
+            "run --focus --summary m l",
             Status::Done,
-            "c at 15 t1=10 t2=12\nsummary entries 2 refused 0 recognitions 1 kept 2 peak 2\n",
+            "5 often/8 often/12 rare/clock 13/102 mid/clock 103/|lv at 103 t1=5 t2=102 t3=12/lv at 103 t1=8 t2=102 t3=12/summary entries 4 refused 0 recognitions 2 kept 1 peak 2/",
         ),
         (
-            "1 a[x]\n1 a\nclock 2\nclock 1\nclock 7\nend",
+            "run --focus m l",
             Status::Refusals,
-            "line 1 arity\nline 4 back 1 2\nsummary entries 1 refused 2 recognitions 0 kept 1 peak 2\n",
+            "12 rare/12 often/clock 13/12 mid/|line 4 late 12 13/",
+        ),
+        (
+            "run --focus --summary m l",
+            Status::Refusals,
+            "12 rare/12 often/clock 13/12 mid/|line 4 late 12 13/summary entries 2 refused 1 recognitions 0 kept 2 peak 2/",
+        ),
+        (
+            "run --focus m l",
+            Status::Done,
+            "12 mid/12 often/12 rare/clock 13/|lv at 13 t1=12 t2=12 t3=12/",
         ),
     ] {
-        let mut desk = desk_of(alloc, MODELS, log)?;
-        assert_eq!(rt;
-            run_with(
-                alloc,
-                words.as_slice(),
-                STANDARD,
-                &mut desk,
-                Vec::new(alloc)
-            ),
-            status
-        );
-        assert!(rt; desk.written() == output.as_bytes());
+        row_ends_so(&rt, rt.alloc(), words, LEVELS, 0, status, row)?;
     }
     Ok(())
 }
 
 #[test]
-fn levels(rt: HostRuntime) -> Result<(), Fail> {
+fn models_without_levels(rt: HostRuntime) -> Result<(), Fail> {
     let alloc = rt.alloc();
-    let models =
-        "message often 0\nmessage mid 0\nmessage rare 0\nchronicle lv {\nevent(often, t1) level 2\nevent(mid, t2) level 1\nevent(rare, t3)\nt3 - t1 in [0, 10]\nt2 - t3 in [0, 90]\n}\n";
-    let apart = "5 often\n8 often\n12 rare\nclock 13\n102 mid\nclock 103\n";
-    let late = "12 rare\n12 often\nclock 13\n12 mid\n";
-    let one_date = "12 mid\n12 often\n12 rare\nclock 13\n";
-    // no levels stand in these models
     let battery =
         "message heater_on 1\nmessage heater_off 1\nmessage low_volt 2\nattribute charge 1 in (full, part, low)\nchronicle drain {\n  event(heater_on[?b], t1)\n  event(charge[?b]: (part, low), t2)\n  t2 - t1 in [1, 60]\n  noevent(heater_off[?b], (t1, t2))\n}\nchronicle undervolt {\n  event(low_volt[?b, ?p], t1)\n  event(low_volt[?b, ?p], t2)\n  t2 - t1 in [10, 30]\n  hold(charge[?b]: low, (t1, t2 + 5))\n}\n";
     let day =
-        "# battery unit, day 112\ndelay 5\n100 charge[b1]: (full, part)\n100 charge[b2]: (full, part)\n110 heater_on[b1]\n112 heater_on[b2]\nclock 115\n120 heater_off[b2]\n131 charge[b1]: (part, low)\n129 telemetry[frame7]\nclock 135\n140 charge[b2]: (part, low)\n142 low_volt[b1,p1]\n138 low_volt[b1,p2]\nclock 145\n139 low_volt[b1,p1]\n\n150 heater_on[b1]\n152 low_volt[b1,p1]\n155 low_volt[b1,p2]\nclock 160\n160 charge[b1]: (low, part)\n161 low_volt[b1,p1]\nclock 166\n170 charge[b1]: (part, low)\n171 charge[b1]: (broken)\n172 charge[b1]: (low, empty)\nclock 180\n200 heater_off[b1]\nend\n";
+        b"# battery unit, day 112\ndelay 5\n100 charge[b1]: (full, part)\n100 charge[b2]: (full, part)\n110 heater_on[b1]\n112 heater_on[b2]\nclock 115\n120 heater_off[b2]\n131 charge[b1]: (part, low)\n129 telemetry[frame7]\nclock 135\n140 charge[b2]: (part, low)\n142 low_volt[b1,p1]\n138 low_volt[b1,p2]\nclock 145\n139 low_volt[b1,p1]\n\n150 heater_on[b1]\n152 low_volt[b1,p1]\n155 low_volt[b1,p2]\nclock 160\n160 charge[b1]: (low, part)\n161 low_volt[b1,p1]\nclock 166\n170 charge[b1]: (part, low)\n171 charge[b1]: (broken)\n172 charge[b1]: (low, empty)\nclock 180\n200 heater_off[b1]\nend\n";
     let told =
         "drain at 145 t1=110 t2=131 ?b=b1\nline 16 late 139 140\nundervolt at 166 t1=138 t2=155 ?b=b1 ?p=p2\nundervolt at 166 t1=142 t2=152 ?b=b1 ?p=p1\nline 26 form\nline 27 value\ndrain at 180 t1=110 t2=170 ?b=b1\ndrain at 180 t1=150 t2=170 ?b=b1\nsummary entries 16 refused 3 recognitions 5 kept 2 peak 9\n";
-    for (words, models, log, status, output) in [
-        (
-            "run --summary m l",
-            models,
-            apart,
-            Status::Done,
-            "lv at 103 t1=5 t2=102 t3=12\nlv at 103 t1=8 t2=102 t3=12\nsummary entries 4 refused 0 recognitions 2 kept 1 peak 5\n",
-        ),
-        (
-            "run --focus --summary m l",
-            models,
-            apart,
-            Status::Done,
-            "lv at 103 t1=5 t2=102 t3=12\nlv at 103 t1=8 t2=102 t3=12\nsummary entries 4 refused 0 recognitions 2 kept 1 peak 2\n",
-        ),
-        (
-            "run --focus m l",
-            models,
-            late,
-            Status::Refusals,
-            "line 4 late 12 13\n",
-        ),
-        (
-            "run --focus --summary m l",
-            models,
-            late,
-            Status::Refusals,
-            "line 4 late 12 13\nsummary entries 2 refused 1 recognitions 0 kept 2 peak 2\n",
-        ),
-        (
-            "run --focus m l",
-            models,
-            one_date,
-            Status::Done,
-            "lv at 13 t1=12 t2=12 t3=12\n",
-        ),
-        ("run --summary m l", battery, day, Status::Refusals, told),
-        (
-            "run m l --summary --focus",
-            battery,
-            day,
+    for words in ["run --summary m l", "run m l --summary --focus"] {
+        let mut desk = desk_of(alloc, battery, day)?;
+        ends_so(
+            &rt,
+            alloc,
+            words,
+            STANDARD,
+            &mut desk,
             Status::Refusals,
             told,
-        ),
-    ] {
-        let words = words_in(alloc, words)?;
-        let mut desk = desk_of(alloc, models, log)?;
-        assert_eq!(rt;
-            run_with(
-                alloc,
-                words.as_slice(),
-                STANDARD,
-                &mut desk,
-                Vec::new(alloc)
-            ),
-            status
-        );
-        assert!(rt; desk.written() == output.as_bytes(), "{output}");
+        )?;
     }
     Ok(())
 }
@@ -486,20 +464,41 @@ fn boxed<L: Listener>(
     Ok(Box::new(alloc, listener?)?)
 }
 
+/// Runs the words over a log, and compares the output with what listeners of all kinds write behind it.
+fn has_pages(
+    rt: &impl Abort,
+    alloc: Global,
+    words: &str,
+    log: &[u8],
+    pages: &str,
+) -> Result<(), Fail> {
+    let words = words_in(alloc, words)?;
+    let mut listeners: Vec<Box<dyn Listener>> = Vec::new(alloc);
+    listeners.push(boxed(alloc, FirstN::new(alloc, 0))?)?;
+    listeners.push(boxed(alloc, CountByModel::new(alloc))?)?;
+    listeners.push(boxed(alloc, FirstLast::new(alloc))?)?;
+    listeners.push(boxed(alloc, LongestSpan::new(alloc))?)?;
+    listeners.push(boxed(alloc, FirstN::new(alloc, 10))?)?;
+    let mut desk = desk_of(alloc, MODELS, log)?;
+    desk.set_piece(7);
+    let _ = run_with(alloc, words.as_slice(), STANDARD, &mut desk, listeners);
+    assert!(rt; desk.written() == pages.as_bytes(), "{pages}");
+    Ok(())
+}
+
 #[test]
 fn pages(rt: HostRuntime) -> Result<(), Fail> {
-    let alloc = rt.alloc();
-    let one = "delay 2\n10 a\n12 b\nclock 14\nclock 15\n";
-    let four = "1 a\n2 a\n4 b\nclock 5\n6 b\nclock 7\n";
+    let one = b"delay 2\n10 a\n12 b\nclock 14\nclock 15\n".as_slice();
+    let four = b"1 a\n2 a\n4 b\nclock 5\n6 b\nclock 7\n".as_slice();
     for (words, log, pages) in [
         (
             "run --tally fewer m l",
-            "",
+            b"".as_slice(),
             "tally fewer 0\ntally fewer 10\n",
         ),
         (
             "run --tally count,span,longest m l",
-            "",
+            b"".as_slice(),
             "tally count\ntally span\ntally longest\n",
         ),
         ("run m l", one, "c at 15 t1=10 t2=12\n"),
@@ -515,99 +514,79 @@ fn pages(rt: HostRuntime) -> Result<(), Fail> {
         ),
         ("run --tally odd m l", one, USAGE),
     ] {
-        let words = words_in(alloc, words)?;
-        let mut listeners: Vec<Box<dyn Listener>> = Vec::new(alloc);
-        listeners.push(boxed(alloc, FirstN::new(alloc, 0))?)?;
-        listeners.push(boxed(alloc, CountByModel::new(alloc))?)?;
-        listeners.push(boxed(alloc, FirstLast::new(alloc))?)?;
-        listeners.push(boxed(alloc, LongestSpan::new(alloc))?)?;
-        listeners.push(boxed(alloc, FirstN::new(alloc, 10))?)?;
-        let mut desk = desk_of(alloc, MODELS, log)?;
-        desk.set_piece(7);
-        let _ = run_with(alloc, words.as_slice(), STANDARD, &mut desk, listeners);
-        assert!(rt; desk.written() == pages.as_bytes(), "{pages}");
+        has_pages(&rt, rt.alloc(), words, log, pages)?;
+    }
+    Ok(())
+}
+
+/// Runs a drill whose write of this number fails.
+fn drills_so(
+    rt: &impl Abort,
+    alloc: Global,
+    words: &str,
+    limits: Limits,
+    write: u64,
+    status: Status,
+    output: &str,
+) -> Result<(), Fail> {
+    let mut desk = MemoryDesk::new(alloc);
+    desk.set_piece(10);
+    desk.fail_write(write)?;
+    ends_so(rt, alloc, words, limits, &mut desk, status, output)
+}
+
+#[test]
+fn drills(rt: HostRuntime) -> Result<(), Fail> {
+    let rows = "drill 7 2|summary entries 2 refused 0 recognitions 0 kept 2 peak 2/
+drill 7 0|summary entries 0 refused 0 recognitions 0 kept 2 peak 2/
+drill --focus 7 2|summary entries 2 refused 0 recognitions 0 kept 2 peak 2/
+drill 7 2000|summary entries 2000 refused 0 recognitions 168 kept 2 peak 94/
+drill --focus 7 2000|summary entries 2000 refused 0 recognitions 168 kept 2 peak 15/
+";
+    for row in rows.lines() {
+        let (words, output) = row.split_once('|').ok_or("row")?;
+        drills_so(&rt, rt.alloc(), words, STANDARD, 99, Status::Done, output)?;
     }
     Ok(())
 }
 
 #[test]
-fn drills(rt: HostRuntime) -> Result<(), Fail> {
+fn drills_that_end_early(rt: HostRuntime) -> Result<(), Fail> {
     let alloc = rt.alloc();
     let small = Limits {
         symbols: 99,
         entries: 9,
         bytes: 32,
     };
+    let one = Limits {
+        bytes: 33,
+        entries: 1,
+        ..small
+    };
+    let few = Limits {
+        symbols: 9,
+        ..small
+    };
     for (words, limits, write, status, output) in [
-        (
-            "drill 7 2",
-            STANDARD,
-            99,
-            Status::Done,
-            "summary entries 2 refused 0 recognitions 0 kept 2 peak 2\n",
-        ),
-        (
-            "drill 7 0",
-            STANDARD,
-            99,
-            Status::Done,
-            "summary entries 0 refused 0 recognitions 0 kept 2 peak 2\n",
-        ),
-        (
-            "drill --focus 7 2",
-            STANDARD,
-            99,
-            Status::Done,
-            "summary entries 2 refused 0 recognitions 0 kept 2 peak 2\n",
-        ),
-        (
-            "drill 7 2000",
-            STANDARD,
-            99,
-            Status::Done,
-            "summary entries 2000 refused 0 recognitions 168 kept 2 peak 94\n",
-        ),
-        (
-            "drill --focus 7 2000",
-            STANDARD,
-            99,
-            Status::Done,
-            "summary entries 2000 refused 0 recognitions 168 kept 2 peak 15\n",
-        ),
         ("drill 7 2", small, 99, Status::TooLong, ""),
         (
             "drill 7 2",
-            Limits {
-                bytes: 33,
-                entries: 1,
-                ..small
-            },
+            one,
             99,
             Status::Refusals,
-            "summary entries 1 refused 1 recognitions 0 kept 2 peak 2\n",
+            "summary entries 1 refused 1 recognitions 0 kept 2 peak 2/",
         ),
         (
             "drill 7 2",
-            Limits {
-                symbols: 9,
-                ..small
-            },
+            few,
             99,
             Status::Rejected,
-            "model line 10 limit\n",
+            "model line 10 limit/",
         ),
         ("drill 7 2", STANDARD, 2, Status::WriteFault, "summary en"),
         ("drill 0 5", STANDARD, 99, Status::Words, USAGE),
     ] {
-        let words = words_in(alloc, words)?;
-        let mut desk = MemoryDesk::new(alloc);
-        desk.set_piece(10);
-        desk.fail_write(write)?;
-        assert_eq!(rt;
-            run_with(alloc, words.as_slice(), limits, &mut desk, Vec::new(alloc)),
-            status
-        );
-        assert!(rt; desk.written() == output.as_bytes());
+        drills_so(&rt, alloc, words, limits, write, status, output)?;
     }
     Ok(())
 }

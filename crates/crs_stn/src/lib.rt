@@ -14,6 +14,3 @@ pub use bound::Bound;
 pub use dates::Dates;
 pub use network::{Network, StnRefused};
 pub use points::PointList;
-
-#[cfg(test)]
-mod tests;

@@ -9,7 +9,7 @@ use super::{Span, Spans};
 use crs_base::{Token, word_bytes};
 use std::alloc::AllocError;
 
-/// The bytes of a span.
+/// The bytes of a span of the line, as of the name of an event that was read from it.
 pub fn span_text<'a>(line: &'a [u8], span: Span) -> &'a [u8]
     ensures { result.now ≡ text_of line.now span }
 {

@@ -1,5 +1,0 @@
-use Rattle.crs_stn.specs.Bound.{IsWithin}
-use Rattle.crs_stn.proofs.tests.long_chain.Given as goal
-
-abbrev pub invariant-loop-point : goal.invariant-loop-point
-invariant-loop-point l = IsWithin 24 l.bounds.items
