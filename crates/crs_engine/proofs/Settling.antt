@@ -219,12 +219,6 @@ pub record AreTakenSoFar (h : ℕ) (taken : List (Entry Sym)) (x : Entry Sym) (h
   pub taken_out : AreTaken h taken (x ∷ held) rest
   pub rest_of : IsRestOf held rest
 
-pub taken_one : (h : ℕ) (taken : List (Entry Sym)) (x : Entry Sym) (held : List (Entry Sym)) → x.date < h → taken ≡ x ∷ [] → AreTakenSoFar h taken x held held
-taken_one h taken x held l t = record {
-  taken_out = record { parted = ap (λ (t : List (Entry Sym)). t ++ held) (sym t); before = subst (AllByRecursion (λ x. x.date < h)) (sym t) (l, tt) };
-  rest_of = ([], refl);
-}
-
 pub rest_on : (xs ys zs : List (Entry Sym)) → IsRestOf xs ys → IsRestOf ys zs → IsRestOf xs zs
 rest_on xs ys zs a b = (a.0 ++ b.0, a.1 ∙ ap (λ (t : List (Entry Sym)). a.0 ++ t) b.1 ∙ sym (append_assoc a.0 b.0 zs))
 
@@ -253,9 +247,6 @@ taken_more h taken x held rest after next y so e r n =
 left_none : (h : ℕ) (es : List (Entry Sym)) → AllByRecursion (λ x. h ≤ x.date) es → left es h ≡ es
 left_none h [] k = refl
 left_none h (e ∷ es) k = ap (λ (b : Bool). cond b es (e ∷ es)) (le-ltb e.date h k.0)
-
-pub taken_all : (h : ℕ) (taken : List (Entry Sym)) (x : Entry Sym) (held rest after : List (Entry Sym)) → AreTakenSoFar h taken x held rest → AllByRecursion (λ x. h ≤ x.date) rest → after ≡ left rest h → AreTakenSoFar h taken x held after
-taken_all h taken x held rest after so none r = subst (AreTakenSoFar h taken x held) (sym (r ∙ left_none h rest none)) so
 
 -- the history stays in order before what waits
 pub in_order_put : (past now : HistoryState) (done waiting : List (Entry Sym)) (put : ArePut past done now) → IsInKeyOrder (past.entries ++ (done ++ waiting)) → IsInKeyOrder (now.entries ++ waiting)
