@@ -15,7 +15,7 @@ use Rattle.crs_base.specs.Symbols.{is_symbol, is_symbol_byte}
 use Rattle.crs_base.specs.Tokens.{Token, Word, Mark, tokens_behind, begins_word, lengthened, is_model_mark}
 use Rattle.crs_base.proofs.TokenSteps.{word_front}
 use Rattle.crs_grammar.specs.Canon.{part_text}
-use Rattle.crs_grammar.specs.Forms.{Part, Keyword, Sign, Symbol, Number, Integer, Gap, Missing, AreWritten, term_form, terms_form, change_form, pattern_form, shift_form, anchor_form, listed, symbol_form, values_form, level_form, values_in_form, low_part, high_part, most_part, body_form, span_form, form_of}
+use Rattle.crs_grammar.specs.Forms.{Part, Keyword, Sign, Symbol, Number, Integer, Gap, Missing, AreWritten, term_form, terms_form, change_form, pattern_form, shift_form, anchor_form, listed, symbol_form, values_form, level_form, values_in_form, low_part, high_part, most_part, body_form, span_form, begin_form, form_of}
 use Rattle.crs_grammar.specs.Laws.{IsWritable, CanonicalIsRead}
 use Rattle.crs_grammar.specs.Statements.{Term, Value, Variable, Any, Pattern, Shift, Here, Later, Earlier, Anchor, Body, NoEvent, Occurs, Hold, Statement, Message, Attribute, Begin, Happens, Point, Between, Among, Differ, Over, Close, is_inside}
 use Rattle.crs_grammar.proofs.TakesStatements.{meant_is_read}
@@ -372,10 +372,18 @@ values_in_any (Some vs) b = in_values vs b
 word : (k : List ℕ) → 0 < length k → list_all is_symbol_byte k ≡ true → IsWordText k
 word k a b = record { some = a; bytes = b }
 
+begin_parted : (prompt : Bool) (name : List ℕ) → Parted false (begin_form prompt name)
+begin_parted false name = (refl, word (codes "chronicle") (omega arith) refl, (tt, tt, (refl, tt, (tt, tt, (tt, (refl, refl, refl), tt)))))
+begin_parted true name = (
+  refl,
+  word (codes "prompt") (omega arith) refl,
+  (tt, tt, (refl, word (codes "chronicle") (omega arith) refl, (tt, tt, (refl, tt, (tt, tt, (tt, (refl, refl, refl), tt)))))),
+)
+
 form_parted : (s : Statement) → Parted false (form_of s)
 form_parted (Message name arity) = (refl, word (codes "message") (omega arith) refl, (tt, tt, (refl, tt, (tt, tt, (refl, tt, tt)))))
 form_parted (Attribute name arity values) = (refl, word (codes "attribute") (omega arith) refl, (tt, tt, (refl, tt, (tt, tt, (refl, tt, values_in_any values true)))))
-form_parted (Begin name) = (refl, word (codes "chronicle") (omega arith) refl, (tt, tt, (refl, tt, (tt, tt, (tt, (refl, refl, refl), tt)))))
+form_parted (Begin heading) = begin_parted heading.prompt heading.name
 form_parted (Happens e) = (
   refl,
   word (codes "event") (omega arith) refl,

@@ -7,7 +7,7 @@ use Rattle.crs_base.specs.Numbers.{number_of, integer_of}
 use Rattle.crs_base.proofs.Texts.{bytes_same}
 use Rattle.crs_grammar.specs.Forms.{Part, Keyword, Sign, Symbol, Number, Integer, Gap, AreWritten, term_form, terms_form, pattern_form, anchor_form, listed, symbol_form, values_form, level_form, values_in_form, low_part, high_part, most_part, span_form, form_of}
 use Rattle.crs_grammar.specs.Statements.{Event, Anchor, Body, NoEvent, Occurs, Hold, Statement, Message, Attribute, Begin, Happens, Point, Between, Among, Differ, Over, Close, is_inside}
-use Rattle.crs_grammar.specs.Reading.{◌>>=◌, whole, symbol_at, number_at, keyword_at, closed_at, values_on, span_of, level_of, event_of, noevent_of, most_at, occurs_of, hold_of, end_at, distance_of, values_of, differ_of, of_variable, variable_of, called_of, point_of, worded_of, inside_of, attribute_of, named_of, outside_of}
+use Rattle.crs_grammar.specs.Reading.{◌>>=◌, whole, symbol_at, number_at, keyword_at, closed_at, values_on, span_of, level_of, event_of, noevent_of, most_at, occurs_of, hold_of, end_at, distance_of, values_of, differ_of, of_variable, variable_of, called_of, point_of, worded_of, inside_of, attribute_of, prompt_of, named_of, outside_of}
 use Rattle.crs_grammar.specs.Laws.{ReadIsMeant}
 use Rattle.crs_grammar.proofs.Gives.{then, cond_passed, cond_either, some_inj, same_pair, option_map_some, symbol_gives, sign_gives, number_gives, term_gives, closed_gives, comma_gives, arguments_give, pattern_gives, range_shape, hold_shape}
 use Rattle.crs_grammar.proofs.GivesAnchors.{anchor_gives}
@@ -299,21 +299,41 @@ unfolding attribute_of
 attribute_gives name arity [] s e = (None, sym (some_inj (Attribute name arity None) s e), tt)
 attribute_gives name arity (t ∷ ts) s e = then _ _ _ e λ vs ev e1. (Some vs, sym (some_inj (Attribute name arity (Some vs)) s e1), values_of_gives (t ∷ ts) vs ev)
 
+prompt_gives : (k word : List ℕ) (back ts : List Token) (s : Statement) → k ≡ codes "prompt" → symbol_at ts ≡ Some (word, back) → prompt_of word back ≡ Some s → IsOut s (Word k ∷ ts)
+unfolding prompt_of
+prompt_gives k word back ts s is h e =
+    let p = cond_passed (bytes_eq word (codes "chronicle")) _ s e in
+    then _ _ _ p.1 λ a ea e1. then _ _ _ e1 λ r er e2.
+    let w = whole_is (Begin (record { prompt = true; name = a.0 })) s r e2 in
+    let rest : List Part = Gap ∷ Symbol a.0 ∷ Gap ∷ Sign 123 ∷ [] in
+    subst (λ x. IsOut x (Word k ∷ ts)) w.0 (refl, (is, named ts word back rest h (bytes_same word (codes "chronicle") p.0) (symbol_gives back a.0 a.1 (Gap ∷ Sign 123 ∷ []) ea (sign_gives 123 a.1 r [] er w.1))))
+  where
+    named : (ts : List Token) (word : List ℕ) (back : List Token) (rest : List Part) → symbol_at ts ≡ Some (word, back) → word ≡ codes "chronicle" → AreWritten rest back → AreWritten (Keyword (codes "chronicle") ∷ rest) ts
+    named [] word back rest h e k = cc
+    named (Mark m ∷ ts) word back rest h e k = cc
+    named (Word w ∷ ts) word back rest h e k =
+        let c = cond_passed (is_symbol w) (Some (w, ts)) (word, back) h in
+        let q = same_pair w word ts back c.1 in
+        (q.0 ∙ e, subst (AreWritten rest) (sym q.1) k)
+
 named_gives : (k name : List ℕ) (back ts : List Token) (s : Statement) → symbol_at ts ≡ Some (name, back) → named_of k name back ≡ Some s → IsOut s (Word k ∷ ts)
 unfolding named_of
 named_gives k name back ts s h e = elim (cond_either (bytes_eq k (codes "chronicle")) _ _ s e) [
   | inl p ↦ then _ _ _ p.1 λ r er e1.
-      let w = whole_is (Begin name) s r e1 in
+      let w = whole_is (Begin (record { prompt = false; name = name })) s r e1 in
       subst (λ x. IsOut x (Word k ∷ ts)) w.0 (refl, (bytes_same k (codes "chronicle") p.0, symbol_gives ts name back (Gap ∷ Sign 123 ∷ []) h (sign_gives 123 back r [] er w.1)))
   | inr p ↦ elim (cond_either (bytes_eq k (codes "message")) _ _ s p.1) [
     | inl q ↦ then _ _ _ q.1 λ n en e1.
         let w = whole_is (Message name n.0) s n.1 e1 in
         subst (λ x. IsOut x (Word k ∷ ts)) w.0 (refl, (bytes_same k (codes "message") q.0, symbol_gives ts name back (Gap ∷ Number n.0 ∷ []) h (number_gives back n.0 n.1 [] en w.1)))
-    | inr q ↦
-        let r = cond_passed (bytes_eq k (codes "attribute")) _ s q.1 in
-        then _ _ _ r.1 λ n en e1.
-        let g = attribute_gives name n.0 n.1 s e1 in
-        subst (λ x. IsOut x (Word k ∷ ts)) (sym g.1) (refl, (bytes_same k (codes "attribute") r.0, symbol_gives ts name back (Gap ∷ Number n.0 ∷ values_in_form g.0) h (number_gives back n.0 n.1 (values_in_form g.0) en g.2)))
+    | inr q ↦ elim (cond_either (bytes_eq k (codes "attribute")) _ _ s q.1) [
+      | inl r ↦ then _ _ _ r.1 λ n en e1.
+          let g = attribute_gives name n.0 n.1 s e1 in
+          subst (λ x. IsOut x (Word k ∷ ts)) (sym g.1) (refl, (bytes_same k (codes "attribute") r.0, symbol_gives ts name back (Gap ∷ Number n.0 ∷ values_in_form g.0) h (number_gives back n.0 n.1 (values_in_form g.0) en g.2)))
+      | inr r ↦
+          let t = cond_passed (bytes_eq k (codes "prompt")) (prompt_of name back) s r.1 in
+          prompt_gives k name back ts s (bytes_same k (codes "prompt") t.0) h t.1
+    ]
   ]
 ]
 

@@ -5,9 +5,9 @@ use Rattle.crs_base.specs.Symbols.{is_symbol}
 use Rattle.crs_base.specs.Tokens.{Token, Word, Mark}
 use Rattle.crs_base.specs.Numbers.{number_of, integer_of}
 use Rattle.crs_base.proofs.Texts.{bytes_same, same_bytes}
-use Rattle.crs_grammar.specs.Forms.{Part, Keyword, Sign, Symbol, Number, Integer, Gap, Missing, AreWritten, term_form, terms_form, change_form, pattern_form, shift_form, anchor_form, listed, symbol_form, values_form, level_form, values_in_form, low_part, high_part, most_part, body_form, span_form, form_of}
+use Rattle.crs_grammar.specs.Forms.{Part, Keyword, Sign, Symbol, Number, Integer, Gap, Missing, AreWritten, term_form, terms_form, change_form, pattern_form, shift_form, anchor_form, listed, symbol_form, values_form, level_form, values_in_form, low_part, high_part, most_part, body_form, span_form, begin_form, form_of}
 use Rattle.crs_grammar.specs.Statements.{Term, Pattern, Event, Shift, Here, Later, Earlier, Anchor, Body, NoEvent, Occurs, Hold, Distance, Statement, Message, Attribute, Begin, Happens, Point, Between, Among, Differ, Over, Close, is_inside}
-use Rattle.crs_grammar.specs.Reading.{◌>>=◌, whole, symbol_at, number_at, mark_at, keyword_at, terms_on, arguments_at, pair_at, change_at, pattern_at, shift_at, anchor_at, span_of, level_of, event_of, noevent_of, most_at, occurs_of, hold_of, end_at, distance_of, values_of, differ_of, of_variable, variable_of, called_of, point_of, worded_of, inside_of, attribute_of, named_of, outside_of}
+use Rattle.crs_grammar.specs.Reading.{◌>>=◌, whole, symbol_at, number_at, mark_at, keyword_at, terms_on, arguments_at, pair_at, change_at, pattern_at, shift_at, anchor_at, span_of, level_of, event_of, noevent_of, most_at, occurs_of, hold_of, end_at, distance_of, values_of, differ_of, of_variable, variable_of, called_of, point_of, worded_of, inside_of, attribute_of, prompt_of, named_of, outside_of}
 use Rattle.crs_grammar.specs.Laws.{MeantIsRead}
 use Rattle.crs_grammar.proofs.Takes.{on, Listed, symbol_takes, number_takes, sign_takes, keyword_takes, term_takes, terms_take, values_take}
 use Rattle.crs_grammar.proofs.Gives.{range_shape}
@@ -307,7 +307,7 @@ close_takes (Mark m ∷ []) h = ap (λ x. inside_of (Mark x ∷ [])) h.0
 inside_takes : (s : Statement) (ts : List Token) → is_inside s ≡ true → AreWritten (form_of s) ts → inside_of ts ≡ Some s
 inside_takes (Message name arity) ts e h = absurd (true≢false (sym e))
 inside_takes (Attribute name arity values) ts e h = absurd (true≢false (sym e))
-inside_takes (Begin name) ts e h = absurd (true≢false (sym e))
+inside_takes (Begin heading) ts e h = absurd (true≢false (sym e))
 inside_takes (Happens v) ts e h = called_takes (codes "event") (pattern_form v.pattern ++ Sign 44 ∷ Gap ∷ Symbol v.point ∷ Sign 41 ∷ level_form v.level) (Happens v) ts (event_called v) h
 inside_takes (Point name) ts e h = point_takes name ts h
 inside_takes (Between d) ts e h = between_takes d ts h
@@ -339,14 +339,29 @@ listed_takes : (name : List ℕ) (arity : ℕ) (values : Option (List (List ℕ)
 unfolding named_of
 listed_takes name arity values ts h = let n = number_takes arity ts (values_in_form values) h in on _ _ _ _ n.1.is (attribute_takes name arity values n.0 n.1.left)
 
-begin_takes : (name : List ℕ) (ts : List Token) → AreWritten (Sign 123 ∷ []) ts → named_of (codes "chronicle") name ts ≡ Some (Begin name)
+begin_takes : (name : List ℕ) (ts : List Token) → AreWritten (Sign 123 ∷ []) ts → named_of (codes "chronicle") name ts ≡ Some (Begin (record { prompt = false; name = name }))
 unfolding named_of
 begin_takes name ts h = let m = sign_takes 123 ts [] h in on _ _ _ _ m.1.is (nothing_left _ m.0 m.1.left)
+
+prompt_takes : (name : List ℕ) (ts : List Token) → AreWritten (Keyword (codes "chronicle") ∷ Gap ∷ Symbol name ∷ Gap ∷ Sign 123 ∷ []) ts → outside_of (Word (codes "prompt") ∷ ts) ≡ Some (Begin (record { prompt = true; name = name }))
+unfolding outside_of named_of prompt_of
+prompt_takes name [] h = absurd h
+prompt_takes name (Mark m ∷ ts) h = absurd h.0
+prompt_takes name (Word w ∷ ts) h =
+    let a = symbol_takes name ts (Gap ∷ Sign 123 ∷ []) h.1 in
+    let m = sign_takes 123 a.0 [] a.1.left in
+    ap (λ x. outside_of (Word (codes "prompt") ∷ Word x ∷ ts)) h.0 ∙ on _ _ _ _ a.1.is (on _ _ _ _ m.1.is (nothing_left _ m.0 m.1.left))
+
+heading_takes : (prompt : Bool) (name : List ℕ) (ts : List Token) → AreWritten (begin_form prompt name) ts → outside_of ts ≡ Some (Begin (record { prompt = prompt; name = name }))
+heading_takes false name ts h = named_takes (codes "chronicle") name (Sign 123 ∷ []) (Begin (record { prompt = false; name = name })) ts (begin_takes name) h
+heading_takes true name [] h = absurd h
+heading_takes true name (Mark m ∷ ts) h = absurd h.0
+heading_takes true name (Word w ∷ ts) h = ap (λ x. outside_of (Word x ∷ ts)) h.0 ∙ prompt_takes name ts h.1
 
 outside_takes : (s : Statement) (ts : List Token) → is_inside s ≡ false → AreWritten (form_of s) ts → outside_of ts ≡ Some s
 outside_takes (Message name arity) ts e h = named_takes (codes "message") name (Number arity ∷ []) (Message name arity) ts (message_takes name arity) h
 outside_takes (Attribute name arity values) ts e h = named_takes (codes "attribute") name (Number arity ∷ values_in_form values) (Attribute name arity values) ts (listed_takes name arity values) h
-outside_takes (Begin name) ts e h = named_takes (codes "chronicle") name (Sign 123 ∷ []) (Begin name) ts (begin_takes name) h
+outside_takes (Begin heading) ts e h = heading_takes heading.prompt heading.name ts h
 outside_takes (Happens v) ts e h = absurd (true≢false e)
 outside_takes (Point name) ts e h = absurd (true≢false e)
 outside_takes (Between d) ts e h = absurd (true≢false e)

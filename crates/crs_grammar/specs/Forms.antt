@@ -1,5 +1,5 @@
 -- How statements are written, and what a line means.
-use Rattle.std.specs.Prelude.{◌≡◌, ℕ, ℤ, Bool, true, List, [], ◌∷◌, ◌++◌, Option, Some, None, codes}
+use Rattle.std.specs.Prelude.{◌≡◌, ℕ, ℤ, Bool, true, false, List, [], ◌∷◌, ◌++◌, Option, Some, None, codes}
 use Rattle.crs_base.specs.Symbols.{is_symbol}
 use Rattle.crs_base.specs.Tokens.{Token, Word, Mark}
 use Rattle.crs_base.specs.Numbers.{number_of, integer_of}
@@ -99,11 +99,16 @@ body_form (Hold name terms value) = Keyword (codes "hold") ∷ Sign 40 ∷ Symbo
 abbrev pub span_form : Anchor → Anchor → List Part
 span_form from to = Sign 44 ∷ Gap ∷ Sign 40 ∷ anchor_form from ++ Sign 44 ∷ Gap ∷ anchor_form to ++ Sign 41 ∷ Sign 41 ∷ []
 
+-- chronicle SYMBOL {, and prompt in front of it where it is prompt
+abbrev pub begin_form : Bool → List ℕ → List Part
+begin_form false name = Keyword (codes "chronicle") ∷ Gap ∷ Symbol name ∷ Gap ∷ Sign 123 ∷ []
+begin_form true name = Keyword (codes "prompt") ∷ Gap ∷ Keyword (codes "chronicle") ∷ Gap ∷ Symbol name ∷ Gap ∷ Sign 123 ∷ []
+
 -- one case for each form of statement
 abbrev pub form_of : Statement → List Part
 form_of (Message name arity) = Keyword (codes "message") ∷ Gap ∷ Symbol name ∷ Gap ∷ Number arity ∷ []
 form_of (Attribute name arity values) = Keyword (codes "attribute") ∷ Gap ∷ Symbol name ∷ Gap ∷ Number arity ∷ values_in_form values
-form_of (Begin name) = Keyword (codes "chronicle") ∷ Gap ∷ Symbol name ∷ Gap ∷ Sign 123 ∷ []
+form_of (Begin heading) = begin_form heading.prompt heading.name
 form_of (Happens e) = Keyword (codes "event") ∷ Sign 40 ∷ pattern_form e.pattern ++ Sign 44 ∷ Gap ∷ Symbol e.point ∷ Sign 41 ∷ level_form e.level
 form_of (Point name) = Keyword (codes "point") ∷ Gap ∷ Symbol name ∷ []
 form_of (Between d) = Symbol d.to ∷ Gap ∷ Keyword (codes "-") ∷ Gap ∷ Symbol d.from ∷ Gap ∷ Keyword (codes "in") ∷ Gap ∷ Sign 91 ∷ low_part d.low ∷ Sign 44 ∷ Gap ∷ high_part d.high ∷ Sign 93 ∷ []

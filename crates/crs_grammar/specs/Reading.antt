@@ -226,17 +226,25 @@ unfoldable pub attribute_of : List ℕ → ℕ → List Token → Option Stateme
 attribute_of name arity [] = Some (Attribute name arity None)
 attribute_of name arity (t ∷ ts) = values_of (t ∷ ts) >>= λ vs. Some (Attribute name arity (Some vs))
 
+-- chronicle SYMBOL { and no more, behind the first word of a prompt chronicle
+unfoldable pub prompt_of : List ℕ → List Token → Option Statement
+prompt_of word ts = cond (bytes_eq word (codes "chronicle")) (do
+  name ← symbol_at ts
+  rest ← mark_at 123 name.1
+  whole (Begin (record { prompt = true; name = name.0 })) rest) None
+
 unfoldable pub named_of : List ℕ → List ℕ → List Token → Option Statement
 named_of k name ts =
     cond (bytes_eq k (codes "chronicle")) (do
       rest ← mark_at 123 ts
-      whole (Begin name) rest)
+      whole (Begin (record { prompt = false; name = name })) rest)
     (cond (bytes_eq k (codes "message")) (do
       arity ← number_at ts
       whole (Message name arity.0) arity.1)
     (cond (bytes_eq k (codes "attribute")) (do
       arity ← number_at ts
-      attribute_of name arity.0 arity.1) None))
+      attribute_of name arity.0 arity.1)
+    (cond (bytes_eq k (codes "prompt")) (prompt_of name ts) None)))
 
 unfoldable pub outside_of : List Token → Option Statement
 outside_of [] = None

@@ -13,9 +13,10 @@ use Rattle.crs_grammar.specs.declared.statements.Window.{Window as CodeWindow}
 use Rattle.crs_grammar.specs.declared.statements.Distance.{Distance as CodeDistance}
 use Rattle.crs_grammar.specs.declared.statements.Statement.{Statement as CodeStatement}
 use Rattle.crs_grammar.specs.declared.statements.Statement.TheVariants as statements
+use Rattle.crs_grammar.specs.declared.statements.Heading.{Heading as CodeHeading}
 use Rattle.crs_grammar.specs.declared.statements.Declaration.{Declaration as CodeDeclaration}
 use Rattle.crs_grammar.specs.declared.statements.Declaration.TheVariants as declarations
-use Rattle.crs_grammar.specs.Statements.{Term, Value, Variable, Any, Pattern, Event, Shift, Here, Later, Earlier, Anchor, Body, NoEvent, Occurs, Hold, Window, Distance, Statement, Message, Attribute, Begin, Happens, Point, Between, Among, Differ, Over, Close}
+use Rattle.crs_grammar.specs.Statements.{Term, Value, Variable, Any, Pattern, Event, Shift, Here, Later, Earlier, Anchor, Body, NoEvent, Occurs, Hold, Window, Distance, Heading, Statement, Message, Attribute, Begin, Happens, Point, Between, Among, Differ, Over, Close}
 
 abbrev pub term_of : CodeTerm → Term
 term_of (terms.Value s) = Value s.now
@@ -59,7 +60,10 @@ statement_of (statements.Differ x y) = Differ x.now y.now
 statement_of (statements.Over w) = Over (window_of w)
 statement_of statements.Close = Close
 
+abbrev pub heading_of : CodeHeading → Heading
+heading_of h = record { prompt = h.prompt; name = h.name.now }
+
 abbrev pub declaration_of : CodeDeclaration → Statement
 declaration_of (declarations.Message name arity) = Message name.now arity
 declaration_of (declarations.Attribute name arity values) = Attribute name.now arity (option_map (λ vs. map (λ v. v.now) vs.items) values)
-declaration_of (declarations.Begin name) = Begin name.now
+declaration_of (declarations.Begin heading) = Begin (heading_of heading)

@@ -1,12 +1,12 @@
 ghost use Rattle.std.specs.Prelude.{◌<◌, map};
 ghost use Rattle.crs_grammar.specs.Gives.{Gives};
-ghost use Rattle.crs_grammar.specs.Reading.{symbol_at, number_at, mark_at, whole, term_at, closed_at, terms_on, values_on, arguments_at, pair_at, change_at, pattern_at, shift_at, anchor_at, span_of, level_of, event_of, noevent_of, most_at, occurs_of, hold_of, keyword_at, end_at, distance_of, values_of, differ_of, of_variable, variable_of, called_of, point_of, worded_of, inside_of, attribute_of, named_of, outside_of, statement_of};
+ghost use Rattle.crs_grammar.specs.Reading.{symbol_at, number_at, mark_at, whole, term_at, closed_at, terms_on, values_on, arguments_at, pair_at, change_at, pattern_at, shift_at, anchor_at, span_of, level_of, event_of, noevent_of, most_at, occurs_of, hold_of, keyword_at, end_at, distance_of, values_of, differ_of, of_variable, variable_of, called_of, point_of, worded_of, inside_of, attribute_of, prompt_of, named_of, outside_of, statement_of};
 ghost use Rattle.crs_grammar.specs.SeenTokens.{seen};
 ghost use Rattle.crs_grammar.specs.SeenStatements as see;
 ghost use Rattle.crs_grammar.specs.Statements as said;
 
 use crate::statements::{
-    Anchor, Body, Declaration, Distance, Event, Pattern, Shift, Statement, Term, Unread, Window,
+    Anchor, Body, Declaration, Distance, Event, Heading, Pattern, Shift, Statement, Term, Unread, Window,
 };
 use crate::words::Token;
 use crs_base::{integer, is_symbol, number};
@@ -520,6 +520,32 @@ pub fn outside<'a>(alloc: Global, tokens: &[Token<'a>]) -> Result<Declaration<'a
     }
 }
 
+/// A chronicle of the name begins, and nothing stands behind.
+fn begun<'a>(is_prompt: bool, name: &'a [u8], rest: &[Token<'a>]) -> Result<Declaration<'a>, Unread>
+    ensures { Gives see.declaration_of result (whole (said.Begin (record { prompt = is_prompt; name = name.now })) (seen rest.now)) }
+{
+    declared(
+        Declaration::Begin(Heading {
+            prompt: is_prompt,
+            name,
+        }),
+        rest,
+    )
+}
+
+/// The rest of the first line of a prompt chronicle, behind its first word.
+#[tactic(auto, unfolding(crate::specs::Reading::prompt_of))]
+fn prompt<'a>(word: &[u8], tokens: &[Token<'a>]) -> Result<Declaration<'a>, Unread>
+    ensures { Gives see.declaration_of result (prompt_of word.now (seen tokens.now)) }
+{
+    if word != b"chronicle".as_slice() {
+        return Err(Unread::Form);
+    }
+    let (name, rest) = symbol(tokens)?;
+    let rest = mark(rest, b'{')?;
+    begun(true, name, rest)
+}
+
 #[tactic(auto, unfolding(crate::specs::Reading::named_of))]
 fn named<'a>(
     alloc: Global,
@@ -531,13 +557,15 @@ fn named<'a>(
 {
     if keyword == b"chronicle".as_slice() {
         let rest = mark(tokens, b'{')?;
-        declared(Declaration::Begin(name), rest)
+        begun(false, name, rest)
     } else if keyword == b"message".as_slice() {
         let (arity, rest) = count(tokens)?;
         declared(Declaration::Message(name, arity), rest)
     } else if keyword == b"attribute".as_slice() {
         let (arity, rest) = count(tokens)?;
         attribute(alloc, name, arity, rest)
+    } else if keyword == b"prompt".as_slice() {
+        prompt(name, tokens)
     } else {
         Err(Unread::Form)
     }

@@ -64,12 +64,19 @@ pub struct Distance<'a> {
     pub high: Option<i128>,
 }
 
+/// The name of a chronicle, and whether it is prompt.
+#[derive(Clone, Copy)]
+pub struct Heading<'a> {
+    pub prompt: bool,
+    pub name: &'a [u8],
+}
+
 /// A statement outside all chronicles.
 #[derive(Drop)]
 pub enum Declaration<'a> {
     Message(&'a [u8], u64),
     Attribute(&'a [u8], u64, Option<Vec<&'a [u8]>>),
-    Begin(&'a [u8]),
+    Begin(Heading<'a>),
 }
 
 /// A statement inside a chronicle.
