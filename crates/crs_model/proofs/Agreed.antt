@@ -59,6 +59,7 @@ module _ {S T : Type 0} (f g : S → T) (P : S → Type 0) (same : (s : S) → P
   pub same_chronicle : (c : Chronicle S) → IsChronicleOf P c → renamed_chronicle f c ≡ renamed_chronicle g c
   same_chronicle c h = λ i. record {
     name = same c.name h.name i;
+    prompt = c.prompt;
     line = c.line;
     events = same_events c.events h.points h.patterns i;
     free = same_symbols c.free h.free i;

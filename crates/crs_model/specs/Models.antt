@@ -1,5 +1,5 @@
 -- Models. S is the type of symbols: texts in the theorems of the program, numbers of a table in the crates below.
-use Rattle.std.specs.Prelude.{ℕ, ℤ, List, Option}
+use Rattle.std.specs.Prelude.{ℕ, ℤ, Bool, List, Option}
 use Rattle.crs_stn.specs.declared.bound.Bound.{Bound}
 
 -- a symbol itself, a variable, or `*`
@@ -39,9 +39,10 @@ pub record Window (S : Type 0) : Type 0 where
   pub to : Anchor
 
 -- Point i is event i's point, and the free points follow. Variables are numbered by first occurrence in the events' patterns.
--- Its line is the one that closes it in the text.
+-- Its line is the one that closes it in the text. A prompt one takes entries as soon as they are accepted.
 pub record Chronicle (S : Type 0) : Type 0 where
   pub name : S
+  pub prompt : Bool
   pub line : ℕ
   pub events : List (EventDef S)
   pub free : List S

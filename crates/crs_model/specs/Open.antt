@@ -1,5 +1,5 @@
 -- The open partial assignments, the recognised assignments, and the two together.
-use Rattle.std.specs.Prelude.{◌≡◌, ◌≤◌, ℕ, List, map, Some, filter, nat_lt, slice_get}
+use Rattle.std.specs.Prelude.{◌≡◌, ◌≤◌, ℕ, List, map, Some, filter, nat_lt, slice_get, if◌then◌else◌}
 use Rattle.crs_base.specs.Words.{IsIn, Ordered}
 use Rattle.crs_stn.specs.Bound.{MeetsInPart}
 use Rattle.crs_base.specs.Entry.{Entry}
@@ -9,6 +9,10 @@ use Rattle.crs_model.specs.Partial.{Partial, IsPartial, IsLevelClosed, CanGoOn, 
 use Rattle.crs_model.specs.Verdicts.{IsMet, IsLost}
 
 module _ {S : Type 0} where
+  -- the entries that the assignments of a chronicle may take: the settled ones, or, where it is prompt, those that had arrived by the last mark
+  abbrev pub pool_among : Chronicle S → List (Entry S) → List (Entry S) → List (Entry S)
+  pool_among c settled arrived = if c.prompt then arrived else settled
+
   -- the partial assignments over the pool that can still be recognised: level-closed, with dates that can go on at h, and no window lost at h over the entries
   pub record IsOpen (c : Chronicle S) (level : ℕ → ℕ) (pool entries : List (Entry S)) (h : ℕ) (a : Partial S) : Type 0 where
     pub look : Binding S

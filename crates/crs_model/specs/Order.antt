@@ -34,6 +34,10 @@ module _ {S : Type 0} where
   abbrev pub dated_before : ℕ → List (Entry S) → List (Entry S)
   dated_before horizon entries = in_key_order (filter (λ e. nat_lt e.date horizon) entries)
 
+-- those of the entries that had arrived when so many were accepted
+abbrev pub arrived : {S : Type 0} → ℕ → List (Entry S) → List (Entry S)
+arrived n entries = filter (λ e. nat_lt e.arrival n) entries
+
 -- xs ascends strictly, and its members are exactly those of which P holds
 pub record Lists {A : Type 0} (cmp : A → A → Ordering) (P : A → Type 0) (xs : List A) : Type 0 where
   pub ascending : Ordered (λ a b. cmp a b ≡ Less) xs

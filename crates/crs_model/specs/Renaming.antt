@@ -41,6 +41,7 @@ module _ {S T : Type 0} (f : S → T) where
   abbrev pub renamed_chronicle : Chronicle S → Chronicle T
   renamed_chronicle c = record {
     name = f c.name;
+    prompt = c.prompt;
     line = c.line;
     events = map renamed_event c.events;
     free = map f c.free;

@@ -46,7 +46,7 @@ abbrev pub window_of : CodeWindow → Window Sym
 window_of w = record { body = body_of w.body; from = anchor_of w.from; to = anchor_of w.to }
 
 abbrev pub chronicle_of : CodeChronicle → Chronicle Sym
-chronicle_of c = record { name = c.name; line = c.line; events = map event_of c.events; free = c.free; bounds = c.bounds; variables = c.variables; sets = map set_of c.sets; differs = c.differs; windows = map window_of c.windows }
+chronicle_of c = record { name = c.name; prompt = c.prompt; line = c.line; events = map event_of c.events; free = c.free; bounds = c.bounds; variables = c.variables; sets = map set_of c.sets; differs = c.differs; windows = map window_of c.windows }
 
 abbrev pub kind_of : CodeKind → Kind Sym
 kind_of CodeMessage = Message
