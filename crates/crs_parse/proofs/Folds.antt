@@ -1,11 +1,11 @@
 -- The fold over all lines, by the steps of the program.
 use Rattle.std.proofs.Common.{◌≡◌, ℕ, ◌+◌, Bool, true, false, cond, ◌||◌, List, [], ◌∷◌, ◌++◌, Option, Some, None, Result, Ok, Err, refl, sym, ap, ◌∙◌, true≢false}
-use Rattle.crs_grammar.specs.Statements.{Statement, Message, Attribute, Begin, Happens, Point, Between, Among, Differ, Over, Close, is_inside}
+use Rattle.crs_grammar.specs.Statements.{Heading, Statement, Message, Attribute, Begin, Happens, Point, Between, Among, Differ, Over, Close, is_inside}
 use Rattle.crs_base.specs.Lines.{Line, is_long, bytes_of, is_passed_over}
 use Rattle.crs_base.specs.Tokens.{Token, tokens_of, is_model_mark}
 use Rattle.crs_base.specs.Symbols.{with_texts}
 use Rattle.crs_grammar.specs.Reading.{◌>>=◌, inside_of, outside_of}
-use Rattle.crs_parse.specs.Faults.{Name, Written, Reading, Fault, first_of, faults_of, own_fault, is_twice, has_no_name, has_wrong_arity, has_wrong_value, has_no_variable, has_no_point, is_out_of_bounds, has_any, passes_count, with_statement, symbols_of, begun, after, answered, after_statement, after_line, after_lines, unless_refused}
+use Rattle.crs_parse.specs.Faults.{Name, Written, Reading, Fault, first_of, faults_of, own_fault, is_twice, has_no_name, has_wrong_arity, has_wrong_value, has_no_variable, has_no_point, is_out_of_bounds, has_any, passes_count, with_statement, symbols_of, begun, after, answered, after_statement, after_line, after_lines, unless_refused, nameless}
 use Rattle.crs_model.specs.declared.models.ModelWord.{ModelWord}
 use Rattle.crs_model.specs.declared.models.ModelWord.TheVariants.{Twice, Name as NameWord, Arity as ArityWord, Value as ValueWord, Variable as VariableWord, Point as PointWord, Bound as BoundWord, Window as WindowWord, Limit as LimitWord, Events as EventsWord, Unbound as UnboundWord}
 use Rattle.crs_model.specs.declared.models.ModelRefused.{ModelRefused}
@@ -38,7 +38,7 @@ module _ (names : List Name) (done : List (ℕ × Written)) (c : Written) where
   plain_split : (full : Bool) (s : Statement) → is_inside s ≡ true → is_close s ≡ false → first_of (faults_of full names done c s) ≡ or_fault (own_fault names [] c s) (cond full (Some LimitWord) None)
   plain_split full (Message name arity) h k = absurd (true≢false (sym h))
   plain_split full (Attribute name arity values) h k = absurd (true≢false (sym h))
-  plain_split full (Begin name) h k = absurd (true≢false (sym h))
+  plain_split full (Begin heading) h k = absurd (true≢false (sym h))
   plain_split full (Happens e) h k = chain (is_twice names [] c (Happens e)) (has_no_name names (Happens e)) (has_wrong_arity names (Happens e)) (has_wrong_value names (Happens e)) false false false false (passes_count names [] c (Happens e)) full
   plain_split full (Point n) h k = chain (is_twice names [] c (Point n)) false false false false false false false (passes_count names [] c (Point n)) full
   plain_split full (Between d) h k = chain false false false false false (has_no_point c (Between d)) (is_out_of_bounds (Between d)) false (passes_count names [] c (Between d)) full
@@ -65,7 +65,7 @@ plain_next : (line : ℕ) (names : List Name) (done : List (ℕ × Written)) (c 
     → after line (reading_in names done c texts) s ≡ behind line names done (record { chronicle = with_statement c s; texts = with_texts texts (symbols_of s); closes = is_close s })
 plain_next line names done c texts (Message name arity) h = absurd (true≢false (sym h))
 plain_next line names done c texts (Attribute name arity values) h = absurd (true≢false (sym h))
-plain_next line names done c texts (Begin name) h = absurd (true≢false (sym h))
+plain_next line names done c texts (Begin heading) h = absurd (true≢false (sym h))
 plain_next line names done c texts (Happens e) h = refl
 plain_next line names done c texts (Point n) h = refl
 plain_next line names done c texts (Between d) h = refl
@@ -86,7 +86,7 @@ statement_step limit line names done c texts s h room = by (is_close s) refl
     close_split Close k = (λ i. first_of (faults_of (room i) names done c Close)) ∙ or_none (own_fault names [] c Close) ∙ sym (λ i. or_fault (own_fault names [] c Close) (cond (room i) (Some LimitWord) None))
     close_split (Message name arity) k = absurd (true≢false (sym k))
     close_split (Attribute name arity values) k = absurd (true≢false (sym k))
-    close_split (Begin name) k = absurd (true≢false (sym k))
+    close_split (Begin heading) k = absurd (true≢false (sym k))
     close_split (Happens e) k = absurd (true≢false (sym k))
     close_split (Point n) k = absurd (true≢false (sym k))
     close_split (Between d) k = absurd (true≢false (sym k))
@@ -174,18 +174,18 @@ close_step known limit names done (l ∷ ls) line c texts room =
 
 -- The same outside all chronicles.
 
-abbrev pub begun_or : List Name → List (ℕ × Written) → List (List ℕ) → Option (List ℕ) → Reading
+abbrev pub begun_or : List Name → List (ℕ × Written) → List (List ℕ) → Option Heading → Reading
 begun_or names done texts None = reading_out names done texts
-begun_or names done texts (Some name) = reading_in names done (begun name) texts
+begun_or names done texts (Some heading) = reading_in names done (begun heading) texts
 
 abbrev pub carried_out : ℕ → List (ℕ × Written) → Result Declaring ModelWord → Result Reading Fault
 carried_out line done (Ok d) = Ok (begun_or d.names done d.texts d.begun)
 carried_out line done (Err w) = Err (line, w)
 
-out_split : (names : List Name) (done : List (ℕ × Written)) (full : Bool) (s : Statement) → is_inside s ≡ false → first_of (faults_of full names done (begun []) s) ≡ or_fault (own_fault names done (begun []) s) (cond full (Some LimitWord) None)
-out_split names done full (Message name arity) h = chain (is_twice names done (begun []) (Message name arity)) false false false false false false false (passes_count names done (begun []) (Message name arity)) full
-out_split names done full (Attribute name arity values) h = chain (is_twice names done (begun []) (Attribute name arity values)) false false false false false false false (passes_count names done (begun []) (Attribute name arity values)) full
-out_split names done full (Begin name) h = chain (is_twice names done (begun []) (Begin name)) false false false false false false false (passes_count names done (begun []) (Begin name)) full
+out_split : (names : List Name) (done : List (ℕ × Written)) (full : Bool) (s : Statement) → is_inside s ≡ false → first_of (faults_of full names done (begun nameless) s) ≡ or_fault (own_fault names done (begun nameless) s) (cond full (Some LimitWord) None)
+out_split names done full (Message name arity) h = chain (is_twice names done (begun nameless) (Message name arity)) false false false false false false false (passes_count names done (begun nameless) (Message name arity)) full
+out_split names done full (Attribute name arity values) h = chain (is_twice names done (begun nameless) (Attribute name arity values)) false false false false false false false (passes_count names done (begun nameless) (Attribute name arity values)) full
+out_split names done full (Begin heading) h = chain (is_twice names done (begun nameless) (Begin heading)) false false false false false false false (passes_count names done (begun nameless) (Begin heading)) full
 out_split names done full (Happens e) h = absurd (true≢false h)
 out_split names done full (Point n) h = absurd (true≢false h)
 out_split names done full (Between d) h = absurd (true≢false h)
@@ -198,7 +198,7 @@ out_next : (line : ℕ) (names : List Name) (done : List (ℕ × Written)) (text
     → after line (reading_out names done texts) s ≡ begun_or (with_name names s) done (with_texts texts (symbols_of s)) (begins s)
 out_next line names done texts (Message name arity) h = refl
 out_next line names done texts (Attribute name arity values) h = refl
-out_next line names done texts (Begin name) h = refl
+out_next line names done texts (Begin heading) h = refl
 out_next line names done texts (Happens e) h = absurd (true≢false h)
 out_next line names done texts (Point n) h = absurd (true≢false h)
 out_next line names done texts (Between d) h = absurd (true≢false h)
@@ -219,7 +219,7 @@ out_step limit line names done texts None h = refl
 out_step limit line names done texts (Some s) h =
     let d : Declaring = record { names = with_name names s; texts = with_texts texts (symbols_of s); begun = begins s } in
     ap (answered line (after line (reading_out names done texts) s)) (out_split names done (passes limit (with_texts texts (symbols_of s))) s (h s refl))
-    ∙ by_out (own_fault names done (begun []) s) (passes limit (with_texts texts (symbols_of s))) line done d (after line (reading_out names done texts) s) (out_next line names done texts s (h s refl))
+    ∙ by_out (own_fault names done (begun nameless) s) (passes limit (with_texts texts (symbols_of s))) line done d (after line (reading_out names done texts) s) (out_next line names done texts s (h s refl))
 
 read_outside_is : IsOutside → (o : Option (List Token)) (s : Statement) → (o >>= outside_of) ≡ Some s → is_inside s ≡ false
 read_outside_is known None s e = cc

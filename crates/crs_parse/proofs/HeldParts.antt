@@ -3,7 +3,7 @@ use Rattle.std.proofs.Common.{◌≡◌, ℕ, ◌+◌, ◌≤◌, ◌<◌, Bool,
 use Rattle.std.specs.Prelude.{IfSome}
 use Rattle.std.specs.List.{AllByRecursion, list_any}
 use Rattle.std.proofs.lemmas.Bool.{or_parts}
-use Rattle.crs_grammar.specs.Statements.{Term, Value, Variable, Any, Pattern, Event, Body, NoEvent, Occurs, Hold, Window, Distance, Statement, Message, Attribute, Begin, Happens, Point, Between, Among, Differ, Over, Close}
+use Rattle.crs_grammar.specs.Statements.{Term, Value, Variable, Any, Pattern, Event, Body, NoEvent, Occurs, Hold, Window, Distance, Heading, Statement, Message, Attribute, Begin, Happens, Point, Between, Among, Differ, Over, Close}
 use Rattle.crs_parse.specs.Faults.{Name, Written, symbols_of, term_symbols, terms_symbols, change_symbols, pattern_symbols, body_symbols, values_symbols, variable_in, variables_in, variables_of, change_terms, with_statement, is_full, is_above, is_below, is_any, body_has_any, has_any, has_wrong_counts, is_out_of_bounds, is_far, are_crossed, shift_size, begun, message_named, attribute_named}
 use Rattle.crs_parse.specs.Meant.{level_of}
 use Rattle.crs_parse.specs.Held.{IsHeld, AreHeld, IsHeldTerm, AreHeldTerms, IsHeldPattern, IsHeldEvent, IsHeldBody, IsFirmBody, IsHeldWindow, IsHeldSet, AreNear, IsHeldChronicle, IsHeldName}
@@ -107,8 +107,8 @@ module _ (texts : List (List ℕ)) where
       let d = or_parts (nat_le 16 (length c.events)) (nat_le 24 (length c.events + length c.free)) b.0 in
       record { events = not_le 16 (length c.events) d.0; points = not_le 24 (length c.events + length c.free) d.1; low = level_low level b.1; variables = not_lt 16 (length c.variables) a.1 }
 
-  pub begun_held : (name : List ℕ) → IsHeld texts name → IsHeldChronicle texts (begun name)
-  begun_held name h = record { name = h; events = tt; free = tt; bounds = tt; variables = tt; sets = tt; windows = tt; few_variables = omega arith; few_points = omega arith }
+  pub begun_held : (heading : Heading) → IsHeld texts heading.name → IsHeldChronicle texts (begun heading)
+  begun_held heading h = record { name = h; events = tt; free = tt; bounds = tt; variables = tt; sets = tt; windows = tt; few_variables = omega arith; few_points = omega arith }
 
   event_held : (e : Event) → AreHeld texts (symbols_of (Happens e)) → level_of e.level ≤ 7 → IsHeldEvent texts e
   event_held e h k = record { pattern = pattern_held e.pattern (all_left (IsHeld texts) (pattern_symbols e.pattern) (e.point ∷ []) h); point = (all_right (IsHeld texts) (pattern_symbols e.pattern) (e.point ∷ []) h).0; level = k }
@@ -124,7 +124,7 @@ module _ (texts : List (List ℕ)) where
       → IsHeldChronicle texts c → IsHeldChronicle texts (with_statement c s)
   chronicle_held full names done c (Message name arity) f h k = k
   chronicle_held full names done c (Attribute name arity values) f h k = k
-  chronicle_held full names done c (Begin name) f h k = k
+  chronicle_held full names done c (Begin heading) f h k = k
   chronicle_held full names done c Close f h k = k
   chronicle_held full names done c (Happens e) f h k =
       let room = room_of (record c { variables = with_texts c.variables (variables_of e.pattern) }) e.level f.count in

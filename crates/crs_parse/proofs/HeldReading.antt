@@ -81,7 +81,7 @@ last_of false line r all e = record { outside = refl; same = cc }
 pub table_after : (line : ℕ) (r : Reading) (s : Statement) → (after line r s).texts ≡ with_texts r.texts (symbols_of s)
 table_after line r (Message name arity) = refl
 table_after line r (Attribute name arity values) = refl
-table_after line r (Begin name) = refl
+table_after line r (Begin heading) = refl
 table_after line r (Happens e) = refl
 table_after line r (Point name) = refl
 table_after line r (Between d) = refl
@@ -131,7 +131,7 @@ module _ (texts : List (List ℕ)) where
       → IsHeldSoFar texts (after line r s)
   next_held line r (Message name arity) full f p h k = record { names = all_put (IsHeldName texts) r.names (message_named name arity) k.names (message_held texts full r.names r.done (opened r.current) name arity f h); done = k.done; current = k.current }
   next_held line r (Attribute name arity values) full f p h k = record { names = all_put (IsHeldName texts) r.names (attribute_named name arity values) k.names (attribute_held texts full r.names r.done (opened r.current) name arity values f h); done = k.done; current = k.current }
-  next_held line r (Begin name) full f p h k = record { names = k.names; done = k.done; current = begun_held texts name h.0 }
+  next_held line r (Begin heading) full f p h k = record { names = k.names; done = k.done; current = begun_held texts heading h.0 }
   next_held line r (Happens e) full f p h k = record { names = k.names; done = k.done; current = chronicle_held texts full r.names r.done (opened r.current) (Happens e) f h (opened_held r.current p k.current) }
   next_held line r (Point name) full f p h k = record { names = k.names; done = k.done; current = chronicle_held texts full r.names r.done (opened r.current) (Point name) f h (opened_held r.current p k.current) }
   next_held line r (Between d) full f p h k = record { names = k.names; done = k.done; current = chronicle_held texts full r.names r.done (opened r.current) (Between d) f h (opened_held r.current p k.current) }

@@ -5,6 +5,7 @@ use Rattle.crs_model.specs.declared.models.ModelRefused.{ModelRefused}
 use Rattle.crs_parse.specs.declared.builder.Refused.{Refused}
 use Rattle.crs_parse.specs.declared.builder.Refused.TheVariants as refused
 use Rattle.crs_base.specs.Lines.{Line}
+use Rattle.crs_grammar.specs.Statements.{Heading}
 use Rattle.crs_parse.specs.Faults.{Name, Written, Fault, after_lines, unless_refused, begun}
 use Rattle.crs_parse.specs.Steps.{HaltsWith, FailsWith, halt_of, Moves, reading_out, reading_in, Declaring, declaring_outcome}
 use Rattle.crs_parse.proofs.Folds.{begun_or, carried_out, out_line_step}
@@ -30,7 +31,7 @@ moves_along f g (Ok x) a b same e h = e ∙ h ∙ same x
 moves_along {X} {Y} f g (Err x) a b same e h = subst (HaltsWith x) (sym e) h
 
 -- the same, where the program's values are seen
-module _ (limit line : ℕ) (names names2 : List Name) (done done2 : List (ℕ × Written)) (texts texts2 : List (List ℕ)) (l : Line) (ls lines : List Line) (b : Option (List ℕ)) where
+module _ (limit line : ℕ) (names names2 : List Name) (done done2 : List (ℕ × Written)) (texts texts2 : List (List ℕ)) (l : Line) (ls lines : List Line) (b : Option Heading) where
   abbrev Declares : Type 0
   Declares = declaring_outcome limit names done2 texts l ≡ Ok (record { names = names2; texts = texts2; begun = b })
 
@@ -40,8 +41,8 @@ module _ (limit line : ℕ) (names names2 : List Name) (done done2 : List (ℕ �
   pub part_none : done2 ≡ done → lines ≡ l ∷ ls → Declares → b ≡ None → after_lines limit line (reading_out names done texts) lines ≡ after_lines limit (line + 1) (reading_out names2 done texts2) ls
   part_none same is e none = part_begun same is e ∙ ap (λ o. after_lines limit (line + 1) (begun_or names2 done texts2 o) ls) none
 
-  pub part_some : (name : List ℕ) → done2 ≡ done → lines ≡ l ∷ ls → Declares → b ≡ Some name → after_lines limit line (reading_out names done texts) lines ≡ after_lines limit (line + 1) (reading_in names2 done (begun name) texts2) ls
-  part_some name same is e some = part_begun same is e ∙ ap (λ o. after_lines limit (line + 1) (begun_or names2 done texts2 o) ls) some
+  pub part_some : (heading : Heading) → done2 ≡ done → lines ≡ l ∷ ls → Declares → b ≡ Some heading → after_lines limit line (reading_out names done texts) lines ≡ after_lines limit (line + 1) (reading_in names2 done (begun heading) texts2) ls
+  part_some heading same is e some = part_begun same is e ∙ ap (λ o. after_lines limit (line + 1) (begun_or names2 done texts2 o) ls) some
 
 pub part_fault : (limit line : ℕ) (names : List Name) (done done2 : List (ℕ × Written)) (texts : List (List ℕ)) (l : Line) (ls lines : List Line) (w : ModelWord) → done2 ≡ done → lines ≡ l ∷ ls
     → declaring_outcome limit names done2 texts l ≡ Err w → after_lines limit line (reading_out names done texts) lines ≡ Err (line, w)

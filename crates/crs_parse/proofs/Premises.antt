@@ -1,9 +1,9 @@
 -- The symbols of what is read, and the place where it stands.
-use Rattle.std.proofs.Common.{◌≡◌, ℕ, ℤ, true, false, List, [], ◌∷◌, ◌++◌, Option, Some, None, refl, sym, ap, subst, ◌∙◌, append_assoc}
+use Rattle.std.proofs.Common.{Bool, ◌≡◌, ℕ, ℤ, true, false, List, [], ◌∷◌, ◌++◌, Option, Some, None, refl, sym, ap, subst, ◌∙◌, append_assoc}
 use Rattle.std.specs.List.{AllByRecursion, flat_map}
 use Rattle.crs_base.specs.Symbols.{is_symbol}
 use Rattle.crs_base.specs.Tokens.{Token, Word, Mark, tokens_of, is_model_mark}
-use Rattle.crs_grammar.specs.Forms.{Part, Keyword, Sign, Symbol, Number, Integer, Gap, Missing, AreWritten, listed, symbol_form, values_form, term_form, terms_form, change_form, pattern_form, shift_form, anchor_form, level_form, values_in_form, low_part, high_part, most_part, body_form, span_form, form_of}
+use Rattle.crs_grammar.specs.Forms.{Part, Keyword, Sign, Symbol, Number, Integer, Gap, Missing, AreWritten, listed, symbol_form, values_form, term_form, terms_form, change_form, pattern_form, shift_form, anchor_form, level_form, values_in_form, low_part, high_part, most_part, body_form, span_form, begin_form, form_of}
 use Rattle.crs_grammar.specs.Statements.{Term, Value, Variable, Any, Pattern, Shift, Here, Later, Earlier, Anchor, Body, NoEvent, Occurs, Hold, Statement, Message, Attribute, Begin, Happens, Point, Between, Among, Differ, Over, Close}
 use Rattle.crs_grammar.specs.Reading.{◌>>=◌, inside_of, outside_of}
 use Rattle.crs_parse.specs.Faults.{symbols_of, term_symbols, terms_symbols, change_symbols, pattern_symbols, body_symbols, values_symbols}
@@ -93,11 +93,15 @@ high_is : (z : Option ℤ) (ps : List Part) → symbols_in (high_part z ∷ ps) 
 high_is None ps = refl
 high_is (Some z) ps = refl
 
+begin_is : (prompt : Bool) (name : List ℕ) → symbols_in (begin_form prompt name) ≡ name ∷ []
+begin_is false name = refl
+begin_is true name = refl
+
 -- the symbols of a statement are those of its form
 pub form_symbols : (s : Statement) → symbols_in (form_of s) ≡ symbols_of s
 form_symbols (Message name arity) = refl
 form_symbols (Attribute name arity values) = ap (λ l. name ∷ l) (values_in_are values)
-form_symbols (Begin name) = refl
+form_symbols (Begin heading) = begin_is heading.prompt heading.name
 form_symbols (Happens e) = parts (pattern_form e.pattern) (Sign 44 ∷ Gap ∷ Symbol e.point ∷ Sign 41 ∷ level_form e.level) ∙ (λ i. pattern_is e.pattern i ++ e.point ∷ level_is e.level i)
 form_symbols (Point name) = refl
 form_symbols (Between d) = ap (λ l. d.to ∷ d.from ∷ l) (low_is d.low (Sign 44 ∷ Gap ∷ high_part d.high ∷ Sign 93 ∷ []) ∙ high_is d.high (Sign 93 ∷ []))

@@ -10,7 +10,7 @@ use Rattle.crs_base.specs.Symbols.{with_texts}
 use Rattle.crs_base.proofs.Words.{in_append_left}
 use Rattle.crs_base.proofs.Texts.{bytes_same, same_bytes}
 use Rattle.crs_base.proofs.Alls.{all_put, all_each}
-use Rattle.crs_grammar.specs.Statements.{Term, Pattern, Event, Body, NoEvent, Occurs, Hold, Statement, Message, Attribute, Begin, Happens, Point, Between, Among, Differ, Over, Close}
+use Rattle.crs_grammar.specs.Statements.{Term, Pattern, Event, Body, NoEvent, Occurs, Hold, Heading, Statement, Message, Attribute, Begin, Happens, Point, Between, Among, Differ, Over, Close}
 use Rattle.crs_parse.specs.Faults.{Name, Written, is_of, name_of, suits, is_attribute, is_unnamed, is_misfit, is_no_attribute, has_other_arity, is_point, event_points, variables_of, body_lacks, with_statement, begun, body_has_no_name, body_has_wrong_arity}
 use Rattle.crs_base.proofs.WithTexts.{all_with, known_behind, known_put, known_left}
 use Rattle.crs_parse.proofs.Faultless.{IsFaultless, not_false, not_le}
@@ -162,7 +162,7 @@ module _ (full : Bool) (names : List Name) (done : List (ℕ × Written)) (c : W
   pub sound_next : (s : Statement) → IsFaultless full names done c s → IsSound names c → IsSound names (with_statement c s)
   sound_next (Message name arity) f k = k
   sound_next (Attribute name arity values) f k = k
-  sound_next (Begin name) f k = k
+  sound_next (Begin heading) f k = k
   sound_next Close f k = k
   sound_next (Happens e) f k = happens_sound e f k
   sound_next (Point name) f k = record {
@@ -247,8 +247,8 @@ module _ (full : Bool) (names : List Name) (done : List (ℕ × Written)) (c : W
   pub closed_whole : IsFaultless full names done c Close → IsSound names c → IsWhole names c
   closed_whole f k = record { sound = k; some = not_zero (length c.events) f.events; bound = none_of (λ w. body_lacks c.variables w.body) c.windows f.unbound }
 
-pub begun_sound : (names : List Name) (name : List ℕ) → IsSound names (begun name)
-begun_sound names name = record { events_few = omega arith; bounds_few = omega arith; windows_few = omega arith; distinct = tt; events = tt; stand = tt; bounds = tt; sets = tt; differs = tt; windows = tt }
+pub begun_sound : (names : List Name) (heading : Heading) → IsSound names (begun heading)
+begun_sound names heading = record { events_few = omega arith; bounds_few = omega arith; windows_few = omega arith; distinct = tt; events = tt; stand = tt; bounds = tt; sets = tt; differs = tt; windows = tt }
 
 -- with more names
 pub more_sound : (names more : List Name) (c : Written) → IsSound names c → IsSound (names ++ more) c

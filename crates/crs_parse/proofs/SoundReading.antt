@@ -52,7 +52,7 @@ module _ (line : ℕ) (r : Reading) (full : Bool) (k : IsSoundSoFar r) where
       let a = or_parts (nat_le 256 (length r.names) || nat_lt 8 arity) (is_above 64 (option_map length values)) f.count in
       let d = declared (attribute_named name arity values) (or_parts (nat_le 256 (length r.names)) (nat_lt 8 arity) a.0).0 in
       record { names_few = d.names_few; done_few = d.done_few; done = d.done; current = d.current }
-  next_sound (Begin name) f p = record { names_few = k.names_few; done_few = k.done_few; done = k.done; current = (begun_sound r.names name, not_le 64 (length r.done) f.count) }
+  next_sound (Begin heading) f p = record { names_few = k.names_few; done_few = k.done_few; done = k.done; current = (begun_sound r.names heading, not_le 64 (length r.done) f.count) }
   next_sound (Happens e) f p = record { names_few = k.names_few; done_few = k.done_few; done = k.done; current = grown (Happens e) f p }
   next_sound (Point name) f p = record { names_few = k.names_few; done_few = k.done_few; done = k.done; current = grown (Point name) f p }
   next_sound (Between d) f p = record { names_few = k.names_few; done_few = k.done_few; done = k.done; current = grown (Between d) f p }

@@ -7,7 +7,7 @@ use Rattle.crs_model.specs.declared.models.ModelWord.TheVariants.{Form as FormWo
 use Rattle.crs_model.specs.declared.limits.TheConstants.{SIZE_LIMIT, NAME_LIMIT, ARITY_LIMIT, VALUE_LIMIT, CHRONICLE_LIMIT, EVENT_LIMIT, POINT_LIMIT, DISTANCE_LIMIT, VARIABLE_LIMIT, DIFFERENCE_LIMIT, WINDOW_LIMIT, LEVEL_LIMIT, COUNT_LIMIT, TICK_LIMIT}
 use Rattle.crs_base.specs.Lines.{Line, lines_of, bytes_of, is_long, is_passed_over}
 use Rattle.crs_base.specs.Tokens.{tokens_of, is_model_mark}
-use Rattle.crs_grammar.specs.Statements.{Term, Value, Variable, Any, Pattern, Event, Shift, Here, Later, Earlier, Body, NoEvent, Occurs, Hold, Window, Distance, Statement, Message, Attribute, Begin, Happens, Point, Between, Among, Differ, Over, Close}
+use Rattle.crs_grammar.specs.Statements.{Term, Value, Variable, Any, Pattern, Event, Shift, Here, Later, Earlier, Body, NoEvent, Occurs, Hold, Window, Distance, Heading, Statement, Message, Attribute, Begin, Happens, Point, Between, Among, Differ, Over, Close}
 use Rattle.crs_grammar.specs.Reading.{statement_of, ◌>>=◌}
 
 pub data Kind : Type 0 where
@@ -23,6 +23,7 @@ pub record Name : Type 0 where
 -- A chronicle as it is written, so far or whole. The variables are those of its events' patterns, by first occurrence.
 pub record Written : Type 0 where
   pub name : List ℕ
+  pub prompt : Bool
   pub events : List Event
   pub variables : List (List ℕ)
   pub free : List (List ℕ)
@@ -69,7 +70,7 @@ values_symbols (Some vs) = vs
 abbrev pub symbols_of : Statement → List (List ℕ)
 symbols_of (Message name arity) = name ∷ []
 symbols_of (Attribute name arity values) = name ∷ values_symbols values
-symbols_of (Begin name) = name ∷ []
+symbols_of (Begin heading) = heading.name ∷ []
 symbols_of (Happens e) = pattern_symbols e.pattern ++ e.point ∷ []
 symbols_of (Point name) = name ∷ []
 symbols_of (Between d) = d.to ∷ d.from ∷ []
@@ -199,7 +200,7 @@ body_has_any _ = false
 abbrev pub is_twice : List Name → List (ℕ × Written) → Written → Statement → Bool
 is_twice names done c (Message name arity) = is_some (name_of names name)
 is_twice names done c (Attribute name arity values) = is_some (name_of names name)
-is_twice names done c (Begin name) = is_of (map (λ d. d.1.name) done) name
+is_twice names done c (Begin heading) = is_of (map (λ d. d.1.name) done) heading.name
 is_twice names done c (Happens e) = is_point c e.point
 is_twice names done c (Point name) = is_point c name
 is_twice names done c (Among x values) = is_of (map (λ s. s.0) c.sets) x
@@ -258,7 +259,7 @@ abbrev pub passes_count : List Name → List (ℕ × Written) → Written → St
 passes_count names done c (Message name arity) = nat_le NAME_LIMIT (length names) || nat_lt ARITY_LIMIT arity
 passes_count names done c (Attribute name arity values) =
     nat_le NAME_LIMIT (length names) || nat_lt ARITY_LIMIT arity || is_above VALUE_LIMIT (option_map length values)
-passes_count names done c (Begin name) = nat_le CHRONICLE_LIMIT (length done)
+passes_count names done c (Begin heading) = nat_le CHRONICLE_LIMIT (length done)
 passes_count names done c (Happens e) = is_full (record c { variables = with_texts c.variables (variables_of e.pattern) }) e.level
 passes_count names done c (Point name) = nat_le POINT_LIMIT (length c.events + length c.free)
 passes_count names done c (Between d) = nat_le DISTANCE_LIMIT (length c.bounds)
@@ -336,13 +337,17 @@ message_named name arity = record { name = name; arity = arity; kind = OfMessage
 abbrev pub attribute_named : List ℕ → ℕ → Option (List (List ℕ)) → Name
 attribute_named name arity values = record { name = name; arity = arity; kind = OfAttribute values }
 
+-- no heading yet
+abbrev pub nameless : Heading
+nameless = record { prompt = false; name = [] }
+
 -- a chronicle without statements
-abbrev pub begun : List ℕ → Written
-begun name = record { name = name; events = []; variables = []; free = []; bounds = []; sets = []; differs = []; windows = [] }
+abbrev pub begun : Heading → Written
+begun heading = record { name = heading.name; prompt = heading.prompt; events = []; variables = []; free = []; bounds = []; sets = []; differs = []; windows = [] }
 
 -- the open chronicle, or one without a name
 abbrev pub opened : Option Written → Written
-opened None = begun []
+opened None = begun nameless
 opened (Some c) = c
 
 -- the open chronicle with one more statement
@@ -359,7 +364,7 @@ with_statement c _ = c
 abbrev pub after : ℕ → Reading → Statement → Reading
 after line r (Message name arity) = record { names = r.names ++ message_named name arity ∷ []; done = r.done; current = r.current; texts = with_texts r.texts (symbols_of (Message name arity)) }
 after line r (Attribute name arity values) = record { names = r.names ++ attribute_named name arity values ∷ []; done = r.done; current = r.current; texts = with_texts r.texts (symbols_of (Attribute name arity values)) }
-after line r (Begin name) = record { names = r.names; done = r.done; current = Some (begun name); texts = with_texts r.texts (symbols_of (Begin name)) }
+after line r (Begin heading) = record { names = r.names; done = r.done; current = Some (begun heading); texts = with_texts r.texts (symbols_of (Begin heading)) }
 after line r Close = record { names = r.names; done = r.done ++ (line, opened r.current) ∷ []; current = None; texts = r.texts }
 after line r s = record { names = r.names; done = r.done; current = Some (with_statement (opened r.current) s); texts = with_texts r.texts (symbols_of s) }
 

@@ -63,6 +63,7 @@ differ_of variables d = (place_in variables d.0, place_in variables d.1)
 abbrev pub chronicle_of : ℕ × f.Written → Chronicle (List ℕ)
 chronicle_of d = record {
   name = d.1.name;
+  prompt = d.1.prompt;
   line = d.0;
   events = map (event_of d.1.variables) d.1.events;
   free = d.1.free;

@@ -27,6 +27,7 @@ set_of s = (s.variable.now, map (λ v. v.now) s.values.items)
 abbrev pub written_of : CodeWritten → Written
 written_of c = record {
   name = c.name.now;
+  prompt = c.prompt;
   events = map event_of c.events.items;
   variables = map (λ x. x.now) c.variables.items;
   free = map (λ x. x.now) c.free.items;

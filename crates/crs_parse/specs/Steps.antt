@@ -3,9 +3,9 @@ use Rattle.std.specs.Prelude.{◌≡◌, ℕ, nat_lt, Bool, List, [], ◌∷◌,
 use Rattle.std.specs.List.{AllByRecursion}
 use Rattle.crs_base.specs.Symbols.{is_symbol, with_texts}
 use Rattle.crs_base.specs.Tokens.{Token, tokens_of, is_model_mark}
-use Rattle.crs_grammar.specs.Statements.{Statement, Message, Attribute, Begin, Close, is_inside}
+use Rattle.crs_grammar.specs.Statements.{Heading, Statement, Message, Attribute, Begin, Close, is_inside}
 use Rattle.crs_grammar.specs.Reading.{◌>>=◌, inside_of, outside_of}
-use Rattle.crs_parse.specs.Faults.{Name, Written, Reading, own_fault, begun, message_named, attribute_named, with_statement, symbols_of}
+use Rattle.crs_parse.specs.Faults.{Name, Written, Reading, own_fault, nameless, begun, message_named, attribute_named, with_statement, symbols_of}
 use Rattle.crs_model.specs.declared.models.ModelWord.{ModelWord}
 use Rattle.crs_model.specs.declared.models.ModelWord.TheVariants.{Form as FormWord, Limit as LimitWord}
 use Rattle.crs_base.specs.Lines.{Line, is_long, bytes_of, is_passed_over}
@@ -108,19 +108,19 @@ with_name names (Message name arity) = names ++ message_named name arity ∷ []
 with_name names (Attribute name arity values) = names ++ attribute_named name arity values ∷ []
 with_name names _ = names
 
-abbrev pub begins : Statement → Option (List ℕ)
-begins (Begin name) = Some name
+abbrev pub begins : Statement → Option Heading
+begins (Begin heading) = Some heading
 begins _ = None
 
--- the names behind a declaration, the symbols met so far, and the name of a chronicle that begins
+-- the names behind a declaration, the symbols met so far, and the heading of a chronicle that begins
 pub record Declaring : Type 0 where
   pub names : List Name
   pub texts : List (List ℕ)
-  pub begun : Option (List ℕ)
+  pub begun : Option Heading
 
 abbrev pub declaring_of : ℕ → List Name → List (ℕ × Written) → List (List ℕ) → Option Statement → Result Declaring ModelWord
 declaring_of limit names done texts None = Err FormWord
-declaring_of limit names done texts (Some s) = unless_fault (own_fault names done (begun []) s) (cond (passes limit (with_texts texts (symbols_of s))) (Err LimitWord)
+declaring_of limit names done texts (Some s) = unless_fault (own_fault names done (begun nameless) s) (cond (passes limit (with_texts texts (symbols_of s))) (Err LimitWord)
     (Ok (record { names = with_name names s; texts = with_texts texts (symbols_of s); begun = begins s })))
 
 abbrev pub declaring_outcome : ℕ → List Name → List (ℕ × Written) → List (List ℕ) → Line → Result Declaring ModelWord

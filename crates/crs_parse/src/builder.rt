@@ -9,7 +9,7 @@ ghost use Rattle.crs_parse.specs.Adds.{Adds};
 ghost use Rattle.crs_parse.specs.declared.builder.Refused.TheVariants.{Memory};
 ghost use Rattle.crs_grammar.specs.SeenStatements as seen;
 
-use crs_grammar::{Body, Distance, Event, Pattern, Shift, Statement, Term, Window};
+use crs_grammar::{Body, Distance, Event, Heading, Pattern, Shift, Statement, Term, Window};
 use crs_model::ModelWord;
 use crs_model::limits::{
     ARITY_LIMIT, CHRONICLE_LIMIT, COUNT_LIMIT, DIFFERENCE_LIMIT, DISTANCE_LIMIT, EVENT_LIMIT,
@@ -41,6 +41,7 @@ pub struct VariableSet<'a> {
 #[derive(Drop)]
 pub struct Written<'a> {
     pub name: &'a [u8],
+    pub prompt: bool,
     pub events: Vec<Event<'a>>,
     pub variables: Vec<&'a [u8]>,
     pub free: Vec<&'a [u8]>,
@@ -127,11 +128,12 @@ impl<'a> Written<'a> {
         is_event_point(&self.events, text) || is_of(&self.free, text)
     }
 
-    pub fn begin(alloc: Global, name: &'a [u8]) -> Written<'a>
-        ensures { see.written_of result ≡ faults.begun name.now }
+    pub fn begin(alloc: Global, heading: Heading<'a>) -> Written<'a>
+        ensures { see.written_of result ≡ faults.begun (seen.heading_of heading.entry) }
     {
         Written {
-            name,
+            name: heading.name,
+            prompt: heading.prompt,
             events: Vec::new(alloc),
             variables: Vec::new(alloc),
             free: Vec::new(alloc),
@@ -588,7 +590,7 @@ impl<'a> Written<'a> {
 
 /// Declares a message.
 pub fn add_message<'a>(names: &mut Vec<Name<'a>>, name: &'a [u8], arity: u64) -> Result<(), Refused>
-    ensures { Adds result (faults.own_fault (map see.name_of names.old.items) [] (faults.begun []) (Message name.now arity)) (map see.name_of names.new.items) (map see.name_of names.old.items ++ faults.message_named name.now arity ∷ []) }
+    ensures { Adds result (faults.own_fault (map see.name_of names.old.items) [] (faults.begun faults.nameless) (Message name.now arity)) (map see.name_of names.new.items) (map see.name_of names.old.items ++ faults.message_named name.now arity ∷ []) }
 {
     if name_of(names, name).is_some() {
         return Err(Refused::Word(ModelWord::Twice));
@@ -620,7 +622,7 @@ pub fn add_attribute<'a>(
     arity: u64,
     values: Option<Vec<&'a [u8]>>,
 ) -> Result<(), Refused>
-    ensures { Adds result (faults.own_fault (map see.name_of names.old.items) [] (faults.begun []) (Attribute name.now arity (see.values_of values.entry))) (map see.name_of names.new.items) (map see.name_of names.old.items ++ faults.attribute_named name.now arity (see.values_of values.entry) ∷ []) }
+    ensures { Adds result (faults.own_fault (map see.name_of names.old.items) [] (faults.begun faults.nameless) (Attribute name.now arity (see.values_of values.entry))) (map see.name_of names.new.items) (map see.name_of names.old.items ++ faults.attribute_named name.now arity (see.values_of values.entry) ∷ []) }
 {
     if name_of(names, name).is_some() {
         return Err(Refused::Word(ModelWord::Twice));
@@ -638,10 +640,10 @@ pub fn add_attribute<'a>(
 
 /// The first word that applies to the begin of a chronicle.
 #[tactic(auto, using(crate::proofs::Sizes::length_seen))]
-pub fn begin_fault(done: &[Closed<'_>], name: &[u8]) -> Option<ModelWord>
-    ensures { result ≡ faults.own_fault [] (map see.closed_of done.now) (faults.begun []) (Begin name.now) }
+pub fn begin_fault(done: &[Closed<'_>], heading: Heading<'_>) -> Option<ModelWord>
+    ensures { result ≡ faults.own_fault [] (map see.closed_of done.now) (faults.begun faults.nameless) (Begin (seen.heading_of heading.entry)) }
 {
-    if is_chronicle(done, name) {
+    if is_chronicle(done, heading.name) {
         return Some(ModelWord::Twice);
     }
     if CHRONICLE_LIMIT <= done.len() {

@@ -45,9 +45,9 @@ fn next_part<'a>(
     };
     match begun {
         None => Ok((more, line + 1)),
-        Some(name) => {
+        Some(heading) => {
             let _ = symbols.len();
-            closed_chronicle(alloc, names, done, symbols, name, more, line + 1)
+            closed_chronicle(alloc, names, done, symbols, heading, more, line + 1)
         }
     }
 }

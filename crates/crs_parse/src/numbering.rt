@@ -403,6 +403,7 @@ fn chronicle(alloc: Global, symbols: &Symbols, closed: &Closed<'_>) -> Result<Ch
     let (bounds, windows) = on_points(alloc, symbols, c)?;
     Ok(Chronicle {
         name: symbol(symbols, c.name),
+        prompt: c.prompt,
         line: closed.line,
         events,
         free,

@@ -15,7 +15,7 @@ ghost use Rattle.crs_grammar.specs.SeenStatements as seen;
 use crate::builder::{Closed, Name, Refused, Written, add_attribute, add_message, begin_fault};
 use crate::symbols::{declared_symbols, intern_all, symbols_of};
 use crs_base::{RawLine, SymRefused, Symbols, first_line, is_long, line_bytes, passed_over};
-use crs_grammar::{Declaration, Statement, Unread, inside, outside, tokens};
+use crs_grammar::{Declaration, Heading, Statement, Unread, inside, outside, tokens};
 use crs_model::{ModelRefused, ModelWord};
 use std::alloc::Global;
 
@@ -169,15 +169,15 @@ pub fn read_chronicle<'a>(
     })
 }
 
-/// Declares a name, or gives the name of the chronicle that begins.
+/// Declares a name, or gives the heading of the chronicle that begins.
 pub fn declare<'a>(
     names: &mut Vec<Name<'a>>,
     done: &[Closed<'a>],
     declaration: Declaration<'a>,
-) -> Result<Option<&'a [u8]>, Refused>
-    ensures added { Adds result (faults.own_fault (map see.name_of names.old.items) (map see.closed_of done.now) (faults.begun []) (seen.declaration_of declaration.entry))
+) -> Result<Option<Heading<'a>>, Refused>
+    ensures added { Adds result (faults.own_fault (map see.name_of names.old.items) (map see.closed_of done.now) (faults.begun faults.nameless) (seen.declaration_of declaration.entry))
         (map see.name_of names.new.items) (steps.with_name (map see.name_of names.old.items) (seen.declaration_of declaration.entry)) }
-    ensures begun { IfOk result (λ b. option_map (λ n. n.now) b ≡ steps.begins (seen.declaration_of declaration.entry)) }
+    ensures begun { IfOk result (λ b. option_map seen.heading_of b ≡ steps.begins (seen.declaration_of declaration.entry)) }
 {
     match declaration {
         Declaration::Message(name, arity) => {
@@ -188,25 +188,25 @@ pub fn declare<'a>(
             add_attribute(names, name, arity, values)?;
             Ok(None)
         }
-        Declaration::Begin(name) => match begin_fault(done, name) {
+        Declaration::Begin(heading) => match begin_fault(done, heading) {
             Some(word) => Err(Refused::Word(word)),
-            None => Ok(Some(name)),
+            None => Ok(Some(heading)),
         },
     }
 }
 
-/// Declares a name and numbers its symbols, or gives the name of the chronicle that begins.
+/// Declares a name and numbers its symbols, or gives the heading of the chronicle that begins.
 pub fn declare_numbered<'a>(
     alloc: Global,
     names: &mut Vec<Name<'a>>,
     done: &[Closed<'a>],
     symbols: &mut Symbols,
     declaration: Declaration<'a>,
-) -> Result<Option<&'a [u8]>, Refused>
+) -> Result<Option<Heading<'a>>, Refused>
     requires { AllByRecursion (λ t. is_symbol t ≡ true) (faults.symbols_of (seen.declaration_of declaration)) }
     ensures limit { symbols.new.limit ≡ symbols.old.limit }
     ensures grows { Grows (faults.symbols_of (seen.declaration_of declaration.entry)) symbols.old.texts symbols.new.texts }
-    ensures step { steps.Meets (λ b. record { names = map see.name_of names.new.items; texts = symbols.new.texts; begun = option_map (λ n. n.now) b }) result
+    ensures step { steps.Meets (λ b. record { names = map see.name_of names.new.items; texts = symbols.new.texts; begun = option_map seen.heading_of b }) result
         (steps.declaring_of symbols.old.limit (map see.name_of names.old.items) (map see.closed_of done.now) symbols.old.texts (Some (seen.declaration_of declaration.entry))) }
 {
     let texts = declared_symbols(alloc, &declaration)?;
@@ -215,17 +215,17 @@ pub fn declare_numbered<'a>(
     Ok(begun)
 }
 
-/// One line outside all chronicles: a declaration, or the name of the chronicle that begins.
+/// One line outside all chronicles: a declaration, or the heading of the chronicle that begins.
 pub fn outer_line<'a>(
     alloc: Global,
     names: &mut Vec<Name<'a>>,
     done: &[Closed<'a>],
     symbols: &mut Symbols,
     line: RawLine<'a>,
-) -> Result<Option<&'a [u8]>, Refused>
+) -> Result<Option<Heading<'a>>, Refused>
     ensures limit { symbols.new.limit ≡ symbols.old.limit }
     ensures grows { Grows (line_symbols (line_seen line.entry)) symbols.old.texts symbols.new.texts }
-    ensures step { steps.Meets (λ b. record { names = map see.name_of names.new.items; texts = symbols.new.texts; begun = option_map (λ n. n.now) b }) result
+    ensures step { steps.Meets (λ b. record { names = map see.name_of names.new.items; texts = symbols.new.texts; begun = option_map seen.heading_of b }) result
         (steps.declaring_outcome symbols.old.limit (map see.name_of names.old.items) (map see.closed_of done.now) symbols.old.texts (line_seen line.entry)) }
 {
     if is_long(line) {
@@ -248,7 +248,7 @@ pub fn closed_chronicle<'a>(
     names: &[Name<'a>],
     done: &mut Vec<Closed<'a>>,
     symbols: &mut Symbols,
-    name: &'a [u8],
+    heading: Heading<'a>,
     text: &'a [u8],
     line: u32,
 ) -> Result<(&'a [u8], u32), ModelRefused>
@@ -260,9 +260,9 @@ pub fn closed_chronicle<'a>(
     ensures behind { IfOk result (λ x. length x.0.now ≤ length text.now) }
     ensures rest { IfOk result (λ x. AreAmong (lines_of x.0.now) (lines_of text.now)) }
     ensures moved { steps.Moves (λ x. faults.after_lines symbols.old.limit x.1 (steps.reading_out (map see.name_of names.now) (map see.closed_of done.new.items) symbols.new.texts) (lines_of x.0.now)) result
-        (faults.after_lines symbols.old.limit line (steps.reading_in (map see.name_of names.now) (map see.closed_of done.old.items) (faults.begun name.now) symbols.old.texts) (lines_of text.now)) }
+        (faults.after_lines symbols.old.limit line (steps.reading_in (map see.name_of names.now) (map see.closed_of done.old.items) (faults.begun (seen.heading_of heading.entry)) symbols.old.texts) (lines_of text.now)) }
 {
-    let mut c = Written::begin(alloc, name);
+    let mut c = Written::begin(alloc, heading);
     match read_chronicle(alloc, names, &mut c, symbols, text, line) {
         Ok((rest, last)) => match done.push(Closed {
             line: last,

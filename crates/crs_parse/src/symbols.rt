@@ -133,7 +133,7 @@ pub fn declared_symbols<'a>(
         Declaration::Message(name, _) => out.push(*name)?,
         Declaration::Attribute(name, _, None) => out.push(*name)?,
         Declaration::Attribute(name, _, Some(values)) => push_named(&mut out, name, values)?,
-        Declaration::Begin(name) => out.push(*name)?,
+        Declaration::Begin(heading) => out.push(heading.name)?,
     }
     Ok(out)
 }

@@ -1,5 +1,6 @@
 use Rattle.std.proofs.Common.{◌∙◌, ap, sym, map, option_map, ◌+◌, Bor, List, ℕ}
 use Rattle.crs_base.specs.Lines.{lines_of}
+use Rattle.crs_grammar.specs.SeenStatements as seen
 use Rattle.crs_parse.specs.Faults as faults
 use Rattle.crs_base.specs.SeenLines.{line_seen}
 use Rattle.crs_parse.specs.SeenReading as see
@@ -12,17 +13,17 @@ use Rattle.crs_parse.proofs.models.next_part.Goals as goal
 pub returns-in-None-clause-moved : goal.returns-in-None-clause-moved
 returns-in-None-clause-moved c =
     part_none c.args.symbols.now.limit c.args.line (map see.name_of c.args.names.now.items) (map see.name_of c.outer_line.new.names.items) (map see.closed_of c.args.done.now.items) (map see.closed_of c.deref.result.now)
-    c.args.symbols.now.texts c.outer_line.new.symbols.texts (line_seen c.first_line.result.0) (lines_of c.first_line.result.1.now) (lines_of c.args.text.now) (option_map (λ (n : Bor (List ℕ)). n.now) c.in-Ok.begun)
-    (ap (map see.closed_of) c.deref.ensures.value) c.first_line.ensures.line c.in-Ok.ensures.step (ap (option_map (λ (n : Bor (List ℕ)). n.now)) c.in-None.is)
+    c.args.symbols.now.texts c.outer_line.new.symbols.texts (line_seen c.first_line.result.0) (lines_of c.first_line.result.1.now) (lines_of c.args.text.now) (option_map seen.heading_of c.in-Ok.begun)
+    (ap (map see.closed_of) c.deref.ensures.value) c.first_line.ensures.line c.in-Ok.ensures.step (ap (option_map seen.heading_of) c.in-None.is)
 
 pub returns-in-Some-clause-moved : goal.returns-in-Some-clause-moved
 returns-in-Some-clause-moved c =
     moves_along _ _ _ _ _
     (λ x. (λ i. faults.after_lines (c.in-Ok.ensures.limit i) x.1 (steps.reading_out (map see.name_of (c.deref-in-Some.ensures.value i)) (map see.closed_of c.closed_chronicle.new.done.items) c.closed_chronicle.new.symbols.texts) (lines_of x.0.now)))
     (part_some c.args.symbols.now.limit c.args.line (map see.name_of c.args.names.now.items) (map see.name_of c.outer_line.new.names.items) (map see.closed_of c.args.done.now.items) (map see.closed_of c.deref.result.now)
-    c.args.symbols.now.texts c.outer_line.new.symbols.texts (line_seen c.first_line.result.0) (lines_of c.first_line.result.1.now) (lines_of c.args.text.now) (option_map (λ (n : Bor (List ℕ)). n.now) c.in-Ok.begun) c.in-Some.name.now
-    (ap (map see.closed_of) c.deref.ensures.value) c.first_line.ensures.line c.in-Ok.ensures.step (ap (option_map (λ (n : Bor (List ℕ)). n.now)) c.in-Some.is)
-    ∙ sym (λ i. faults.after_lines (c.in-Ok.ensures.limit i) (c.args.line + 1) (steps.reading_in (map see.name_of (c.deref-in-Some.ensures.value i)) (map see.closed_of c.args.done.now.items) (faults.begun c.in-Some.name.now) c.outer_line.new.symbols.texts) (lines_of c.first_line.result.1.now)))
+    c.args.symbols.now.texts c.outer_line.new.symbols.texts (line_seen c.first_line.result.0) (lines_of c.first_line.result.1.now) (lines_of c.args.text.now) (option_map seen.heading_of c.in-Ok.begun) (seen.heading_of c.in-Some.heading)
+    (ap (map see.closed_of) c.deref.ensures.value) c.first_line.ensures.line c.in-Ok.ensures.step (ap (option_map seen.heading_of) c.in-Some.is)
+    ∙ sym (λ i. faults.after_lines (c.in-Ok.ensures.limit i) (c.args.line + 1) (steps.reading_in (map see.name_of (c.deref-in-Some.ensures.value i)) (map see.closed_of c.args.done.now.items) (faults.begun (seen.heading_of c.in-Some.heading)) c.outer_line.new.symbols.texts) (lines_of c.first_line.result.1.now)))
     c.closed_chronicle.ensures.moved
 
 pub returns-in-Err-clause-moved : goal.returns-in-Err-clause-moved
