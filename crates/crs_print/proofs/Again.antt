@@ -13,7 +13,7 @@ use Rattle.crs_grammar.specs.Statements.{Statement, Message, Attribute, Begin, C
 use Rattle.crs_parse.specs.Steps.{reading_in, reading_out}
 use Rattle.crs_parse.proofs.Faultless.{IsFaultless}
 use Rattle.crs_print.proofs.Distinct.{IsTable, table_more, table_few}
-use Rattle.crs_print.proofs.Good.{IsFit, IsDone}
+use Rattle.crs_print.proofs.Good.{IsFit, IsDone, heading_of}
 use Rattle.crs_print.proofs.GoodReading.{said_kind, said, AreDeclared, AreBegun, called}
 use Rattle.crs_print.proofs.Lines.{line_of, line_read}
 use Rattle.crs_print.proofs.Steps.{with_all, body_of, Steps, good_leads}
@@ -43,7 +43,7 @@ lines ss = map line_of ss
 
 -- the statements of a chronicle
 abbrev pub statements_of : Written → List Statement
-statements_of c = Begin c.name ∷ (body_of c ++ Close ∷ [])
+statements_of c = Begin (heading_of c) ∷ (body_of c ++ Close ∷ [])
 
 module _ (texts : List (List ℕ)) (limit : ℕ) (few : length texts ≤ limit) where
   no_symbol : (s : Statement) (table : List (List ℕ)) → AllByRecursion (λ t. is_known texts t ≡ true) (symbols_of s) → IsTable texts table → passes_symbols limit table s ≡ false
@@ -73,14 +73,14 @@ module _ (texts : List (List ℕ)) (limit : ℕ) (few : length texts ≤ limit) 
   plain_place Close h = refl
   plain_place (Message name arity) h = h
   plain_place (Attribute name arity values) h = h
-  plain_place (Begin name) h = h
+  plain_place (Begin heading) h = h
   plain_place _ h = refl
 
   plain_after : (line : ℕ) (names : List Name) (done : List (ℕ × Written)) (c : Written) (table : List (List ℕ)) (s : Statement) → is_indented s ≡ true
       → after line (reading_in names done c table) s ≡ reading_in names done (with_statement c s) (with_texts table (symbols_of s))
   plain_after line names done c table (Message name arity) h = absurd (true≢false (sym h))
   plain_after line names done c table (Attribute name arity values) h = absurd (true≢false (sym h))
-  plain_after line names done c table (Begin name) h = absurd (true≢false (sym h))
+  plain_after line names done c table (Begin heading) h = absurd (true≢false (sym h))
   plain_after line names done c table Close h = absurd (true≢false (sym h))
   plain_after line names done c table _ h = refl
 
@@ -134,11 +134,11 @@ module _ (texts : List (List ℕ)) (limit : ℕ) (few : length texts ≤ limit) 
   chronicle_go names done c line table ls h new room short t =
       let lead = good_leads texts names done c h.good in
       let begun_table = table_more texts table (c.name ∷ []) h.good.begins.known t in
-      let inside = steps_go names done (body_of c) (line + 1) (begun c.name) (with_texts table (c.name ∷ [])) (line_of Close ∷ ls) lead.steps (all_left (λ s. is_long (line_of s) ≡ false) (body_of c) (Close ∷ []) short.1) begun_table in
-      let parts : lines (statements_of c) ++ ls ≡ line_of (Begin c.name) ∷ (lines (body_of c) ++ line_of Close ∷ ls) =
-      ap (λ l. line_of (Begin c.name) ∷ (l ++ ls)) (map-append line_of (body_of c) (Close ∷ [])) ∙ ap (λ l. line_of (Begin c.name) ∷ l) (append_assoc (lines (body_of c)) (line_of Close ∷ []) ls) in
-      let begin : after_lines limit line (reading_out names done table) (line_of (Begin c.name) ∷ (lines (body_of c) ++ line_of Close ∷ ls)) ≡ after_lines limit (line + 1) (reading_in names done (begun c.name) (with_texts table (c.name ∷ []))) (lines (body_of c) ++ line_of Close ∷ ls) =
-      one_line line (reading_out names done table) (Begin c.name) (lines (body_of c) ++ line_of Close ∷ ls) h.good.begins short.0 refl
+      let inside = steps_go names done (body_of c) (line + 1) (begun (heading_of c)) (with_texts table (c.name ∷ [])) (line_of Close ∷ ls) lead.steps (all_left (λ s. is_long (line_of s) ≡ false) (body_of c) (Close ∷ []) short.1) begun_table in
+      let parts : lines (statements_of c) ++ ls ≡ line_of (Begin (heading_of c)) ∷ (lines (body_of c) ++ line_of Close ∷ ls) =
+      ap (λ l. line_of (Begin (heading_of c)) ∷ (l ++ ls)) (map-append line_of (body_of c) (Close ∷ [])) ∙ ap (λ l. line_of (Begin (heading_of c)) ∷ l) (append_assoc (lines (body_of c)) (line_of Close ∷ []) ls) in
+      let begin : after_lines limit line (reading_out names done table) (line_of (Begin (heading_of c)) ∷ (lines (body_of c) ++ line_of Close ∷ ls)) ≡ after_lines limit (line + 1) (reading_in names done (begun (heading_of c)) (with_texts table (c.name ∷ []))) (lines (body_of c) ++ line_of Close ∷ ls) =
+      one_line line (reading_out names done table) (Begin (heading_of c)) (lines (body_of c) ++ line_of Close ∷ ls) h.good.begins short.0 refl
       (record { twice = new; name = refl; arity = refl; value = refl; variable = refl; point = refl; bound = refl; window = refl; count = room; room = refl; events = refl; unbound = refl }) t in
       let close : after_lines limit inside.line_behind (reading_in names done c inside.table) (line_of Close ∷ ls) ≡ after_lines limit (inside.line_behind + 1) (reading_out names (done ++ (inside.line_behind, c) ∷ []) inside.table) ls =
       one_line inside.line_behind (reading_in names done c inside.table) Close ls (record { writable = (tt, tt); known = tt }) (all_right (λ s. is_long (line_of s) ≡ false) (body_of c) (Close ∷ []) short.1).0 refl

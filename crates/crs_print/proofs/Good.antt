@@ -7,7 +7,7 @@ use Rattle.crs_base.proofs.Alls.{all_put, all_each}
 use Rattle.crs_parse.specs.Faults.{Name, Written, is_of, event_points, is_point, name_of, variables_of, is_unnamed, is_misfit, is_beyond, is_no_attribute, has_other_arity, holds_beyond, is_above, has_no_name, has_wrong_arity, has_wrong_value, has_no_variable, has_no_point, is_out_of_bounds, has_any, is_unbound, body_has_no_name, body_has_wrong_arity, body_has_wrong_value, symbols_of, with_statement}
 use Rattle.crs_parse.specs.Meant.{points_of}
 use Rattle.crs_base.proofs.DistinctTexts.{Distinct}
-use Rattle.crs_grammar.specs.Statements.{Body, NoEvent, Occurs, Hold, Statement, Message, Attribute, Begin, Happens, Point, Between, Among, Differ, Over, Close}
+use Rattle.crs_grammar.specs.Statements.{Body, NoEvent, Occurs, Hold, Heading, Statement, Message, Attribute, Begin, Happens, Point, Between, Among, Differ, Over, Close}
 use Rattle.crs_print.proofs.Lines.{Writable}
 
 -- the statement can be written, and its symbols are among these texts
@@ -54,8 +54,12 @@ pub record IsFew (c : Written) : Type 0 where
   pub differs : length c.differs ≤ 64
   pub windows : length c.windows ≤ 16
 
+-- the first line of a chronicle
+abbrev pub heading_of : Written → Heading
+heading_of c = record { prompt = c.prompt; name = c.name }
+
 pub record IsGood (texts : List (List ℕ)) (names : List Name) (c : Written) : Type 0 where
-  pub begins : IsFit texts (Begin c.name)
+  pub begins : IsFit texts (Begin (heading_of c))
   pub all : AreAll (IsFine texts names c) c
   pub points : Distinct (points_of c)
   pub sets : Distinct (map (λ s. s.0) c.sets)
@@ -81,7 +85,7 @@ each_of P Q c f h = record {
 pub one_more_of : (P : Statement → Type 0) (c : Written) (s : Statement) → AreAll P c → P s → AreAll P (with_statement c s)
 one_more_of P c (Message name arity) h p = h
 one_more_of P c (Attribute name arity values) h p = h
-one_more_of P c (Begin name) h p = h
+one_more_of P c (Begin heading) h p = h
 one_more_of P c Close h p = h
 one_more_of P c (Happens e) h p = record { events = all_put (λ e. P (Happens e)) c.events e h.events p; free = h.free; bounds = h.bounds; sets = h.sets; differs = h.differs; windows = h.windows }
 one_more_of P c (Point t) h p = record { events = h.events; free = all_put (λ t. P (Point t)) c.free t h.free p; bounds = h.bounds; sets = h.sets; differs = h.differs; windows = h.windows }

@@ -8,13 +8,13 @@ use Rattle.std.specs.Prelude.{bytes_eq}
 use Rattle.std.proofs.lemmas.Bool.{or_parts}
 use Rattle.crs_parse.specs.Faults.{Name, Written, event_points, variables_of, is_above, is_full, with_statement, begun, passes_count}
 use Rattle.crs_parse.specs.Meant.{points_of}
-use Rattle.crs_grammar.specs.Statements.{Event, Statement, Message, Attribute, Begin, Happens, Point, Between, Among, Differ, Over, Close}
+use Rattle.crs_grammar.specs.Statements.{Event, Heading, Statement, Message, Attribute, Begin, Happens, Point, Between, Among, Differ, Over, Close}
 use Rattle.crs_base.proofs.WithTexts.{known_behind, known_left}
 use Rattle.crs_parse.proofs.Faultless.{IsFaultless, not_le, not_lt}
 use Rattle.crs_parse.proofs.Texts.{with_texts_append}
 use Rattle.crs_base.proofs.DistinctTexts.{Distinct, between_distinct, last_distinct}
 use Rattle.crs_parse.proofs.Sound.{event_points_more}
-use Rattle.crs_print.proofs.Good.{IsFit, is_large, IsFine, IsFew, IsGood, each_of, one_more_of, Grows, fine_in}
+use Rattle.crs_print.proofs.Good.{IsFit, is_large, IsFine, IsFew, IsGood, each_of, one_more_of, Grows, fine_in, heading_of}
 use Rattle.crs_base.specs.Symbols.{with_texts}
 
 pub record IsRoom (c : Written) (e : Event) : Type 0 where
@@ -70,7 +70,7 @@ module _ (texts : List (List ℕ)) (full : Bool) (names : List Name) (done : Lis
   few_next (Among x vs) f k = record { events = k.events; points = k.points; variables = k.variables; bounds = k.bounds; differs = k.differs; windows = k.windows }
   few_next (Message name arity) f k = k
   few_next (Attribute name arity vs) f k = k
-  few_next (Begin name) f k = k
+  few_next (Begin heading) f k = k
   few_next Close f k = k
 
   points_next : (s : Statement) → IsFaultless full names done c s → Distinct (points_of c) → Distinct (points_of (with_statement c s))
@@ -84,7 +84,7 @@ module _ (texts : List (List ℕ)) (full : Bool) (names : List Name) (done : Lis
   points_next (Among x vs) f d = d
   points_next (Message name arity) f d = d
   points_next (Attribute name arity vs) f d = d
-  points_next (Begin name) f d = d
+  points_next (Begin heading) f d = d
   points_next Close f d = d
 
   sets_next : (s : Statement) → IsFaultless full names done c s → Distinct (map (λ s. s.0) c.sets) → Distinct (map (λ s. s.0) (with_statement c s).sets)
@@ -96,7 +96,7 @@ module _ (texts : List (List ℕ)) (full : Bool) (names : List Name) (done : Lis
   sets_next (Over w) f d = d
   sets_next (Message name arity) f d = d
   sets_next (Attribute name arity vs) f d = d
-  sets_next (Begin name) f d = d
+  sets_next (Begin heading) f d = d
   sets_next Close f d = d
 
   abbrev variables_from : List Event → List (List ℕ)
@@ -114,8 +114,17 @@ module _ (texts : List (List ℕ)) (full : Bool) (names : List Name) (done : Lis
   variables_next (Among x vs) h = h
   variables_next (Message name arity) h = h
   variables_next (Attribute name arity vs) h = h
-  variables_next (Begin name) h = h
+  variables_next (Begin heading) h = h
   variables_next Close h = h
+
+  same_heading : (s : Statement) → heading_of (with_statement c s) ≡ heading_of c
+  same_heading (Happens e) = refl
+  same_heading (Point t) = refl
+  same_heading (Between b) = refl
+  same_heading (Differ x y) = refl
+  same_heading (Over w) = refl
+  same_heading (Among x vs) = refl
+  same_heading _ = refl
 
   same_name : (s : Statement) → (with_statement c s).name ≡ c.name
   same_name (Happens e) = refl
@@ -130,7 +139,7 @@ module _ (texts : List (List ℕ)) (full : Bool) (names : List Name) (done : Lis
   good_next s f k h =
       let grown = grows_next c s in
       record {
-        begins = subst (λ n. IsFit texts (Begin n)) (sym (same_name s)) h.begins;
+        begins = subst (λ n. IsFit texts (Begin n)) (sym (same_heading s)) h.begins;
         all = each_of (IsFine texts names c) (IsFine texts names (with_statement c s)) (with_statement c s) (λ t q. fine_in texts names c (with_statement c s) t grown q)
             (one_more_of (IsFine texts names c) c s h.all (fine_of s f k));
         points = points_next s f h.points;
@@ -142,8 +151,8 @@ module _ (texts : List (List ℕ)) (full : Bool) (names : List Name) (done : Lis
 pub name_stays : (c : Written) (s : Statement) → (with_statement c s).name ≡ c.name
 name_stays c s = same_name [] false [] [] c s
 
-pub good_begun : (texts : List (List ℕ)) (names : List Name) (name : List ℕ) → IsFit texts (Begin name) → IsGood texts names (begun name)
-good_begun texts names name h = record {
+pub good_begun : (texts : List (List ℕ)) (names : List Name) (heading : Heading) → IsFit texts (Begin heading) → IsGood texts names (begun heading)
+good_begun texts names heading h = record {
   begins = h;
   all = record { events = tt; free = tt; bounds = tt; sets = tt; differs = tt; windows = tt };
   points = tt;

@@ -5,7 +5,7 @@ use Rattle.std.specs.List.{AllByRecursion}
 use Rattle.std.proofs.lemmas.List.{map-append, append-nil, length-map}
 use Rattle.crs_base.specs.Lines.{Line}
 use Rattle.crs_base.proofs.Alls.{all_put, all_each}
-use Rattle.crs_parse.specs.Faults.{Kind, OfMessage, OfAttribute, Name, Written, Reading, is_of, passes_symbols, message_named, attribute_named, opened, begun, with_statement, after, after_line, after_lines, nothing_read}
+use Rattle.crs_parse.specs.Faults.{Kind, OfMessage, OfAttribute, Name, Written, Reading, is_of, passes_symbols, message_named, attribute_named, opened, nameless, begun, with_statement, after, after_line, after_lines, nothing_read}
 use Rattle.crs_grammar.specs.Statements.{Statement, Message, Attribute, Begin, Happens, Point, Between, Among, Differ, Over, Close, is_inside}
 use Rattle.crs_parse.proofs.Faultless.{IsFaultless}
 use Rattle.crs_parse.proofs.HeldReading.{Within, next_of, last_of, texts_within, by_line, symbols_known}
@@ -24,7 +24,7 @@ said n = said_kind n.name n.arity n.kind
 -- each name is declared behind these without fault
 abbrev pub AreDeclared : List (List ℕ) → List Name → List Name → Type 0
 AreDeclared texts before [] = Unit {0}
-AreDeclared texts before (n ∷ ns) = IsFit texts (said n) × IsFaultless false before [] (begun []) (said n) × AreDeclared texts (before ++ n ∷ []) ns
+AreDeclared texts before (n ∷ ns) = IsFit texts (said n) × IsFaultless false before [] (begun nameless) (said n) × AreDeclared texts (before ++ n ∷ []) ns
 
 -- each chronicle begins behind those of these names without fault
 abbrev pub AreBegun : List (List ℕ) → List (List ℕ) → Type 0
@@ -45,10 +45,10 @@ pub record IsGoodReading (texts : List (List ℕ)) (r : Reading) : Type 0 where
   pub begins : AreBegun [] (called r.done)
   pub current : IfSome r.current (IsOpen texts r.names r.done)
 
-declared_put : (texts : List (List ℕ)) (before ns : List Name) (n : Name) → AreDeclared texts before ns → IsFit texts (said n) → IsFaultless false (before ++ ns) [] (begun []) (said n) → AreDeclared texts before (ns ++ n ∷ [])
-declared_put texts before [] n h k f = (k, subst (λ l. IsFaultless false l [] (begun []) (said n)) (append-nil before) f, tt)
+declared_put : (texts : List (List ℕ)) (before ns : List Name) (n : Name) → AreDeclared texts before ns → IsFit texts (said n) → IsFaultless false (before ++ ns) [] (begun nameless) (said n) → AreDeclared texts before (ns ++ n ∷ [])
+declared_put texts before [] n h k f = (k, subst (λ l. IsFaultless false l [] (begun nameless) (said n)) (append-nil before) f, tt)
 declared_put texts before (m ∷ ns) n h k f =
-    (h.0, h.1, declared_put texts (before ++ m ∷ []) ns n h.2 k (subst (λ l. IsFaultless false l [] (begun []) (said n)) (sym (append_assoc before (m ∷ []) ns)) f))
+    (h.0, h.1, declared_put texts (before ++ m ∷ []) ns n h.2 k (subst (λ l. IsFaultless false l [] (begun nameless) (said n)) (sym (append_assoc before (m ∷ []) ns)) f))
 
 begun_put : (before ts : List (List ℕ)) (t : List ℕ) → AreBegun before ts → is_of (before ++ ts) t ≡ false → nat_le 64 (length (before ++ ts)) ≡ false → AreBegun before (ts ++ t ∷ [])
 begun_put before [] t h n f = (ap (λ l. is_of l t) (sym (append-nil before)) ∙ n, ap (λ l. nat_le 64 (length l)) (sym (append-nil before)) ∙ f, tt)
@@ -65,7 +65,7 @@ opened_good texts names done None e h = cc
 opened_good texts names done (Some c) e h = h
 
 module _ (texts : List (List ℕ)) (full : Bool) (line : ℕ) (r : Reading) (k : IsGoodReading texts r) where
-  named : (n : Name) → IsFit texts (said n) → IsFaultless false r.names [] (begun []) (said n) → IsGoodReading texts (record { names = r.names ++ n ∷ []; done = r.done; current = r.current; texts = [] })
+  named : (n : Name) → IsFit texts (said n) → IsFaultless false r.names [] (begun nameless) (said n) → IsGoodReading texts (record { names = r.names ++ n ∷ []; done = r.done; current = r.current; texts = [] })
   named n fit f = record {
     names = declared_put texts [] r.names n k.names fit f;
     done = all_each r.done (λ d h. done_named texts r.names (n ∷ []) d.1 h) k.done;
@@ -85,7 +85,7 @@ module _ (texts : List (List ℕ)) (full : Bool) (line : ℕ) (r : Reading) (k :
   next_good (Attribute name arity values) f p fit =
       let d = named (attribute_named name arity values) fit (record { twice = f.twice; name = refl; arity = refl; value = refl; variable = refl; point = refl; bound = refl; window = refl; count = f.count; room = refl; events = refl; unbound = refl }) in
       record { names = d.names; done = d.done; begins = d.begins; current = d.current }
-  next_good (Begin name) f p fit = record { names = k.names; done = k.done; begins = k.begins; current = record { good = good_begun texts r.names name fit; new = f.twice; room = f.count } }
+  next_good (Begin heading) f p fit = record { names = k.names; done = k.done; begins = k.begins; current = record { good = good_begun texts r.names heading fit; new = f.twice; room = f.count } }
   next_good (Happens e) f p fit = record { names = k.names; done = k.done; begins = k.begins; current = grown (Happens e) f fit p }
   next_good (Point t) f p fit = record { names = k.names; done = k.done; begins = k.begins; current = grown (Point t) f fit p }
   next_good (Between d) f p fit = record { names = k.names; done = k.done; begins = k.begins; current = grown (Between d) f fit p }

@@ -10,7 +10,7 @@ use Rattle.crs_base.proofs.LineSteps.{whole}
 use Rattle.crs_model.specs.declared.models.ModelWord.TheVariants.{Limit as LimitWord}
 use Rattle.crs_grammar.specs.Canon.{statement_text, is_indented, statement_line, statements_text}
 use Rattle.crs_parse.specs.Faults.{Reading, after_line, after_statement}
-use Rattle.crs_grammar.specs.Forms.{Part, AreWritten, body_form, span_form, form_of}
+use Rattle.crs_grammar.specs.Forms.{Part, AreWritten, body_form, span_form, form_of, begin_form}
 use Rattle.crs_grammar.specs.Laws.{IsWritable}
 use Rattle.crs_grammar.specs.Reading.{◌>>=◌, statement_of}
 use Rattle.crs_grammar.specs.Statements.{Body, NoEvent, Occurs, Hold, Statement, Message, Attribute, Begin, Happens, Point, Between, Among, Differ, Over, Close, is_inside}
@@ -94,11 +94,15 @@ body_writes (NoEvent p) ps h = h
 body_writes (Occurs least most p) ps h = h
 body_writes (Hold name terms value) ps h = h
 
+begin_writes : (prompt : Bool) (name : List ℕ) → AreWritten (begin_form prompt name) [] → ⊥
+begin_writes false name h = h
+begin_writes true name h = h
+
 -- a statement has tokens
 writes : (s : Statement) → AreWritten (form_of s) [] → ⊥
 writes (Message name arity) h = h
 writes (Attribute name arity values) h = h
-writes (Begin name) h = h
+writes (Begin heading) h = begin_writes heading.prompt heading.name h
 writes (Happens e) h = h
 writes (Point name) h = h
 writes (Between d) h = h

@@ -123,7 +123,7 @@ chronicle_again names d h =
     ap (λ p. map (λ v. Over (window_from variables p v)) (map (window_of variables points) c.windows)) same
     ∙ again _ (λ v. Over (window_from variables points v)) (window_of variables points) Over normal_window
     (λ w q. ap Over (window_again points variables w q.1 (event_point c w.from.point q.0.1) (event_point c w.to.point q.0.2))) c.windows (all_both _ _ c.windows h.sound.windows h.bound) in
-    λ i. Begin c.name ∷ (events i ++ map Point c.free ++ bounds i ++ sets i ++ differs i ++ windows i ++ Close ∷ [])
+    λ i. Begin (record { prompt = c.prompt; name = c.name }) ∷ (events i ++ map Point c.free ++ bounds i ++ sets i ++ differs i ++ windows i ++ Close ∷ [])
   where
     known_bounds : (c : Written) (ds : List Distance) → AllByRecursion (λ d. (is_point c d.to ≡ true) × (is_point c d.from ≡ true)) ds → AllByRecursion (λ d. (is_known (points_of c) d.to ≡ true) × (is_known (points_of c) d.from ≡ true)) ds
     known_bounds c [] k = tt

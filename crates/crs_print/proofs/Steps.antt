@@ -12,7 +12,7 @@ use Rattle.crs_grammar.specs.Statements.{Event, Window, Distance, Statement, Hap
 use Rattle.crs_parse.proofs.Faultless.{IsFaultless}
 use Rattle.crs_parse.proofs.Texts.{with_texts_append, texts_grow}
 use Rattle.crs_base.proofs.DistinctTexts.{Distinct, behind_new}
-use Rattle.crs_print.proofs.Good.{IsFit, IsFine, IsGood, fine_in}
+use Rattle.crs_print.proofs.Good.{IsFit, IsFine, IsGood, fine_in, heading_of}
 use Rattle.crs_base.specs.Symbols.{with_texts}
 
 -- the chronicle behind some statements
@@ -95,10 +95,10 @@ module _ (texts : List (List ℕ)) (names : List Name) (done : List (ℕ × Writ
 
     -- the chronicle with some of its events, and with all of them and some free points, and so on
     abbrev with_events : List Event → Written
-    with_events es = record (begun c.name) { events = es; variables = with_texts [] (from es) }
+    with_events es = record (begun (heading_of c)) { events = es; variables = with_texts [] (from es) }
 
     abbrev with_free : List (List ℕ) → Written
-    with_free ts = record (begun c.name) { events = c.events; variables = c.variables; free = ts }
+    with_free ts = record (begun (heading_of c)) { events = c.events; variables = c.variables; free = ts }
 
     abbrev with_bounds : List Distance → Written
     with_bounds ds = record (with_free c.free) { bounds = ds }
@@ -138,7 +138,7 @@ module _ (texts : List (List ℕ)) (names : List Name) (done : List (ℕ × Writ
         ap (λ l. map (λ v. v.point) l ++ ts) (sym is) ∙ ap (λ l. l ++ ts) (map-append (λ (v : Event). v.point) es (e ∷ vs)) ∙ append_assoc (map (λ v. v.point) es) (e.point ∷ map (λ v. v.point) vs) ts in
         behind_new (map (λ v. v.point) es) (map (λ v. v.point) vs ++ ts) e.point (subst Distinct parts d)
 
-    events_lead : Leads (begun c.name) (map Happens c.events) (with_free [])
+    events_lead : Leads (begun (heading_of c)) (map Happens c.events) (with_free [])
     events_lead =
         let r = group Happens (λ e. IsFine texts names c (Happens e)) with_events c.events
         (λ es e. λ i. record (with_events es) { events = es ++ e ∷ []; variables = from_put es e i })
@@ -192,5 +192,5 @@ module _ (texts : List (List ℕ)) (names : List Name) (done : List (ℕ × Writ
         faultless_of (with_windows ws) (Over w) refl (fine_in texts names c (with_windows ws) (Over w) (record { points = λ t q. q; free = λ t q. q; variables = λ t q. q }) k) refl (lt-leb 16 (length ws) (omega (arith, few, p))))
         (λ w k. k.fit) (λ w. refl) c.windows [] refl h.all.windows
 
-    pub good_leads : Leads (begun c.name) (body_of c) c
+    pub good_leads : Leads (begun (heading_of c)) (body_of c) c
     good_leads = leads_then _ _ _ _ _ (leads_then _ _ _ _ _ (leads_then _ _ _ _ _ (leads_then _ _ _ _ _ (leads_then _ _ _ _ _ events_lead free_lead) bounds_lead) sets_lead) differs_lead) windows_lead

@@ -60,7 +60,7 @@ distances_from points (high ∷ low ∷ bs) = distance_from points high low ∷ 
 -- events, free points, bounds, sets, differences and windows
 abbrev pub chronicle_from : Chronicle (List ℕ) → List w.Statement
 chronicle_from c =
-    w.Begin c.name ∷ map (λ e. w.Happens (event_from c.variables e)) c.events
+    w.Begin (record { prompt = c.prompt; name = c.name }) ∷ map (λ e. w.Happens (event_from c.variables e)) c.events
     ++ map w.Point c.free
     ++ map w.Between (distances_from (points_in c) c.bounds)
     ++ map (λ s. w.Among (text_at c.variables s.variable) s.values) c.sets

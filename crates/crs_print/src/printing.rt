@@ -1,5 +1,5 @@
 //! The canonical text of models.
-ghost use Rattle.std.specs.Prelude.{◌≡◌, ◌<◌, ◌∷◌, [], ◌++◌, map, length, option_map, IfOk, IfSome, OnOk, neg_ℤ};
+ghost use Rattle.std.specs.Prelude.{true, false, ◌≡◌, ◌<◌, ◌∷◌, [], ◌++◌, map, length, option_map, IfOk, IfSome, OnOk, neg_ℤ};
 ghost use Rattle.std.specs.List.{AllByRecursion, flat_map};
 ghost use Rattle.crs_base.specs.Symbols.{text_at};
 ghost use Rattle.crs_model.specs.Renaming as renamed;
@@ -520,13 +520,37 @@ fn put_windows(
     Ok(())
 }
 
-fn put_begin(out: &mut Vec<u8>, symbols: &Symbols, name: Sym) -> Result<(), AllocError>
+fn put_plain_begin(out: &mut Vec<u8>, symbols: &Symbols, name: Sym) -> Result<(), AllocError>
     requires { said.Has symbols.now.texts name }
-    ensures { OnOk result (out.new.items ≡ out.old.items ++ statement_line (Begin (renamed.text_in symbols.now.texts name))) }
+    ensures { OnOk result (out.new.items ≡ out.old.items ++ statement_line (Begin (record { prompt = false; name = renamed.text_in symbols.now.texts name }))) }
 {
     push_bytes(out, b"chronicle ")?;
     push_bytes(out, symbols.text(name))?;
     push_bytes(out, b" {\n")
+}
+
+fn put_prompt_begin(out: &mut Vec<u8>, symbols: &Symbols, name: Sym) -> Result<(), AllocError>
+    requires { said.Has symbols.now.texts name }
+    ensures { OnOk result (out.new.items ≡ out.old.items ++ statement_line (Begin (record { prompt = true; name = renamed.text_in symbols.now.texts name }))) }
+{
+    push_bytes(out, b"prompt ")?;
+    put_plain_begin(out, symbols, name)
+}
+
+fn put_begin(
+    out: &mut Vec<u8>,
+    symbols: &Symbols,
+    prompt: bool,
+    name: Sym,
+) -> Result<(), AllocError>
+    requires { said.Has symbols.now.texts name }
+    ensures { OnOk result (out.new.items ≡ out.old.items ++ statement_line (Begin (record { prompt = prompt; name = renamed.text_in symbols.now.texts name }))) }
+{
+    if prompt {
+        put_prompt_begin(out, symbols, name)
+    } else {
+        put_plain_begin(out, symbols, name)
+    }
 }
 
 /// The points of the events, and then the free ones.
@@ -621,7 +645,7 @@ fn put_chronicle(
     let free = c.free.as_slice();
     let variables = c.variables.as_slice();
     let points = points(alloc, events, free)?;
-    put_begin(out, symbols, c.name)?;
+    put_begin(out, symbols, c.prompt, c.name)?;
     put_events(out, symbols, variables, events)?;
     put_free(out, symbols, free)?;
     put_distances(out, symbols, &points, c.bounds.as_slice())?;

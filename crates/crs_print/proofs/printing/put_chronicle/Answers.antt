@@ -26,7 +26,7 @@ returns c =
     let T : List (List ℕ) = c.args.symbols.now.texts in
     let made : c.in_ok-points.points.items ≡ map (λ e. e.point) c.args.c.now.events ++ c.args.c.now.free = c.in_ok-points.ensures ∙ (λ i. map (λ e. e.point) (c.as_slice-events.ensures i) ++ c.as_slice-free.ensures i) in
     let ps : map (renamed.text_in T) c.in_ok-points.points.items ≡ from.points_in (renamed.renamed_chronicle (renamed.text_in T) (view.chronicle_of c.args.c.now)) = points_are T c.args.c.now.events c.args.c.now.free c.in_ok-points.points.items made in
-    joined (Begin (renamed.text_in T c.args.c.now.name)) Close
+    joined (Begin (record { prompt = c.args.c.now.prompt; name = renamed.text_in T c.args.c.now.name })) Close
     (said.events T c.args.c.now.variables c.args.c.now.events) (said.free T c.args.c.now.free)
     (map Between (from.distances_from (from.points_in (renamed.renamed_chronicle (renamed.text_in T) (view.chronicle_of c.args.c.now))) c.args.c.now.bounds))
     (said.sets T c.args.c.now.variables c.args.c.now.sets) (said.differs T c.args.c.now.variables c.args.c.now.differs)
