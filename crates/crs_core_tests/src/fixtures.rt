@@ -60,6 +60,7 @@ fn one_then_other(
     let bounds = bounds(alloc, least)?;
     Ok(Chronicle {
         name: Sym(2),
+        prompt: false,
         line: 1,
         events,
         free: List::new(alloc),

@@ -32,9 +32,10 @@ const VALUES: &str = "a list of values stands in round brackets: in (VALUE, VALU
 const NO_STATEMENT: &str = "no statement begins so";
 
 /// The words with which statements begin.
-const KEYWORDS: [&[u8]; 8] = [
+const KEYWORDS: [&[u8]; 9] = [
     b"message",
     b"attribute",
+    b"prompt",
     b"chronicle",
     b"event",
     b"noevent",
@@ -47,6 +48,7 @@ const KEYWORDS: [&[u8]; 8] = [
 pub fn is_declared(word: &[u8]) -> bool {
     word == b"message".as_slice()
         || word == b"attribute".as_slice()
+        || word == b"prompt".as_slice()
         || word == b"chronicle".as_slice()
 }
 
@@ -88,6 +90,17 @@ fn chronicle(rest: &[Piece<'_>]) -> Result<(), Stop> {
     let rest = name(rest, "a chronicle's name is wanted here: chronicle NAME {")?;
     let rest = mark(rest, b'{', "a '{' is wanted behind a chronicle's name")?;
     end(rest, BEHIND)
+}
+
+/// A prompt chronicle, behind its first word.
+fn prompt(rest: &[Piece<'_>]) -> Result<(), Stop> {
+    match rest {
+        [piece, more @ ..] if piece.is_word(b"chronicle") => chronicle(more),
+        _ => Err(stop_before(
+            rest,
+            "behind 'prompt' a chronicle begins: prompt chronicle NAME {",
+        )),
+    }
 }
 
 fn point(rest: &[Piece<'_>]) -> Result<(), Stop> {
@@ -196,6 +209,8 @@ fn declared(word: &[u8], rest: &[Piece<'_>]) -> Result<(), Stop> {
         message(rest)
     } else if word == b"attribute".as_slice() {
         attribute(rest)
+    } else if word == b"prompt".as_slice() {
+        prompt(rest)
     } else {
         chronicle(rest)
     }

@@ -126,6 +126,7 @@ fn chronicle(
 {
     Ok(Chronicle {
         name: Sym(0),
+        prompt: false,
         line,
         events: two_events(alloc)?,
         free: one_point(alloc)?,

@@ -137,6 +137,7 @@ fn undervolt(alloc: Global) -> Result<Chronicle, AllocError>
 {
     Ok(Chronicle {
         name: Sym(0),
+        prompt: false,
         line: 5,
         events: two_events(alloc)?,
         free: List::new(alloc),

@@ -24,6 +24,7 @@ plain name point = record { pattern = record { name = name; terms = []; change =
 abbrev model : Chronicle (List ℕ)
 model = record {
   name = codes "c";
+  prompt = false;
   line = 7;
   events = plain (codes "a") (codes "t1") ∷ plain (codes "b") (codes "t2") ∷ [];
   free = [];
