@@ -4,7 +4,7 @@ use Rattle.crs_base.specs.Entry.{Entry}
 use Rattle.crs_base.specs.Lines.{Line, bytes_of, is_long}
 use Rattle.crs_base.specs.Symbols.{with_texts}
 use Rattle.crs_model.specs.Models.{Name}
-use Rattle.crs_model.specs.Order.{dated_before}
+use Rattle.crs_model.specs.Order.{arrived, dated_before, in_key_order}
 use Rattle.crs_model.specs.declared.recognition.Mark.{Mark}
 use Rattle.crs_model.specs.declared.recognition.Mark.TheVariants.{Clock as AtClock, Finish as AtEnd}
 use Rattle.crs_log.specs.Items.{Item, Delay, Clock, Finish, Happens, Event}
@@ -18,18 +18,20 @@ pub record Setting : Type 0 where
   pub symbols : ℕ
   pub entries : ℕ
 
+-- `marked` is how many entries were accepted by the last mark
 pub record State : Type 0 where
   pub texts : List (List ℕ)
   pub delay : ℕ
   pub last : ℕ
   pub horizon : ℕ
   pub accepted : List (Entry (List ℕ))
+  pub marked : ℕ
   pub met : Bool
   pub ended : Bool
 
 -- the known texts are those of the models
 abbrev pub at_start : List (List ℕ) → State
-at_start texts = record { texts = texts; delay = 0; last = 0; horizon = 0; accepted = []; met = false; ended = false }
+at_start texts = record { texts = texts; delay = 0; last = 0; horizon = 0; accepted = []; marked = 0; met = false; ended = false }
 
 pub data Fault : Type 0 where
   TooLong : Fault
@@ -89,8 +91,8 @@ after_verdict c s e (Named place) = after_named c s e
 -- an item that stands in order
 abbrev pub after_ordered : Setting → State → Item → State × Outcome
 after_ordered c s (Delay d) = (record s { delay = d }, Passed)
-after_ordered c s (Clock t) = cond (nat_lt t s.last) (s, Refused (Back t s.last)) (record s { last = t; horizon = horizon_at s t }, Marked (AtClock t))
-after_ordered c s Finish = (record s { last = end_date; horizon = end_date; ended = true }, Marked AtEnd)
+after_ordered c s (Clock t) = cond (nat_lt t s.last) (s, Refused (Back t s.last)) (record s { last = t; horizon = horizon_at s t; marked = length s.accepted }, Marked (AtClock t))
+after_ordered c s Finish = (record s { last = end_date; horizon = end_date; ended = true; marked = length s.accepted }, Marked AtEnd)
 after_ordered c s (Happens e) = cond (nat_lt e.date s.horizon) (s, Refused (Late e.date s.horizon)) (after_verdict c s e (known_of c.names e))
 
 abbrev pub is_met : State → State
@@ -126,3 +128,7 @@ outcomes c s (l ∷ ls) = (after_line c s l).1 ∷ outcomes c (after_line c s l)
 -- the accepted entries dated before the horizon, in key order
 abbrev pub settled : State → List (Entry (List ℕ))
 settled s = dated_before s.horizon s.accepted
+
+-- the entries that were accepted by the last mark, in key order
+abbrev pub marked_entries : State → List (Entry (List ℕ))
+marked_entries s = in_key_order (arrived s.marked s.accepted)
