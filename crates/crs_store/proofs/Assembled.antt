@@ -17,12 +17,15 @@ use Rattle.crs_store.specs.Forkings.{KeepsStanding}
 use Rattle.std.specs.Prelude.{Bool, false}
 use Rattle.crs_store.specs.Hooks.{AreHooks, key_of}
 use Rattle.crs_store.specs.Joins.{ComesTo, Renews}
-use Rattle.crs_store.specs.Links.{hook_at}
+use Rattle.crs_store.specs.Links.{linked_by, AreLinked, hook_at}
 use Rattle.crs_store.specs.Ripenings.{AreLeft, LeftAt}
-use Rattle.crs_store.specs.Slots.{SlotsState, slot_at, members}
+use Rattle.crs_store.specs.Slots.{SlotsState, slot_at, handle_at, members}
 use Rattle.crs_store.specs.Sweeps.{IsDone}
 use Rattle.crs_store.specs.Stores.{AllOf, IsStore}
 use Rattle.crs_store.specs.Tidy.{IsKnown, IsTidy, IsTidyHolding}
+use Rattle.crs_store.specs.Windows.{IsAble}
+use Rattle.std.specs.List.{AllByRecursion}
+use Rattle.crs_store.proofs.Linked.{linked_earlier}
 use Rattle.crs_store.proofs.Standing.{zip_length}
 use Rattle.crs_store.proofs.Members.{member_at}
 
@@ -45,6 +48,13 @@ module _ (plan : Plan) (focus : Bool) (hooks : Hooks) (holding : Holding) (d : �
         };
     stood = tidy.stood;
   }
+
+  pub tidy_able : AllByRecursion (IsAble plan focus d) (members holding.slots.slots)
+  tidy_able = each_from_in (IsAble plan focus d) (members holding.slots.slots) (λ i k. let r = member_at holding.slots.slots i k in (tidy.known r.0 i r.1).able)
+
+  -- what may take an entry of a date waits for it
+  pub tidy_linked : (x : ℕ) → x ≤ linked_by plan d → AreLinked plan focus hooks.events.items holding.slots holding.waiting x
+  tidy_linked x l p i is = linked_earlier plan focus hooks.events.items holding.waiting (handle_at holding.slots p) i x (linked_by plan d) l (tidy.known p i is).linked
 
 -- ---- costs
 
@@ -98,4 +108,4 @@ root_held i old new none c = by c.0 c.1 (sym c.2 ∙ none) c.3
 
 module _ (plan : Plan) (hooks : Hooks) (number : ℕ) (focus stopped : Bool) (was : List InstanceState) (since : ℕ) (is : IsStore (record { plan = plan; number = number; focus = focus; held = was; date = since; stopped = stopped })) (are : AreHooks plan hooks.events.items hooks.windows.items) (holding : Holding) (d : ℕ) where
   pub tidy_at_mark : d ≤ 2 ^ 42 → IsTidyHolding plan focus hooks holding d → IsStore (record { plan = plan; number = number; focus = focus; held = members holding.slots.slots; date = d; stopped = stopped }) × AreHooks plan hooks.events.items hooks.windows.items × (stopped ≡ false → IsTidyHolding plan focus hooks holding d)
-  tidy_at_mark small tidy = (record { proper = is.proper; instances = tidy_all plan focus hooks holding d tidy; early = small }, are, λ e. tidy)
+  tidy_at_mark small tidy = (record { proper = is.proper; instances = tidy_all plan focus hooks holding d tidy; early = small; flat = is.flat }, are, λ e. tidy)

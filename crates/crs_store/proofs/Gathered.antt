@@ -38,7 +38,6 @@ use Rattle.crs_store.specs.Slots.{SlotsState, slot_at, handle_at, members}
 use Rattle.crs_store.specs.Stores.{parts, AllOf}
 use Rattle.crs_store.specs.Levels.{levels_in}
 use Rattle.crs_store.specs.Scannings.{Adds, AreForksAt}
-use Rattle.crs_store.specs.Sweeps.{IsOverNow}
 use Rattle.crs_store.specs.Windows.{IsAble, IsOpenAt, IsOver}
 use Rattle.crs_store.proofs.Chosen.{Ascends, standing_part, standing_in, part_few, part_map, part_ordered}
 use Rattle.crs_store.proofs.Fitting.{inside_window, fits_hook, fits_waits}
@@ -131,20 +130,20 @@ module _ (level : ℕ → ℕ) (Fine : Partial Sym → Type 0) (closed : (b : Pa
 -- ---- the places, one after another
 
 -- what came of the places that aren't left
-pub record IsSwept (plan : Plan) (focus : Bool) (history : HistoryState) (x : Entry Sym) (until : ℕ) (slots : SlotsState) (e : ℕ) (all rest : List ℕ) (out : List InstanceState) (start now : ℕ) : Type 0 where
+pub record IsSwept (plan : Plan) (focus : Bool) (history : HistoryState) (x : Entry Sym) (since until : ℕ) (slots : SlotsState) (e : ℕ) (all rest : List ℕ) (out : List InstanceState) (start now : ℕ) : Type 0 where
   pub done : List InstanceState
   pub split : standing slots.slots all ≡ done ++ standing slots.slots rest
   pub sorted : Ascends rest → Ascends all
   pub of : AllOf plan out
   pub able : AllByRecursion (IsAble plan focus until) out
-  pub image : ComeOf (IsForkWith (levels_in plan focus) x e) plan focus history x until (members slots.slots) done out
+  pub image : ComeOf (IsForkWith (levels_in plan focus) x e) plan focus history x since until (members slots.slots) done out
   pub cost : focus ≡ false → now ≤ start + length done
 
 -- the list grew by that
-pub record AddsSwept (plan : Plan) (focus : Bool) (history : HistoryState) (x : Entry Sym) (until : ℕ) (slots : SlotsState) (e : ℕ) (all rest : List ℕ) (old new : List InstanceState) (start now : ℕ) : Type 0 where
+pub record AddsSwept (plan : Plan) (focus : Bool) (history : HistoryState) (x : Entry Sym) (since until : ℕ) (slots : SlotsState) (e : ℕ) (all rest : List ℕ) (old new : List InstanceState) (start now : ℕ) : Type 0 where
   pub more : List InstanceState
   pub grown : new ≡ old ++ more
-  pub swept : IsSwept plan focus history x until slots e all rest more start now
+  pub swept : IsSwept plan focus history x since until slots e all rest more start now
 
 standing_back : (xs : List (Option InstanceState)) (ps : List ℕ) (i : InstanceState) → IsIn i (standing xs ps) → IsIn i (members xs)
 standing_back xs [] i j = absurd j
@@ -158,11 +157,11 @@ standing_back xs (p ∷ ps) i j = elim (in_append (option_to_list (slice_index_o
     by (Some f) s (inl k) = at_member xs p i (s ∙ ap Some (sym k))
     by (Some f) s (inr k) = absurd k
 
-module _ (plan : Plan) (focus : Bool) (history : HistoryState) (x : Entry Sym) (until : ℕ) (slots : SlotsState) (e : ℕ) where
+module _ (plan : Plan) (focus : Bool) (history : HistoryState) (x : Entry Sym) (since until : ℕ) (slots : SlotsState) (e : ℕ) where
   sorted_back : (all : List ℕ) (p : ℕ) (rest left : List ℕ) → rest ≡ p ∷ left → AllByRecursion (λ q. p < q) left → (Ascends rest → Ascends all) → Ascends left → Ascends all
   sorted_back all p rest left s above h o = h (subst Ascends (sym s) (above, o))
 
-  pub swept_skip : (all : List ℕ) (p : ℕ) (rest left : List ℕ) (out : List InstanceState) (start now : ℕ) → rest ≡ p ∷ left → AllByRecursion (λ q. p < q) left → slot_at slots p ≡ None → IsSwept plan focus history x until slots e all rest out start now → IsSwept plan focus history x until slots e all left out start now
+  pub swept_skip : (all : List ℕ) (p : ℕ) (rest left : List ℕ) (out : List InstanceState) (start now : ℕ) → rest ≡ p ∷ left → AllByRecursion (λ q. p < q) left → slot_at slots p ≡ None → IsSwept plan focus history x since until slots e all rest out start now → IsSwept plan focus history x since until slots e all left out start now
   swept_skip all p rest left out start now s above none h = record {
     done = h.done;
     split = h.split ∙ ap (λ (t : List ℕ). h.done ++ standing slots.slots t) s ∙ ap (λ (o : Option InstanceState). h.done ++ (option_to_list o ++ standing slots.slots left)) none;
@@ -189,7 +188,7 @@ module _ (plan : Plan) (focus : Bool) (history : HistoryState) (x : Entry Sym) (
       by (a ∷ these) those k (inr m) = by these those k.1 m
 
   pub swept_more : (all : List ℕ) (p : ℕ) (rest left : List ℕ) (i : InstanceState) (out new : List InstanceState) (start now next : ℕ) → rest ≡ p ∷ left → AllByRecursion (λ q. p < q) left → Ascends left → slot_at slots p ≡ Some i → (focus ≡ false → next ≤ now + 1)
-      → Adds plan focus until (AreForksAt plan focus history x until i e) out new → IsSwept plan focus history x until slots e all rest out start now → IsSwept plan focus history x until slots e all left new start next
+      → Adds plan focus until (AreForksAt plan focus history x since until i e) out new → IsSwept plan focus history x since until slots e all rest out start now → IsSwept plan focus history x since until slots e all left new start next
   swept_more all p rest left i out new start now next s above ascends here step adds h =
       let split : standing slots.slots all ≡ h.done ++ (i ∷ standing slots.slots left) = h.split ∙ ap (λ (t : List ℕ). h.done ++ standing slots.slots t) s ∙ ap (λ (q : Option InstanceState). h.done ++ (option_to_list q ++ standing slots.slots left)) here in
       let sorted = sorted_back all p rest left s above h.sorted in
@@ -199,27 +198,27 @@ module _ (plan : Plan) (focus : Bool) (history : HistoryState) (x : Entry Sym) (
         sorted = sorted;
         of = subst (AllOf plan) (sym adds.grown) (all_append (IsOf plan) out adds.more h.of adds.of);
         able = subst (AllByRecursion (IsAble plan focus until)) (sym adds.grown) (all_append (IsAble plan focus until) out adds.more h.able adds.able);
-        image = subst (λ (t : List InstanceState). ComeOf (IsForkWith (levels_in plan focus) x e) plan focus history x until (members slots.slots) (h.done ++ i ∷ []) t) (sym adds.grown) (λ entries now later over ready.
+        image = subst (λ (t : List InstanceState). ComeOf (IsForkWith (levels_in plan focus) x e) plan focus history x since until (members slots.slots) (h.done ++ i ∷ []) t) (sym adds.grown) (λ pool entries now later over ready.
             let member = at_member slots.slots p i here in
-            let closed_in : (j : InstanceState) → IsIn j (members slots.slots) → IsLevelClosed (levels_in plan focus) j.partial = (λ j k. (in_from_each (IsOverNow plan focus entries x) (members slots.slots) over j k).closed) in
-            let f = adds.are entries now later (in_from_each (IsOverNow plan focus entries x) (members slots.slots) over i member) in
-            let k = h.image entries now later over ready in (
-              with_one_more (levels_in plan focus) (IsOpenAt plan focus entries entries until) (λ b o. o.closed) (λ b o. o.partial.distinct) x e h.done i out adds.more
+            let closed_in : (j : InstanceState) → IsIn j (members slots.slots) → IsLevelClosed (levels_in plan focus) j.partial = (λ j k. (in_from_each (IsOver plan focus pool entries since) (members slots.slots) over j k).closed) in
+            let f = adds.are pool entries now later (in_from_each (IsOver plan focus pool entries since) (members slots.slots) over i member) in
+            let k = h.image pool entries now later over ready in (
+              with_one_more (levels_in plan focus) (IsOpenAt plan focus pool entries until) (λ b o. o.closed) (λ b o. o.partial.distinct) x e h.done i out adds.more
                   (λ a j. let r = in_map_back (λ (s : InstanceState). s.partial) h.done a j in
                   subst (IsLevelClosed (levels_in plan focus)) (sym r.2) (closed_in r.0 (standing_back slots.slots all r.0 (subst (IsIn r.0) (sym split) (in_append_left h.done (i ∷ standing slots.slots left) r.0 r.1)))))
                   (closed_in i member)
                   (apart_from all h.done i (standing slots.slots left) (sorted ascends) split ready.1) k.0 f.0,
-              all_append (IsOver plan focus entries entries until) out adds.more k.1 f.1,
+              all_append (IsOver plan focus pool entries until) out adds.more k.1 f.1,
             ));
         cost = λ flat. let c = h.cost flat in let d = step flat in omega (arith, length-append h.done (i ∷ []));
       }
 
   -- where the loop is left
-  pub swept_within : (all rest : List ℕ) (out : List InstanceState) (start now : ℕ) → Ascends rest → IsSwept plan focus history x until slots e all rest out start now → focus ≡ false → now ≤ start + length (members slots.slots)
+  pub swept_within : (all rest : List ℕ) (out : List InstanceState) (start now : ℕ) → Ascends rest → IsSwept plan focus history x since until slots e all rest out start now → focus ≡ false → now ≤ start + length (members slots.slots)
   swept_within all rest out start now o h flat = let c = h.cost flat in let f = few all h.done (standing slots.slots rest) (h.sorted o) h.split in omega arith
 
   pub swept_next : (all : List ℕ) (p : ℕ) (rest left : List ℕ) (i : InstanceState) (out : List InstanceState) (start now next : ℕ) → rest ≡ p ∷ left → AllByRecursion (λ q. p < q) left → Ascends left → slot_at slots p ≡ Some i → (focus ≡ false → next ≤ now + 1)
-      → IsSwept plan focus history x until slots e all rest out start now → focus ≡ false → next ≤ start + length (members slots.slots)
+      → IsSwept plan focus history x since until slots e all rest out start now → focus ≡ false → next ≤ start + length (members slots.slots)
   swept_next all p rest left i out start now next s above ascends here step h flat =
       let split : standing slots.slots all ≡ h.done ++ (i ∷ standing slots.slots left) = h.split ∙ ap (λ (t : List ℕ). h.done ++ standing slots.slots t) s ∙ ap (λ (q : Option InstanceState). h.done ++ (option_to_list q ++ standing slots.slots left)) here in
       let c = h.cost flat in
@@ -227,13 +226,13 @@ module _ (plan : Plan) (focus : Bool) (history : HistoryState) (x : Entry Sym) (
       let f = few all h.done (i ∷ standing slots.slots left) (sorted_back all p rest left s above h.sorted ascends) split in
       omega arith
 
-  pub swept_whole : (all rest : List ℕ) (out : List InstanceState) (start now : ℕ) → rest ≡ [] → IsSwept plan focus history x until slots e all rest out start now → AreForksOfPlaces plan focus history x until slots e all out
+  pub swept_whole : (all rest : List ℕ) (out : List InstanceState) (start now : ℕ) → rest ≡ [] → IsSwept plan focus history x since until slots e all rest out start now → AreForksOfPlaces plan focus history x since until slots e all out
   swept_whole all rest out start now s h =
-      subst (λ (t : List InstanceState). ComeOf (IsForkWith (levels_in plan focus) x e) plan focus history x until (members slots.slots) t out) (sym (h.split ∙ ap (λ (t : List ℕ). h.done ++ standing slots.slots t) s ∙ append-nil h.done)) h.image
+      subst (λ (t : List InstanceState). ComeOf (IsForkWith (levels_in plan focus) x e) plan focus history x since until (members slots.slots) t out) (sym (h.split ∙ ap (λ (t : List ℕ). h.done ++ standing slots.slots t) s ∙ append-nil h.done)) h.image
 
   -- ---- the same, where it is added to a list
 
-  pub adds_swept_none : (all : List ℕ) (old : List InstanceState) (start : ℕ) → AddsSwept plan focus history x until slots e all all old old start start
+  pub adds_swept_none : (all : List ℕ) (old : List InstanceState) (start : ℕ) → AddsSwept plan focus history x since until slots e all all old old start start
   adds_swept_none all old start = record {
     more = [];
     grown = sym (append-nil old);
@@ -243,20 +242,20 @@ module _ (plan : Plan) (focus : Bool) (history : HistoryState) (x : Entry Sym) (
       sorted = λ o. o;
       of = tt;
       able = tt;
-      image = λ entries now later over ready. (record { distinct = tt; sound = λ y k. absurd k; complete = λ a y k f. absurd k }, tt);
+      image = λ pool entries now later over ready. (record { distinct = tt; sound = λ y k. absurd k; complete = λ a y k f. absurd k }, tt);
       cost = λ flat. omega arith;
     };
   }
 
   pub adds_swept_more : (all : List ℕ) (p : ℕ) (rest left : List ℕ) (i : InstanceState) (old out new : List InstanceState) (start now next : ℕ) → rest ≡ p ∷ left → AllByRecursion (λ q. p < q) left → Ascends left → slot_at slots p ≡ Some i → (focus ≡ false → next ≤ now + 1)
-      → Adds plan focus until (AreForksAt plan focus history x until i e) out new → AddsSwept plan focus history x until slots e all rest old out start now → AddsSwept plan focus history x until slots e all left old new start next
+      → Adds plan focus until (AreForksAt plan focus history x since until i e) out new → AddsSwept plan focus history x since until slots e all rest old out start now → AddsSwept plan focus history x since until slots e all left old new start next
   adds_swept_more all p rest left i old out new start now next s above ascends here step adds h = record {
     more = h.more ++ adds.more;
     grown = adds.grown ∙ ap (λ (t : List InstanceState). t ++ adds.more) h.grown ∙ append_assoc old h.more adds.more;
     swept = swept_more all p rest left i h.more (h.more ++ adds.more) start now next s above ascends here step (record { more = adds.more; grown = refl; of = adds.of; able = adds.able; are = adds.are }) h.swept;
   }
 
-  pub adds_swept_whole : (all rest : List ℕ) (old new : List InstanceState) (start now : ℕ) → rest ≡ [] → AddsSwept plan focus history x until slots e all rest old new start now → Adds plan focus until (AreForksOfPlaces plan focus history x until slots e all) old new
+  pub adds_swept_whole : (all rest : List ℕ) (old new : List InstanceState) (start now : ℕ) → rest ≡ [] → AddsSwept plan focus history x since until slots e all rest old new start now → Adds plan focus until (AreForksOfPlaces plan focus history x since until slots e all) old new
   adds_swept_whole all rest old new start now s h = record { more = h.more; grown = h.grown; of = h.swept.of; able = h.swept.able; are = swept_whole all rest h.more start now s h.swept }
 
   -- ---- from the candidates to all
@@ -270,12 +269,12 @@ module _ (plan : Plan) (focus : Bool) (history : HistoryState) (x : Entry Sym) (
       by (v ∷ vs) (suc k) m = by vs k (omega arith)
 
   module _ (proper : IsProper plan) (all : AllOf plan (members slots.slots)) (inside : e < length plan.chronicle.events) (hook : Hook) (hooked : IsHookAt plan e hook) where
-    module _ (entries : List (Entry Sym)) (i : InstanceState) (j : IsIn i (members slots.slots)) (y : Partial Sym) (f : IsForkWith (levels_in plan focus) x e (IsOpenAt plan focus entries entries until) i.partial y) where
+    module _ (pool entries : List (Entry Sym)) (i : InstanceState) (j : IsIn i (members slots.slots)) (y : Partial Sym) (f : IsForkWith (levels_in plan focus) x e (IsOpenAt plan focus pool entries until) i.partial y) where
       of_one : IsOf plan i
       of_one = in_from_each (IsOf plan) (members slots.slots) all i j
 
       can_one : CanBe plan (put i.partial e x)
-      can_one = beginnings_can_be plan (levels_in plan focus) entries entries until (put i.partial e x) y (f.1).part (f.1).len f.2
+      can_one = beginnings_can_be plan (levels_in plan focus) pool entries until (put i.partial e x) y (f.1).part (f.1).len f.2
 
       name_one : hook.name ≡ x.name
       name_one = let v = event_there inside in fits_hook plan proper i of_one e x inside (f.0).unbound can_one hook hooked v.0 v.1
@@ -291,28 +290,28 @@ module _ (plan : Plan) (focus : Bool) (history : HistoryState) (x : Entry Sym) (
           ]) m.1
 
     -- where the name is another
-    pub none_named : (hook.name ≡ x.name → ⊥) → AreForksOfEvent plan focus history x until slots e []
-    none_named other = λ entries now later over ready. (
+    pub none_named : (hook.name ≡ x.name → ⊥) → AreForksOfEvent plan focus history x since until slots e []
+    none_named other = λ pool entries now later over ready. (
       record {
         distinct = tt;
         sound = λ y k. absurd k;
         complete = λ a y k f.
             let r = in_map_back (λ (s : InstanceState). s.partial) (members slots.slots) a k in
-            absurd (other (name_one entries r.0 r.1 y (subst (λ (z : Partial Sym). IsForkWith (levels_in plan focus) x e (IsOpenAt plan focus entries entries until) z y) r.2 f)));
+            absurd (other (name_one pool entries r.0 r.1 y (subst (λ (z : Partial Sym). IsForkWith (levels_in plan focus) x e (IsOpenAt plan focus pool entries until) z y) r.2 f)));
       },
       tt,
     )
 
     -- the candidates are enough
     pub all_found : (index : IndexState) (places : List ℕ) (out : List InstanceState) → AreLinkedAt plan focus hook slots index e x.date → AreCandidates slots index (key_with e None) e x.date places → AreCandidates slots index (key_with e (picked_argument hook.pick x.args)) e x.date places
-        → AreForksOfPlaces plan focus history x until slots e places out → AreForksOfEvent plan focus history x until slots e out
-    all_found index places out linked lacking having h = λ entries now later over ready.
-        let k = h entries now later over ready in (
-          widen (IsForkWith (levels_in plan focus) x e (IsOpenAt plan focus entries entries until)) (parts (standing slots.slots places)) (parts (members slots.slots)) (parts out)
+        → AreForksOfPlaces plan focus history x since until slots e places out → AreForksOfEvent plan focus history x since until slots e out
+    all_found index places out linked lacking having h = λ pool entries now later over ready.
+        let k = h pool entries now later over ready in (
+          widen (IsForkWith (levels_in plan focus) x e (IsOpenAt plan focus pool entries until)) (parts (standing slots.slots places)) (parts (members slots.slots)) (parts out)
               (λ a j. let r = in_map_back (λ (s : InstanceState). s.partial) (standing slots.slots places) a j in subst (λ (z : Partial Sym). IsIn z (parts (members slots.slots))) (sym r.2) (in_map (λ (s : InstanceState). s.partial) (members slots.slots) r.0 (standing_back slots.slots places r.0 r.1)))
               (λ a y j f. let r = in_map_back (λ (s : InstanceState). s.partial) (members slots.slots) a j in
               subst (λ (z : Partial Sym). IsIn z (parts (standing slots.slots places))) (sym r.2) (in_map (λ (s : InstanceState). s.partial) (standing slots.slots places) r.0
-              (found_one entries r.0 r.1 y (subst (λ (z : Partial Sym). IsForkWith (levels_in plan focus) x e (IsOpenAt plan focus entries entries until) z y) r.2 f) index places linked lacking having)))
+              (found_one pool entries r.0 r.1 y (subst (λ (z : Partial Sym). IsForkWith (levels_in plan focus) x e (IsOpenAt plan focus pool entries until) z y) r.2 f) index places linked lacking having)))
               k.0,
           k.1,
         )
@@ -320,39 +319,39 @@ module _ (plan : Plan) (focus : Bool) (history : HistoryState) (x : Entry Sym) (
 -- ---- all events
 
 -- what came of the events below n
-pub record AreGathered (plan : Plan) (focus : Bool) (history : HistoryState) (x : Entry Sym) (until : ℕ) (slots : SlotsState) (n : ℕ) (out : List InstanceState) : Type 0 where
+pub record AreGathered (plan : Plan) (focus : Bool) (history : HistoryState) (x : Entry Sym) (since until : ℕ) (slots : SlotsState) (n : ℕ) (out : List InstanceState) : Type 0 where
   pub of : AllOf plan out
   pub able : AllByRecursion (IsAble plan focus until) out
-  pub image : ComeOf (IsForkBelow (levels_in plan focus) x n) plan focus history x until (members slots.slots) (members slots.slots) out
+  pub image : ComeOf (IsForkBelow (levels_in plan focus) x n) plan focus history x since until (members slots.slots) (members slots.slots) out
 
-module _ (plan : Plan) (focus : Bool) (history : HistoryState) (x : Entry Sym) (until : ℕ) (slots : SlotsState) where
+module _ (plan : Plan) (focus : Bool) (history : HistoryState) (x : Entry Sym) (since until : ℕ) (slots : SlotsState) where
   member_long : AllOf plan (members slots.slots) → (a : Partial Sym) → IsIn a (parts (members slots.slots)) → length a ≡ length plan.chronicle.events
   member_long all a j = let r = in_map_back (λ (s : InstanceState). s.partial) (members slots.slots) a j in ap length r.2 ∙ (in_from_each (IsOf plan) (members slots.slots) all r.0 r.1).len
 
-  pub gathered_none : (out : List InstanceState) → out ≡ [] → AreGathered plan focus history x until slots 0 out
+  pub gathered_none : (out : List InstanceState) → out ≡ [] → AreGathered plan focus history x since until slots 0 out
   gathered_none out none = rw none (record {
     of = tt;
     able = tt;
-    image = λ entries now later over ready. (record { distinct = tt; sound = λ y k. absurd k; complete = λ a y k f. absurd (let l = f.1 in omega arith) }, tt);
+    image = λ pool entries now later over ready. (record { distinct = tt; sound = λ y k. absurd k; complete = λ a y k f. absurd (let l = f.1 in omega arith) }, tt);
   })
 
-  pub gathered_more : (n : ℕ) → (out more new : List InstanceState) → new ≡ out ++ more → AllOf plan more → AllByRecursion (IsAble plan focus until) more → AreForksOfEvent plan focus history x until slots n more → AreGathered plan focus history x until slots n out → AreGathered plan focus history x until slots (n + 1) new
+  pub gathered_more : (n : ℕ) → (out more new : List InstanceState) → new ≡ out ++ more → AllOf plan more → AllByRecursion (IsAble plan focus until) more → AreForksOfEvent plan focus history x since until slots n more → AreGathered plan focus history x since until slots n out → AreGathered plan focus history x since until slots (n + 1) new
   gathered_more n out more new is of able image h = rw is (record {
     of = all_append (IsOf plan) out more h.of of;
     able = all_append (IsAble plan focus until) out more h.able able;
-    image = λ entries now later over ready.
-        let a = h.image entries now later over ready in
-        let b = image entries now later over ready in (
-          subst (λ (t : List (Partial Sym)). IsImage (IsForkBelow (levels_in plan focus) x (n + 1) (IsOpenAt plan focus entries entries until)) (parts (members slots.slots)) t) (sym (map-append (λ (s : InstanceState). s.partial) out more))
-              (below_more (levels_in plan focus) (IsOpenAt plan focus entries entries until) (λ b o. o.closed) (λ b o. o.partial.distinct) x (parts (members slots.slots)) (parts out) (parts more) n a.0 b.0),
-          all_append (IsOver plan focus entries entries until) out more a.1 b.1,
+    image = λ pool entries now later over ready.
+        let a = h.image pool entries now later over ready in
+        let b = image pool entries now later over ready in (
+          subst (λ (t : List (Partial Sym)). IsImage (IsForkBelow (levels_in plan focus) x (n + 1) (IsOpenAt plan focus pool entries until)) (parts (members slots.slots)) t) (sym (map-append (λ (s : InstanceState). s.partial) out more))
+              (below_more (levels_in plan focus) (IsOpenAt plan focus pool entries until) (λ b o. o.closed) (λ b o. o.partial.distinct) x (parts (members slots.slots)) (parts out) (parts more) n a.0 b.0),
+          all_append (IsOver plan focus pool entries until) out more a.1 b.1,
         );
   })
 
-  pub gathered_all : AllOf plan (members slots.slots) → (n : ℕ) (out : List InstanceState) → n ≡ length plan.chronicle.events → AreGathered plan focus history x until slots n out → AreForksOfAll plan focus history x until (members slots.slots) out
-  gathered_all all n out s h = λ entries now later over ready.
-      let a = h.image entries now later over ready in
-      (below_all (levels_in plan focus) (IsOpenAt plan focus entries entries until) (λ b o. o.closed) (λ b o. o.partial.distinct) x (parts (members slots.slots)) (parts out) n (λ z j. member_long all z j ∙ sym s) a.0, a.1)
+  pub gathered_all : AllOf plan (members slots.slots) → (n : ℕ) (out : List InstanceState) → n ≡ length plan.chronicle.events → AreGathered plan focus history x since until slots n out → AreForksOfAll plan focus history x since until (members slots.slots) out
+  gathered_all all n out s h = λ pool entries now later over ready.
+      let a = h.image pool entries now later over ready in
+      (below_all (levels_in plan focus) (IsOpenAt plan focus pool entries until) (λ b o. o.closed) (λ b o. o.partial.distinct) x (parts (members slots.slots)) (parts out) n (λ z j. member_long all z j ∙ sym s) a.0, a.1)
 
 -- ---- what they cost
 

@@ -11,7 +11,7 @@ use Rattle.crs_base.specs.Entry.{Entry}
 use Rattle.crs_model.specs.declared.plan.Plan.{Plan}
 use Rattle.crs_model.specs.Models.{EventDef}
 use Rattle.crs_model.specs.Matching.{PatternIs}
-use Rattle.crs_model.specs.Partial.{Partial, at, IsAwaited, dates_of}
+use Rattle.crs_model.specs.Partial.{Partial, at, IsAwaited, CanGoOn, dates_of}
 use Rattle.crs_model.specs.Plans.{chronicle, IsProper}
 use Rattle.crs_model.specs.Seen.{event_of}
 use Rattle.std.proofs.lemmas.List.{length-map}
@@ -21,6 +21,7 @@ use Rattle.crs_model.proofs.Parts.{agrees_part, agrees_at}
 use Rattle.crs_instance.specs.Instances.{InstanceState, IsOf, window_at}
 use Rattle.crs_store.specs.Ahead.{IsWanted, AreAhead, IsHopeless, MayGo}
 use Rattle.crs_store.specs.Levels.{levels_in}
+use Rattle.crs_store.specs.Windows.{IsAble}
 
 pub item_at : {A : Type 0} (xs : List A) (k : ℕ) → k < length xs → (x : A) × (slice_get xs k ≡ Some x)
 item_at [] k l = absurd (omega arith)
@@ -85,6 +86,15 @@ module _ (plan : Plan) (proper : IsProper plan) (pool entries later ahead : List
 
 pub hopeless_unwanted : (plan : Plan) → IsProper plan → (focus : Bool) (pool entries later ahead : List (Entry Sym)) (beyond h : ℕ) (i : InstanceState) → AreAhead ahead beyond later h → MayGo plan focus ahead beyond i → IsWanted (chronicle plan) (levels_in plan focus) pool entries later h i.partial → ⊥
 hopeless_unwanted plan proper focus pool entries later ahead beyond h i coming may w = hopeless_grown plan proper pool entries later ahead beyond h i coming may.1 (subst (λ (b : Bool). IsWanted (chronicle plan) (levels_in plan b) pool entries later h i.partial) may.0 w)
+
+-- what is able isn't hopeless where nothing is known of what comes next
+pub able_hopeful : (plan : Plan) → IsProper plan → (focus : Bool) (g : ℕ) (i : InstanceState) → IsAble plan focus g i → MayGo plan focus [] 0 i → ⊥
+able_hopeful plan proper focus g i able may =
+    let k = may.1 in
+    let can = subst (λ (b : Bool). CanGoOn (chronicle plan) (levels_in plan b) i.partial g) may.0 able.0 in
+    let point : k.event < plan.network.points = (let a = k.of.len in let b = proper.points in let c = k.within in omega arith) in
+    let latest : IsLatest plan.chronicle.bounds (dates_of i.partial) k.event (Some k.last) = subst (IsLatest plan.chronicle.bounds (dates_of i.partial) k.event) k.is_last (k.of.most k.event point) in
+    too_soon (can.0 k.event) k.last 0 g (latest.0 can.0 can.1 can.2) k.early (omega arith) (can.3 k.event (unbound_awaited plan i.partial k.event k.within k.unbound))
 
 -- ---- how it is found
 

@@ -7,6 +7,8 @@ pub mod Finding
 pub mod Ascending
 pub mod Advancing
 pub mod Progress
+pub mod Prompted
+pub mod Prompting
 pub mod Overs
 pub mod Awaiting
 pub mod Kept

@@ -1,6 +1,7 @@
 -- As handles are put under keys: the events and the windows of an instance, one after another.
-use Rattle.std.proofs.Common.{Bool, ◌≡◌, ℕ, ◌<◌, ◌≤◌, ◌+◌, List, [], ◌∷◌, length, refl, sym, subst, inl, inr, arith}
-use Rattle.std.specs.Prelude.{Option, Some, None, IfSome, slice_get}
+use Rattle.std.proofs.Common.{Bool, true, false, ◌≡◌, ◌⊎◌, ℕ, ◌<◌, ◌≤◌, ◌+◌, ◌^◌, List, [], ◌∷◌, length, refl, sym, subst, inl, inr, arith}
+use Rattle.std.specs.Prelude.{ℤ, pos, ◌≤ℤ◌, Option, Some, None, IfSome, slice_get, if◌then◌else◌}
+use Rattle.std.proofs.lemmas.Int.{ints}
 use Rattle.std.proofs.lemmas.Bool.{cases_lt}
 use Rattle.std.proofs.lemmas.List.{length-map}
 use Rattle.crs_agenda.specs.declared.timed.Handle.{Handle}
@@ -10,7 +11,7 @@ use Rattle.crs_index.specs.declared.key.Key.{Key}
 use Rattle.crs_index.specs.Indexes.{IndexState, Puts, IsSame, bucket_of}
 use Rattle.crs_index.proofs.Keys.{key_or_not, apart_from}
 use Rattle.crs_instance.specs.Followed.{IsStretchAt}
-use Rattle.crs_instance.specs.Instances.{InstanceState}
+use Rattle.crs_instance.specs.Instances.{InstanceState, window_at}
 use Rattle.crs_model.specs.declared.plan.Plan.{Plan}
 use Rattle.crs_model.specs.declared.progress.Stretch.{Stretch}
 use Rattle.crs_model.specs.Bindings.{look_of}
@@ -19,7 +20,7 @@ use Rattle.crs_model.specs.Seen.{window_of}
 use Rattle.crs_model.proofs.Options.{of_some, some_if, get_within}
 use Rattle.crs_store.specs.declared.hooks.Hook.{Hook}
 use Rattle.crs_store.specs.Hooks.{Waits, key_of}
-use Rattle.crs_store.specs.Links.{Grows, IsLinkedAnew, IsArmed, hook_at}
+use Rattle.crs_store.specs.Links.{linked_by, Grows, IsLinked, IsLinkedAnew, IsArmed, hook_at}
 use Rattle.crs_store.specs.Linkings.{IsLinkedAt, IsArmedAt}
 use Rattle.crs_store.specs.Slots.{SlotsState, slot_at, handle_at}
 
@@ -90,3 +91,22 @@ IsPlaceLinked plan focus hooks slots index since h p = (i : InstanceState) → s
 
 pub place_still : (plan : Plan) (focus : Bool) (hooks : List Hook) (slots : SlotsState) (old new : IndexState) (since h p : ℕ) → Grows old new → IsPlaceLinked plan focus hooks slots old since h p → IsPlaceLinked plan focus hooks slots new since h p
 place_still plan focus hooks slots old new since h p grown a i f e w s d = grown (key_of e (hook_at hooks e) (look_of i.binding)) (handle_at slots p) (a i f e w s d)
+
+-- ---- dates by which events can come
+
+start_later : (o : Option ℤ) (d h : ℕ) → d ≤ h → IfSome o (λ m. m ≤ℤ pos d) → IfSome o (λ m. m ≤ℤ pos h)
+start_later None d h l s = tt
+start_later (Some m) d h l s = omega (arith, ints)
+
+-- what waits for the events that can come by a date does for those that can by an earlier one
+pub linked_earlier : (plan : Plan) (focus : Bool) (hooks : List Hook) (index : IndexState) (handle : Handle) (i : InstanceState) (d h : ℕ) → d ≤ h → IsLinked plan focus hooks index handle h i → IsLinked plan focus hooks index handle d i
+linked_earlier plan focus hooks index handle i d h l linked e w can = linked e w (start_later (window_at i.windows e).least d h l can)
+
+-- and what was judged at a date waits for those that can come by it, and of a prompt chronicle for all
+pub within_linked : (plan : Plan) (d x : ℕ) → x < 2 ^ 40 → (x ≤ d) ⊎ (plan.chronicle.prompt ≡ true) → x ≤ linked_by plan d
+within_linked plan d x small l = by plan.chronicle.prompt l
+  where
+    by : (b : Bool) → (x ≤ d) ⊎ (b ≡ true) → x ≤ (if b then 2 ^ 42 else d)
+    by true m = omega arith
+    by false (inl m) = m
+    by false (inr e) = cc

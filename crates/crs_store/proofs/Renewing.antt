@@ -1,6 +1,6 @@
 -- What is known of the instances after those that are touched or due were judged anew.
-use Rattle.std.proofs.Common.{Bool, ◌≡◌, ◌⊎◌, ℕ, zero, suc, ◌<◌, ◌≤◌, ◌+◌, ◌^◌, List, length, refl, sym, ap, subst, ◌∙◌, inl, inr, arith, true}
-use Rattle.std.specs.Prelude.{ℤ, pos, ◌≤ℤ◌, ◌+ℤ◌, Option, Some, None, IfSome, slice_get, All, negsuc}
+use Rattle.std.proofs.Common.{Bool, ◌≡◌, ◌⊎◌, ℕ, zero, suc, ◌<◌, ◌≤◌, ◌+◌, ◌^◌, List, length, refl, sym, ap, subst, ◌∙◌, inl, inr, arith, true, false}
+use Rattle.std.specs.Prelude.{ℤ, pos, ◌≤ℤ◌, ◌+ℤ◌, Option, Some, None, IfSome, slice_get, All, negsuc, if◌then◌else◌}
 use Rattle.std.proofs.lemmas.Bool.{cases_lt}
 use Rattle.std.proofs.lemmas.Int.{ints}
 use Rattle.crs_agenda.specs.declared.timed.Handle.{Handle}
@@ -20,7 +20,7 @@ use Rattle.crs_store.specs.declared.hooks.Hook.{Hook}
 use Rattle.crs_store.specs.Dues.{AreDue, AreCollected, IsDue, IsUndue}
 use Rattle.crs_store.specs.Hooks.{Waits, KeepsFresh, key_of}
 use Rattle.crs_store.specs.Levels.{levels_in}
-use Rattle.crs_store.specs.Links.{CanStart, Grows, IsLinkedAnew, IsArmed, hook_at}
+use Rattle.crs_store.specs.Links.{linked_by, CanStart, Grows, IsLinkedAnew, IsArmed, hook_at}
 use Rattle.crs_store.specs.Slots.{SlotsState, slot_at, handle_at, Becomes}
 use Rattle.crs_store.specs.Sweeps.{IsDone}
 use Rattle.crs_store.specs.Tidy.{IsKnown, IsTidy}
@@ -59,6 +59,14 @@ starts_early plan focus i d h undue e w can = elim (start_or_later (window_at i.
       absurd (undue r.0 (inr (inr (e, (w, r.2)))) r.1 (omega (arith, ints)))
 ]
 
+-- the same of the date by which it is waited for
+pub starts_linked : (plan : Plan) (focus : Bool) (i : InstanceState) (d h : ℕ) → IsUndue plan focus i d h → (e : ℕ) → IsAwaited (levels_in plan focus) i.partial e → CanStart i e (linked_by plan h) → CanStart i e (linked_by plan d)
+starts_linked plan focus i d h undue e w can = by plan.chronicle.prompt can
+  where
+    by : (b : Bool) → CanStart i e (if b then 2 ^ 42 else h) → CanStart i e (if b then 2 ^ 42 else d)
+    by true c = c
+    by false c = starts_early plan focus i d h undue e w c
+
 -- ---- one instance
 
 module _ (plan : Plan) (focus : Bool) (proper : IsProper plan) (events windows : List Hook) (d h : ℕ) (later : d ≤ h) (small : h ≤ 2 ^ 42) (handle : Handle) (was index : IndexState) (keeps : (k : Key) → Waits was k handle → Waits index k handle) (old_pairs pairs : List Timed) (old_ripe ripe : List ℕ)
@@ -72,19 +80,19 @@ module _ (plan : Plan) (focus : Bool) (proper : IsProper plan) (events windows :
   stays_known undue due = record {
     of = known.of;
     able = undue_able plan focus i d h undue later proper known.of known.able;
-    linked = λ e w can. keeps (key_of e (hook_at events e) (look_of i.binding)) (known.linked e w (starts_early plan focus i d h undue e w can));
+    linked = λ e w can. keeps (key_of e (hook_at events e) (look_of i.binding)) (known.linked e w (starts_linked plan focus i d h undue e w can));
     armed = armed_later;
     due = dues_later plan focus i handle d pairs due h later;
     done = λ done. ripe_kept handle.place (known.done (undue_undone plan focus i d h undue later done));
   }
 
   -- it was looked at, and only the progress of its windows changed
-  pub becomes_known : (j : InstanceState) → IsSameInstance i j → IsAble plan focus h j → IsLinkedAnew plan focus events index handle (Some d) h j → (IsDone plan h j → IsIn handle.place ripe) → ((t : ℕ) → IsDue plan focus j t → h ≤ t → t < 2 ^ 42 → IsIn (record { date = t; handle = handle }) pairs) → IsKnown plan focus events windows index pairs ripe handle h j
+  pub becomes_known : (j : InstanceState) → IsSameInstance i j → IsAble plan focus h j → IsLinkedAnew plan focus events index handle (Some (linked_by plan d)) (linked_by plan h) j → (IsDone plan h j → IsIn handle.place ripe) → ((t : ℕ) → IsDue plan focus j t → h ≤ t → t < 2 ^ 42 → IsIn (record { date = t; handle = handle }) pairs) → IsKnown plan focus events windows index pairs ripe handle h j
   becomes_known j same able anew done due = record {
     of = still_of plan i j same known.of;
     able = able;
-    linked = λ e w can. elim (can_start_or_not j e d) [
-      | inl early ↦ keeps (key_of e (hook_at events e) (look_of j.binding)) (subst (λ (t : InstanceState). (f : ℕ) → IsAwaited (levels_in plan focus) t.partial f → CanStart t f d → Waits was (key_of f (hook_at events f) (look_of t.binding)) handle) (sym same.same) known.linked e w early)
+    linked = λ e w can. elim (can_start_or_not j e (linked_by plan d)) [
+      | inl early ↦ keeps (key_of e (hook_at events e) (look_of j.binding)) (subst (λ (t : InstanceState). (f : ℕ) → IsAwaited (levels_in plan focus) t.partial f → CanStart t f (linked_by plan d) → Waits was (key_of f (hook_at events f) (look_of t.binding)) handle) (sym same.same) known.linked e w early)
       | inr not ↦ anew e w can not
     ];
     armed = subst (λ (t : InstanceState). IsArmed plan windows index handle h t) (sym same.same) armed_later;
@@ -107,7 +115,7 @@ module _ (plan : Plan) (focus : Bool) (proper : IsProper plan) (events windows :
   apart_undue p i is apart = left_undue plan focus i (handle_at old p) d old_dues.pairs (tidy.known p i is).due h dues.pairs places collected apart small all
 
   module _ (R : InstanceState → InstanceState → Type 0) (same : (i j : InstanceState) → R i j → IsSameInstance i j) (at_places : (p : ℕ) → IsIn p places → Becomes R (IsAble plan focus h) (slot_at old p) (slot_at new p)) (others : (p : ℕ) → (IsIn p places → ⊥) → slot_at new p ≡ slot_at old p)
-      (handles : (p : ℕ) (j : InstanceState) → slot_at new p ≡ Some j → handle_at new p ≡ handle_at old p) (anew : (p : ℕ) → IsIn p places → (j : InstanceState) → slot_at new p ≡ Some j → IsLinkedAnew plan focus events index (handle_at new p) (Some d) h j)
+      (handles : (p : ℕ) (j : InstanceState) → slot_at new p ≡ Some j → handle_at new p ≡ handle_at old p) (anew : (p : ℕ) → IsIn p places → (j : InstanceState) → slot_at new p ≡ Some j → IsLinkedAnew plan focus events index (handle_at new p) (Some (linked_by plan d)) (linked_by plan h) j)
       (ripens : (p : ℕ) → IsIn p places → (j : InstanceState) → slot_at new p ≡ Some j → IsDone plan h j → IsIn p ripe) where
     -- what stands there was of something that stood there
     came_of : (o : Option InstanceState) (q : Option InstanceState) (j : InstanceState) → q ≡ Some j → Becomes R (IsAble plan focus h) o q → (i : InstanceState) × (o ≡ Some i) × R i j × IsAble plan focus h j
@@ -122,7 +130,7 @@ module _ (plan : Plan) (focus : Bool) (proper : IsProper plan) (events windows :
         let one = same r.0 j r.2 in
         let known = tidy.known p r.0 r.1 in becomes_known plan focus proper events windows d h later small (handle_at old p) was index (waits_on p r.0 r.1) old_dues.pairs dues.pairs old_ripe ripe ripe_kept
         r.0 known j one r.3
-        (subst (λ (g : Handle). IsLinkedAnew plan focus events index g (Some d) h j) (handles p j is) (anew p there j is)) (ripens p there j is)
+        (subst (λ (g : Handle). IsLinkedAnew plan focus events index g (Some (linked_by plan d)) (linked_by plan h) j) (handles p j is) (anew p there j is)) (ripens p there j is)
         (λ t due l m. elim (collected _ (same_dues plan focus r.0 j one (handle_at old p) d old_dues.pairs known.due t due (omega arith) m)) [ inl k ↦ k | inr k ↦ (let early = k.0 in absurd (omega arith)) ])
 
     known_apart : (p : ℕ) (j : InstanceState) → slot_at new p ≡ Some j → (IsIn p places → ⊥) → IsKnown plan focus events windows index dues.pairs ripe (handle_at old p) h j

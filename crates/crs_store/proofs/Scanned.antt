@@ -1,5 +1,5 @@
 -- What comes of an instance as events are decided on.
-use Rattle.std.proofs.Common.{Bool, get_or, ◌≡◌, ◌≢◌, ℕ, suc, ◌<◌, ◌≤◌, List, [], ◌∷◌, ◌++◌, length, refl, sym, ap, subst, ◌∙◌, inl, inr, ◌⊎◌, arith, length-append, length-set, append_assoc, append-nil}
+use Rattle.std.proofs.Common.{Bool, true, false, get_or, ◌≡◌, ◌≢◌, ℕ, suc, ◌<◌, ◌≤◌, List, [], ◌∷◌, ◌++◌, length, refl, sym, ap, subst, ◌∙◌, inl, inr, ◌⊎◌, arith, length-append, length-set, append_assoc, append-nil}
 use Rattle.std.specs.Prelude.{Some, None, Option, IfSome, pos, ◌≤ℤ◌, ℤ, slice_get}
 use Rattle.std.specs.Ordering.{ordering_reverse}
 use Rattle.std.specs.declared.cmp.Ordering.{Ordering}
@@ -14,7 +14,8 @@ use Rattle.crs_base.proofs.KeyOrder.{entry_total}
 use Rattle.crs_base.specs.Words.{IsIn, Ordered}
 use Rattle.crs_base.proofs.Alls.{all_append}
 use Rattle.crs_base.proofs.Words.{in_append, in_append_left, in_append_right, in_from_each}
-use Rattle.crs_history.specs.Histories.{EndsWith, HistoryState}
+use Rattle.crs_history.specs.Histories.{HistoryState}
+use Rattle.crs_history.proofs.FarBack.{far_later}
 use Rattle.crs_focus.specs.Candidacy.{IsHeldFor}
 use Rattle.crs_instance.specs.Instances.{InstanceState, IsOf, CanBe, window_at}
 use Rattle.crs_instance.specs.Waits.{AnotherIsLate}
@@ -40,7 +41,7 @@ use Rattle.crs_stn.specs.DateWindow.{IsLatest}
 use Rattle.crs_store.specs.Levels.{levels_in, AreToDecide, IsLevelAbove, IsNoLevelAbove, AreAwaited}
 use Rattle.crs_store.specs.Scannings.{Adds, IsOnTheWay, IsKeptIfAble, IsDecided, IsDecidedAt, AreDecidedWith, AreForksAt}
 use Rattle.crs_store.specs.Stores.{parts}
-use Rattle.crs_store.specs.Sweeps.{IsNow, IsOverNow}
+use Rattle.crs_store.specs.Sweeps.{IsNow}
 use Rattle.crs_store.specs.Windows.{IsAble, IsBegun, IsPassed, IsOpenAt, IsOver}
 use Rattle.crs_store.proofs.Kept.{dated_from_floor, history_holds}
 use Rattle.crs_store.proofs.Leaving.{one_stays, one_goes}
@@ -69,36 +70,36 @@ module _ (plan : Plan) (focus : Bool) (n : ℕ) where
 
 -- ---- itself, where it is able
 
-module _ (plan : Plan) (focus : Bool) (proper : IsProper plan) (history : HistoryState) (x : Entry Sym) (until : ℕ) (parent next begun passed : InstanceState) (of_parent : IsOf plan parent) (of_next : IsOf plan next) (of_passed : IsOf plan passed)
-    (begins : IsBegun plan history x.date parent next begun) (passes : IsPassed plan history x.date until begun passed) where
+module _ (plan : Plan) (focus : Bool) (proper : IsProper plan) (history : HistoryState) (x : Entry Sym) (since until : ℕ) (parent next begun passed : InstanceState) (of_parent : IsOf plan parent) (of_next : IsOf plan next) (of_passed : IsOf plan passed)
+    (begins : IsBegun plan history since parent next begun) (passes : IsPassed plan history since until begun passed) where
   same_part : passed.partial ≡ next.partial
   same_part = ap (λ (t : InstanceState). t.partial) passes.same.same ∙ ap (λ (t : InstanceState). t.partial) begins.same.same
 
-  over_passed : (entries : List (Entry Sym)) → IsNow plan history x entries → x.date ≤ until → IsOverNow plan focus entries x parent → IsOnTheWay plan focus entries x parent next → IsOver plan focus entries entries until passed
-  over_passed entries now later over way =
-      let starts = starts_after plan proper next of_next (way.bound).0 x (way.bound).1 history.floor now.read.far in
+  over_passed : (pool entries : List (Entry Sym)) → IsNow plan focus history x since pool entries → since ≤ until → IsOver plan focus pool entries since parent → IsOnTheWay plan focus pool x parent next → IsOver plan focus pool entries until passed
+  over_passed pool entries now later over way =
+      let starts = starts_after plan proper next of_next (way.bound).0 x (way.bound).1 history.floor (far_later plan.reach since x.date history.floor now.early now.read.far) in
       record {
         given = λ e y i. way.given e y (subst (λ (t : Partial Sym). at t e ≡ Some y) same_part i);
         closed = subst (IsLevelClosed (levels_in plan focus)) (sym same_part) way.closed;
-        follows = passes.follows entries later now.read (floor_early plan proper x.date history.floor now.read.far)
+        follows = passes.follows entries later now.read (floor_early plan proper since history.floor now.read.far)
             (begins.follows entries now.read.kept now.read.few starts (way.has, more_binds plan parent next of_parent of_next way.has) over.follows);
       }
 
-  fine_image : (entries : List (Entry Sym)) (out : List (Partial Sym)) → IsImage (GoesOn (IsOpenAt plan focus entries entries until)) (passed.partial ∷ []) out → IsImage (GoesOn (IsOpenAt plan focus entries entries until)) (next.partial ∷ []) out
-  fine_image entries out im = subst (λ (t : Partial Sym). IsImage (GoesOn (IsOpenAt plan focus entries entries until)) (t ∷ []) out) same_part im
+  fine_image : (pool entries : List (Entry Sym)) (out : List (Partial Sym)) → IsImage (GoesOn (IsOpenAt plan focus pool entries until)) (passed.partial ∷ []) out → IsImage (GoesOn (IsOpenAt plan focus pool entries until)) (next.partial ∷ []) out
+  fine_image pool entries out im = subst (λ (t : Partial Sym). IsImage (GoesOn (IsOpenAt plan focus pool entries until)) (t ∷ []) out) same_part im
 
-  pub kept_able : IsAble plan focus until passed → IsKeptIfAble plan focus history x until parent next (passed ∷ [])
-  kept_able able entries now later over way =
-      let o = over_passed entries now later over way in
-      let image = fine_image entries (passed.partial ∷ []) (one_stays (IsAble plan focus until) (λ i. IsOf plan i × IsOver plan focus entries entries until i) (IsOpenAt plan focus entries entries until)
-      (λ i q p. (open_able plan focus entries entries until i q.0 q.1).1 p) (λ i q f. (open_able plan focus entries entries until i q.0 q.1).0 f) passed (of_passed, o) able) in
+  pub kept_able : IsAble plan focus until passed → IsKeptIfAble plan focus history x since until parent next (passed ∷ [])
+  kept_able able pool entries now later over way =
+      let o = over_passed pool entries now later over way in
+      let image = fine_image pool entries (passed.partial ∷ []) (one_stays (IsAble plan focus until) (λ i. IsOf plan i × IsOver plan focus pool entries until i) (IsOpenAt plan focus pool entries until)
+      (λ i q p. (open_able plan focus pool entries until i q.0 q.1).1 p) (λ i q f. (open_able plan focus pool entries until i q.0 q.1).0 f) passed (of_passed, o) able) in
       (image, (o, tt))
 
-  pub kept_unable : (IsAble plan focus until passed → ⊥) → IsKeptIfAble plan focus history x until parent next []
-  kept_unable unable entries now later over way =
-      let o = over_passed entries now later over way in
-      let image = fine_image entries [] (one_goes (IsAble plan focus until) (λ i. IsOf plan i × IsOver plan focus entries entries until i) (IsOpenAt plan focus entries entries until)
-      (λ i q p. (open_able plan focus entries entries until i q.0 q.1).1 p) (λ i q f. (open_able plan focus entries entries until i q.0 q.1).0 f) passed (of_passed, o) unable) in
+  pub kept_unable : (IsAble plan focus until passed → ⊥) → IsKeptIfAble plan focus history x since until parent next []
+  kept_unable unable pool entries now later over way =
+      let o = over_passed pool entries now later over way in
+      let image = fine_image pool entries [] (one_goes (IsAble plan focus until) (λ i. IsOf plan i × IsOver plan focus pool entries until i) (IsOpenAt plan focus pool entries until)
+      (λ i q p. (open_able plan focus pool entries until i q.0 q.1).1 p) (λ i q f. (open_able plan focus pool entries until i q.0 q.1).0 f) passed (of_passed, o) unable) in
       (image, tt)
 
 -- ---- the lists of events
@@ -168,7 +169,7 @@ module _ (level : ℕ → ℕ) (a : Partial Sym) (l : ℕ) (rest : List ℕ) (e 
 
 -- ---- one event is decided on
 
-module _ (plan : Plan) (focus : Bool) (proper : IsProper plan) (history : HistoryState) (x : Entry Sym) (until : ℕ) (parent next : InstanceState) (l : ℕ) (rest : List ℕ) (e : ℕ) (of : IsOf plan next) (todo : AreToDecide (levels_in plan focus) next.partial l (rest ++ e ∷ [])) where
+module _ (plan : Plan) (focus : Bool) (proper : IsProper plan) (history : HistoryState) (x : Entry Sym) (since until : ℕ) (parent next : InstanceState) (l : ℕ) (rest : List ℕ) (e : ℕ) (of : IsOf plan next) (todo : AreToDecide (levels_in plan focus) next.partial l (rest ++ e ∷ [])) where
   awaited : IsAwaited (levels_in plan focus) next.partial e
   awaited = last_awaited (levels_in plan focus) next.partial l rest e todo
 
@@ -181,11 +182,11 @@ module _ (plan : Plan) (focus : Bool) (proper : IsProper plan) (history : Histor
       by (v ∷ vs) (suc k) m = by vs k (omega arith)
 
   -- on the way with one more
-  pub way_on : (entries : List (Entry Sym)) (y : Entry Sym) → IsIn y entries → (f : InstanceState) → f.partial ≡ put next.partial e y → IsOnTheWay plan focus entries x parent next → IsOnTheWay plan focus entries x parent f
-  way_on entries y there f is way = record {
+  pub way_on : (pool : List (Entry Sym)) (y : Entry Sym) → IsIn y pool → (f : InstanceState) → f.partial ≡ put next.partial e y → IsOnTheWay plan focus pool x parent next → IsOnTheWay plan focus pool x parent f
+  way_on pool y there f is way = record {
     has = λ g z i. subst (λ (t : Partial Sym). at t g ≡ Some z) (sym is) (kept g z (way.has g z i));
     given = λ g z i. elim (cases_eq g e) [
-      | inl s ↦ subst (λ (t : Entry Sym). IsIn t entries) (one (sym (put_same next.partial e y awaited.within) ∙ subst (λ (n : ℕ). at (put next.partial e y) n ≡ Some z) s (subst (λ (t : Partial Sym). at t g ≡ Some z) is i))) there
+      | inl s ↦ subst (λ (t : Entry Sym). IsIn t pool) (one (sym (put_same next.partial e y awaited.within) ∙ subst (λ (n : ℕ). at (put next.partial e y) n ≡ Some z) s (subst (λ (t : Partial Sym). at t g ≡ Some z) is i))) there
       | inr o ↦ way.given g z (sym (put_other next.partial e g y o) ∙ subst (λ (t : Partial Sym). at t g ≡ Some z) is i)
     ];
     bound = ((way.bound).0, subst (λ (t : Partial Sym). at t (way.bound).0 ≡ Some x) (sym is) (kept (way.bound).0 x (way.bound).1));
@@ -205,14 +206,14 @@ module _ (plan : Plan) (focus : Bool) (proper : IsProper plan) (history : Histor
       ]
 
   -- where it can't be bound to y, nothing comes of that
-  pub unbound_with : (y : Entry Sym) → (CanBe plan (put next.partial e y) → ⊥) → AreDecidedWith plan focus history x until parent next l rest e (y ∷ []) []
-  unbound_with y cannot entries now later over way = (
+  pub unbound_with : (y : Entry Sym) → (CanBe plan (put next.partial e y) → ⊥) → AreDecidedWith plan focus history x since until parent next l rest e (y ∷ []) []
+  unbound_with y cannot pool entries now later over way = (
     record {
       distinct = tt;
       sound = λ b i. absurd i;
       complete = λ z b i d.
-          let h : DecidesWith (levels_in plan focus) (IsOpenAt plan focus entries entries until) l rest next.partial e y b = subst (λ (t : Entry Sym). DecidesWith (levels_in plan focus) (IsOpenAt plan focus entries entries until) l rest next.partial e t b) (only z i) d in
-          cannot (beginnings_can_be plan (levels_in plan focus) entries entries until (put next.partial e y) b (h.0).part (h.0).len h.1);
+          let h : DecidesWith (levels_in plan focus) (IsOpenAt plan focus pool entries until) l rest next.partial e y b = subst (λ (t : Entry Sym). DecidesWith (levels_in plan focus) (IsOpenAt plan focus pool entries until) l rest next.partial e t b) (only z i) d in
+          cannot (beginnings_can_be plan (levels_in plan focus) pool entries until (put next.partial e y) b (h.0).part (h.0).len h.1);
     },
     tt,
   )
@@ -222,14 +223,14 @@ module _ (plan : Plan) (focus : Bool) (proper : IsProper plan) (history : Histor
       only z (inr none) = absurd none
 
   -- what comes where it is bound to y
-  pub bound_with : (y : Entry Sym) (f : InstanceState) (out : List InstanceState) → ((entries : List (Entry Sym)) → IsNow plan history x entries → IsIn y entries) → f.partial ≡ put next.partial e y → IsDecided plan focus history x until parent f l rest out → AreDecidedWith plan focus history x until parent next l rest e (y ∷ []) out
-  bound_with y f out there is decided entries now later over way =
-      let h = decided entries now later over (way_on entries y (there entries now) f is way) in (
+  pub bound_with : (y : Entry Sym) (f : InstanceState) (out : List InstanceState) → ((pool entries : List (Entry Sym)) → IsNow plan focus history x since pool entries → IsIn y pool) → f.partial ≡ put next.partial e y → IsDecided plan focus history x since until parent f l rest out → AreDecidedWith plan focus history x since until parent next l rest e (y ∷ []) out
+  bound_with y f out there is decided pool entries now later over way =
+      let h = decided pool entries now later over (way_on pool y (there pool entries now) f is way) in (
         record {
           distinct = (h.0).distinct;
-          sound = λ b i. let r = (h.0).sound b i in (y, inl refl, subst (λ (t : Partial Sym). Decides (levels_in plan focus) (IsOpenAt plan focus entries entries until) l rest t b) (only (f.partial) r.0 r.1 ∙ is) r.2);
+          sound = λ b i. let r = (h.0).sound b i in (y, inl refl, subst (λ (t : Partial Sym). Decides (levels_in plan focus) (IsOpenAt plan focus pool entries until) l rest t b) (only (f.partial) r.0 r.1 ∙ is) r.2);
           complete = λ z b i d. elim i [
-            | inl s ↦ (h.0).complete f.partial b (inl refl) (subst (λ (t : Partial Sym). Decides (levels_in plan focus) (IsOpenAt plan focus entries entries until) l rest t b) (sym is) (subst (λ (t : Entry Sym). DecidesWith (levels_in plan focus) (IsOpenAt plan focus entries entries until) l rest next.partial e t b) s d))
+            | inl s ↦ (h.0).complete f.partial b (inl refl) (subst (λ (t : Partial Sym). Decides (levels_in plan focus) (IsOpenAt plan focus pool entries until) l rest t b) (sym is) (subst (λ (t : Entry Sym). DecidesWith (levels_in plan focus) (IsOpenAt plan focus pool entries until) l rest next.partial e t b) s d))
             | inr none ↦ absurd none
           ];
         },
@@ -241,21 +242,21 @@ module _ (plan : Plan) (focus : Bool) (proper : IsProper plan) (history : Histor
       only a z (inr none) = absurd none
 
   -- no entry was gone through
-  pub none_with : AreDecidedWith plan focus history x until parent next l rest e [] []
-  none_with entries now later over way = (image_none _, tt)
+  pub none_with : AreDecidedWith plan focus history x since until parent next l rest e [] []
+  none_with pool entries now later over way = (image_none _, tt)
 
   -- one more entry was
-  pub more_with : (ys : List (Entry Sym)) (y : Entry Sym) (out new : List InstanceState) → (IsIn y ys → ⊥) → AreDecidedWith plan focus history x until parent next l rest e ys out → AreDecidedWith plan focus history x until parent next l rest e (y ∷ []) new → AreDecidedWith plan focus history x until parent next l rest e (ys ++ y ∷ []) (out ++ new)
-  more_with ys y out new fresh h k entries now later over way =
-      let a = h entries now later over way in
-      let b = k entries now later over way in (
-        subst (λ (t : List (Partial Sym)). IsImage (DecidesWith (levels_in plan focus) (IsOpenAt plan focus entries entries until) l rest next.partial e) (ys ++ y ∷ []) t) (sym (map-append (λ (i : InstanceState). i.partial) out new))
-            (with_one_more (levels_in plan focus) (IsOpenAt plan focus entries entries until) l rest next.partial e awaited.within ys y (parts out) (parts new) fresh a.0 (record {
+  pub more_with : (ys : List (Entry Sym)) (y : Entry Sym) (out new : List InstanceState) → (IsIn y ys → ⊥) → AreDecidedWith plan focus history x since until parent next l rest e ys out → AreDecidedWith plan focus history x since until parent next l rest e (y ∷ []) new → AreDecidedWith plan focus history x since until parent next l rest e (ys ++ y ∷ []) (out ++ new)
+  more_with ys y out new fresh h k pool entries now later over way =
+      let a = h pool entries now later over way in
+      let b = k pool entries now later over way in (
+        subst (λ (t : List (Partial Sym)). IsImage (DecidesWith (levels_in plan focus) (IsOpenAt plan focus pool entries until) l rest next.partial e) (ys ++ y ∷ []) t) (sym (map-append (λ (i : InstanceState). i.partial) out new))
+            (with_one_more (levels_in plan focus) (IsOpenAt plan focus pool entries until) l rest next.partial e awaited.within ys y (parts out) (parts new) fresh a.0 (record {
               distinct = (b.0).distinct;
-              sound = λ c i. let r = (b.0).sound c i in (put next.partial e y, inl refl, subst (λ (t : Entry Sym). DecidesWith (levels_in plan focus) (IsOpenAt plan focus entries entries until) l rest next.partial e t c) (only y r.0 r.1) r.2);
-              complete = λ z c i d. (b.0).complete y c (inl refl) (subst (λ (t : Partial Sym). Decides (levels_in plan focus) (IsOpenAt plan focus entries entries until) l rest t c) (only_part z i) d);
+              sound = λ c i. let r = (b.0).sound c i in (put next.partial e y, inl refl, subst (λ (t : Entry Sym). DecidesWith (levels_in plan focus) (IsOpenAt plan focus pool entries until) l rest next.partial e t c) (only y r.0 r.1) r.2);
+              complete = λ z c i d. (b.0).complete y c (inl refl) (subst (λ (t : Partial Sym). Decides (levels_in plan focus) (IsOpenAt plan focus pool entries until) l rest t c) (only_part z i) d);
             })),
-        all_append (IsOver plan focus entries entries until) out new a.1 b.1,
+        all_append (IsOver plan focus pool entries until) out new a.1 b.1,
       )
     where
       only : (p q : Entry Sym) → IsIn q (p ∷ []) → q ≡ p
@@ -267,27 +268,28 @@ module _ (plan : Plan) (focus : Bool) (proper : IsProper plan) (history : Histor
       only_part z (inr none) = absurd none
 
   -- what is open beyond it binds the event to a candidate
-  pub enough_at : (entries : List (Entry Sym)) → IsNow plan history x entries → IsOnTheWay plan focus entries x parent next → EndsWith x history.entries → (given : List (Entry Sym)) (name : Sym) → ((def : EventDef Sym) → slice_get (chronicle plan).events e ≡ Some def → def.pattern.name ≡ name)
+  pub enough_at : focus ≡ true → (pool entries : List (Entry Sym)) → IsNow plan focus history x since pool entries → IsOnTheWay plan focus pool x parent next → (given : List (Entry Sym)) (name : Sym) → ((def : EventDef Sym) → slice_get (chronicle plan).events e ≡ Some def → def.pattern.name ≡ name)
       → ((y : Entry Sym) → IsIn y history.entries → IsHeldFor history.floor name (window_at next.windows e) y → IsIn y given)
-      → (y : Entry Sym) (b : Partial Sym) → Decides (levels_in plan focus) (IsOpenAt plan focus entries entries until) l (rest ++ e ∷ []) next.partial b → at b e ≡ Some y → IsIn y given
-  enough_at entries now way ends given name named enough y b d is =
+      → (y : Entry Sym) (b : Partial Sym) → Decides (levels_in plan focus) (IsOpenAt plan focus pool entries until) l (rest ++ e ∷ []) next.partial b → at b e ≡ Some y → IsIn y given
+  enough_at read pool entries now way given name named enough y b dec is =
+      let d = subst (λ (p : List (Entry Sym)). Decides (levels_in plan focus) (IsOpenAt plan focus p entries until) l (rest ++ e ∷ []) next.partial b) (now.whole read) dec in
       let v = event_there in
       let fit = candidates_fit plan next (levels_in plan focus) entries entries until b e y v.0 proper of (d.0).part d.1 v.1 is in
       let has_x : at b (way.bound).0 ≡ Some x = (d.0).part (way.bound).0 x (way.bound).1 in
-      let floor = dated_from_floor plan proper (levels_in plan focus) entries entries until x.date b d.1 (way.bound).0 x has_x (omega arith) e y is history.floor now.read.far in
-      let held = history_holds plan proper (levels_in plan focus) entries entries until x.date b d.1 (way.bound).0 x has_x (omega arith) e y is history now.read.kept now.read.far in
+      let floor = dated_from_floor plan proper (levels_in plan focus) entries entries until since b d.1 (way.bound).0 x has_x now.early e y is history.floor now.read.far in
+      let held = history_holds plan proper (levels_in plan focus) entries entries until since b d.1 (way.bound).0 x has_x now.early e y is history now.read.kept now.read.far in
       enough y held (record { named = sym fit.0 ∙ named v.0 v.1; kept = floor; not_soon = (fit.1).not_soon; not_late = (fit.1).not_late })
 
   -- both: bound to each of the candidates, and left
-  pub decided_both : (at_all : List InstanceState) (left : List InstanceState) → IsDecidedAt plan focus history x until parent next l rest e at_all → IsDecided plan focus history x until parent next l rest left → IsDecided plan focus history x until parent next l (rest ++ e ∷ []) (at_all ++ left)
-  decided_both at_all left h k entries now later over way =
-      let a = h.decided entries now later over way in
-      let b = k entries now later over way in (
-        subst (λ (t : List (Partial Sym)). IsImage (Decides (levels_in plan focus) (IsOpenAt plan focus entries entries until) l (rest ++ e ∷ [])) (next.partial ∷ []) t) (sym (map-append (λ (i : InstanceState). i.partial) at_all left))
-            (decided_one (levels_in plan focus) (IsOpenAt plan focus entries entries until) l rest next.partial e awaited.within (rest ++ e ∷ []) awaited.unbound (last_level (levels_in plan focus) next.partial l rest e todo)
+  pub decided_both : (at_all : List InstanceState) (left : List InstanceState) → IsDecidedAt plan focus history x since until parent next l rest e at_all → IsDecided plan focus history x since until parent next l rest left → IsDecided plan focus history x since until parent next l (rest ++ e ∷ []) (at_all ++ left)
+  decided_both at_all left h k pool entries now later over way =
+      let a = h.decided pool entries now later over way in
+      let b = k pool entries now later over way in (
+        subst (λ (t : List (Partial Sym)). IsImage (Decides (levels_in plan focus) (IsOpenAt plan focus pool entries until) l (rest ++ e ∷ [])) (next.partial ∷ []) t) (sym (map-append (λ (i : InstanceState). i.partial) at_all left))
+            (decided_one (levels_in plan focus) (IsOpenAt plan focus pool entries until) l rest next.partial e awaited.within (rest ++ e ∷ []) awaited.unbound (last_level (levels_in plan focus) next.partial l rest e todo)
             (in_append_right rest (e ∷ []) e (inl refl)) (λ f i. in_append_left rest (e ∷ []) f i) (others_of (levels_in plan focus) next.partial l rest e todo) (last_apart (levels_in plan focus) next.partial l rest e todo)
-            h.ys (parts at_all) (parts left) (λ y c d i. h.enough entries now way y c d i) a.0 b.0),
-        all_append (IsOver plan focus entries entries until) at_all left a.1 b.1,
+            h.ys (parts at_all) (parts left) (λ y c d i. h.enough pool entries now way y c d i) a.0 b.0),
+        all_append (IsOver plan focus pool entries until) at_all left a.1 b.1,
       )
 
   -- where it can't be left, nothing comes of that
@@ -295,9 +297,9 @@ module _ (plan : Plan) (focus : Bool) (proper : IsProper plan) (history : Histor
   above None t never le up = never tt
   above (Some m) t never le up = never (omega (arith, ints))
 
-  pub never_decided : (IfSome (window_at next.windows e).most (λ m. pos until ≤ℤ m) → ⊥) → IsDecided plan focus history x until parent next l rest []
-  never_decided never entries now later over way = (
-    never_left (levels_in plan focus) (IsOpenAt plan focus entries entries until) l rest next.partial e awaited.within (rest ++ e ∷ []) awaited.unbound (last_level (levels_in plan focus) next.partial l rest e todo)
+  pub never_decided : (IfSome (window_at next.windows e).most (λ m. pos until ≤ℤ m) → ⊥) → IsDecided plan focus history x since until parent next l rest []
+  never_decided never pool entries now later over way = (
+    never_left (levels_in plan focus) (IsOpenAt plan focus pool entries until) l rest next.partial e awaited.within (rest ++ e ∷ []) awaited.unbound (last_level (levels_in plan focus) next.partial l rest e todo)
         (in_append_right rest (e ∷ []) e (inl refl)) (λ f i. in_append_left rest (e ∷ []) f i) (others_of (levels_in plan focus) next.partial l rest e todo) (last_apart (levels_in plan focus) next.partial l rest e todo)
         (λ b d n.
         let open_b = d.1 in
@@ -350,24 +352,24 @@ named_as plan e events same inside v def there = ap (λ (d : EventDef Sym). d.pa
     one s = cc
 
 -- what came of those that aren't left
-pub record IsGoneThrough (plan : Plan) (focus : Bool) (history : HistoryState) (x : Entry Sym) (until : ℕ) (parent next : InstanceState) (l : ℕ) (rest : List ℕ) (e : ℕ) (start : List InstanceState) (given left : List (Entry Sym)) (now : List InstanceState) : Type 0 where
+pub record IsGoneThrough (plan : Plan) (focus : Bool) (history : HistoryState) (x : Entry Sym) (since until : ℕ) (parent next : InstanceState) (l : ℕ) (rest : List ℕ) (e : ℕ) (start : List InstanceState) (given left : List (Entry Sym)) (now : List InstanceState) : Type 0 where
   pub done : List (Entry Sym)
   pub split : given ≡ done ++ left
-  pub adds : Adds plan focus until (AreDecidedWith plan focus history x until parent next l rest e done) start now
+  pub adds : Adds plan focus until (AreDecidedWith plan focus history x since until parent next l rest e done) start now
 
 -- ---- all events of a level were decided on
 
-module _ (plan : Plan) (focus : Bool) (history : HistoryState) (x : Entry Sym) (until : ℕ) (parent next : InstanceState) (l : ℕ) where
-  pub ended : IsNoLevelAbove (levels_in plan focus) next.partial l → (out : List InstanceState) → IsKeptIfAble plan focus history x until parent next out → IsDecided plan focus history x until parent next l [] out
-  ended ends out kept entries now later over way =
-      let k = kept entries now later over way in
-      (decided_end (levels_in plan focus) (IsOpenAt plan focus entries entries until) (λ b o. o.closed) l next.partial ends (parts out) k.0, k.1)
+module _ (plan : Plan) (focus : Bool) (history : HistoryState) (x : Entry Sym) (since until : ℕ) (parent next : InstanceState) (l : ℕ) where
+  pub ended : IsNoLevelAbove (levels_in plan focus) next.partial l → (out : List InstanceState) → IsKeptIfAble plan focus history x since until parent next out → IsDecided plan focus history x since until parent next l [] out
+  ended ends out kept pool entries now later over way =
+      let k = kept pool entries now later over way in
+      (decided_end (levels_in plan focus) (IsOpenAt plan focus pool entries until) (λ b o. o.closed) l next.partial ends (parts out) k.0, k.1)
 
-  pub gone_up : (m : ℕ) → IsLevelAbove (levels_in plan focus) next.partial l m → (n : ℕ) → n ≡ length next.partial → (todo : List ℕ) → AreAwaited (levels_in plan focus) next.partial n todo → (out : List InstanceState) → IsDecided plan focus history x until parent next m todo out → IsDecided plan focus history x until parent next l [] out
-  gone_up m above n long todo are out decided entries now later over way =
-      let k = decided entries now later over way in
+  pub gone_up : (m : ℕ) → IsLevelAbove (levels_in plan focus) next.partial l m → (n : ℕ) → n ≡ length next.partial → (todo : List ℕ) → AreAwaited (levels_in plan focus) next.partial n todo → (out : List InstanceState) → IsDecided plan focus history x since until parent next m todo out → IsDecided plan focus history x since until parent next l [] out
+  gone_up m above n long todo are out decided pool entries now later over way =
+      let k = decided pool entries now later over way in
       let c = above.current in (
-        decided_up (levels_in plan focus) (IsOpenAt plan focus entries entries until) (λ b o. o.closed) l next.partial m todo above.above
+        decided_up (levels_in plan focus) (IsOpenAt plan focus pool entries until) (λ b o. o.closed) l next.partial m todo above.above
             (λ f i. same f (are.each f i))
             (λ f i u. let q = (c.1).least f i u in let s = c.2 in omega arith)
             (λ f i u s. are.all f (omega (arith, long)) (record { within = i; unbound = u; least = λ g j v. let q = (c.1).least g j v in let r = c.2 in omega arith }))
@@ -396,25 +398,30 @@ module _ (plan : Plan) (focus : Bool) (history : HistoryState) (x : Entry Sym) (
     few = let k = are.few in omega arith;
   }
 
+-- no level is above another where none are read
+pub none_above : (plan : Plan) (focus : Bool) (a : Partial Sym) (l m : ℕ) → IsLevelAbove (levels_in plan focus) a l m → focus ≡ false → ⊥
+none_above plan true a l m above flat = cc
+none_above plan false a l m above flat = let c = above.current in let s = c.2 in let u = above.above in omega (arith, s)
+
 -- ---- where it starts
 
-module _ (plan : Plan) (focus : Bool) (history : HistoryState) (x : Entry Sym) (until : ℕ) (i : InstanceState) (e : ℕ) where
-  pub unawaited : (IsAwaited (levels_in plan focus) i.partial e → ⊥) → AreForksAt plan focus history x until i e []
-  unawaited never entries now later over = (
+module _ (plan : Plan) (focus : Bool) (history : HistoryState) (x : Entry Sym) (since until : ℕ) (i : InstanceState) (e : ℕ) where
+  pub unawaited : (IsAwaited (levels_in plan focus) i.partial e → ⊥) → AreForksAt plan focus history x since until i e []
+  unawaited never pool entries now later over = (
     record { distinct = tt; sound = λ b k. absurd k; complete = λ f b k s. elim k [ inl q ↦ never (subst (IsAwaited (levels_in plan focus) i.partial) q s.0) | inr none ↦ absurd none ] },
     tt,
   )
 
-  at_it : (f : ℕ) (b : Partial Sym) (entries : List (Entry Sym)) → f ≡ e → StartsAt (levels_in plan focus) (IsOpenAt plan focus entries entries until) x i.partial f b → StartsAt (levels_in plan focus) (IsOpenAt plan focus entries entries until) x i.partial e b
-  at_it f b entries q s = subst (λ (n : ℕ). StartsAt (levels_in plan focus) (IsOpenAt plan focus entries entries until) x i.partial n b) q s
+  at_it : (f : ℕ) (b : Partial Sym) (pool entries : List (Entry Sym)) → f ≡ e → StartsAt (levels_in plan focus) (IsOpenAt plan focus pool entries until) x i.partial f b → StartsAt (levels_in plan focus) (IsOpenAt plan focus pool entries until) x i.partial e b
+  at_it f b pool entries q s = subst (λ (n : ℕ). StartsAt (levels_in plan focus) (IsOpenAt plan focus pool entries until) x i.partial n b) q s
 
-  pub unforked : (CanBe plan (put i.partial e x) → ⊥) → AreForksAt plan focus history x until i e []
-  unforked cannot entries now later over = (
+  pub unforked : (CanBe plan (put i.partial e x) → ⊥) → AreForksAt plan focus history x since until i e []
+  unforked cannot pool entries now later over = (
     record {
       distinct = tt;
       sound = λ b k. absurd k;
       complete = λ f b k s. elim k [
-        | inl q ↦ (let t = at_it f b entries q s in cannot (beginnings_can_be plan (levels_in plan focus) entries entries until (put i.partial e x) b (t.1).part (t.1).len t.2))
+        | inl q ↦ (let t = at_it f b pool entries q s in cannot (beginnings_can_be plan (levels_in plan focus) pool entries until (put i.partial e x) b (t.1).part (t.1).len t.2))
         | inr none ↦ absurd none
       ];
     },
@@ -422,13 +429,13 @@ module _ (plan : Plan) (focus : Bool) (history : HistoryState) (x : Entry Sym) (
   )
 
   -- where another event of its level comes too late beside it, nothing comes of it
-  pub too_late : IsAwaited (levels_in plan focus) i.partial e → AnotherIsLate plan (levels_in plan focus) i.partial e x.date until → AreForksAt plan focus history x until i e []
-  too_late awaited late entries now later over = (
+  pub too_late : IsAwaited (levels_in plan focus) i.partial e → AnotherIsLate plan (levels_in plan focus) i.partial e x.date until → AreForksAt plan focus history x since until i e []
+  too_late awaited late pool entries now later over = (
     record {
       distinct = tt;
       sound = λ b k. absurd k;
       complete = λ f b k s. elim k [
-        | inl q ↦ lost b (at_it f b entries q s)
+        | inl q ↦ lost b (at_it f b pool entries q s)
         | inr none ↦ absurd none
       ];
     },
@@ -438,7 +445,7 @@ module _ (plan : Plan) (focus : Bool) (history : HistoryState) (x : Entry Sym) (
       never : (o : Option (Entry Sym)) (y : Entry Sym) → o ≡ Some y → o ≡ None → ⊥
       never o y s n = cc
 
-      back : (b : Partial Sym) → StartsAt (levels_in plan focus) (IsOpenAt plan focus entries entries until) x i.partial e b → (f : ℕ) → at b f ≡ None → at i.partial f ≡ None
+      back : (b : Partial Sym) → StartsAt (levels_in plan focus) (IsOpenAt plan focus pool entries until) x i.partial e b → (f : ℕ) → at b f ≡ None → at i.partial f ≡ None
       back b t f u = elim (cases_of (at i.partial f)) [
         | inl n ↦ n
         | inr y ↦ elim (cases_eq f e) [
@@ -447,7 +454,7 @@ module _ (plan : Plan) (focus : Bool) (history : HistoryState) (x : Entry Sym) (
         ]
       ]
 
-      free : (b : Partial Sym) → StartsAt (levels_in plan focus) (IsOpenAt plan focus entries entries until) x i.partial e b → at b late.0 ≡ None
+      free : (b : Partial Sym) → StartsAt (levels_in plan focus) (IsOpenAt plan focus pool entries until) x i.partial e b → at b late.0 ≡ None
       free b t = elim (cases_of (at b late.0)) [
         | inl n ↦ n
         | inr y ↦
@@ -455,7 +462,7 @@ module _ (plan : Plan) (focus : Bool) (history : HistoryState) (x : Entry Sym) (
             let s = (late.1).same_level in absurd (omega arith)
       ]
 
-      lost : (b : Partial Sym) → StartsAt (levels_in plan focus) (IsOpenAt plan focus entries entries until) x i.partial e b → ⊥
+      lost : (b : Partial Sym) → StartsAt (levels_in plan focus) (IsOpenAt plan focus pool entries until) x i.partial e b → ⊥
       lost b t = late.2 x b refl (λ f y j. (t.1).part f y j) (record {
         within = let w = (late.1).within in let q = length-set i.partial e (Some x) in let r = (t.1).len in omega arith;
         unbound = free b t;
@@ -467,14 +474,14 @@ module _ (plan : Plan) (focus : Bool) (history : HistoryState) (x : Entry Sym) (
       }) (t.2).dates
 
   module _ (awaited : IsAwaited (levels_in plan focus) i.partial e) (f : InstanceState) (is : f.partial ≡ put i.partial e x) where
-    on_the_way : (entries : List (Entry Sym)) → IsNow plan history x entries → IsOverNow plan focus entries x i → IsOnTheWay plan focus entries x i f
-    on_the_way entries now over = record {
+    on_the_way : (pool entries : List (Entry Sym)) → IsNow plan focus history x since pool entries → IsOver plan focus pool entries since i → IsOnTheWay plan focus pool x i f
+    on_the_way pool entries now over = record {
       has = λ g z j. subst (λ (t : Partial Sym). at t g ≡ Some z) (sym is) (elim (cases_eq g e) [
         | inl s ↦ absurd (never (at i.partial e) z (subst (λ (n : ℕ). at i.partial n ≡ Some z) s j) awaited.unbound)
         | inr o ↦ put_other i.partial e g x o ∙ j
       ]);
       given = λ g z j. elim (cases_eq g e) [
-        | inl s ↦ subst (λ (t : Entry Sym). IsIn t entries) (one (sym (put_same i.partial e x awaited.within) ∙ subst (λ (n : ℕ). at (put i.partial e x) n ≡ Some z) s (subst (λ (t : Partial Sym). at t g ≡ Some z) is j))) now.there
+        | inl s ↦ subst (λ (t : Entry Sym). IsIn t pool) (one (sym (put_same i.partial e x awaited.within) ∙ subst (λ (n : ℕ). at (put i.partial e x) n ≡ Some z) s (subst (λ (t : Partial Sym). at t g ≡ Some z) is j))) now.there
         | inr o ↦ over.given g z (sym (put_other i.partial e g x o) ∙ subst (λ (t : Partial Sym). at t g ≡ Some z) is j)
       ];
       bound = (e, ap (λ (t : Partial Sym). at t e) is ∙ put_same i.partial e x awaited.within);
@@ -487,10 +494,10 @@ module _ (plan : Plan) (focus : Bool) (history : HistoryState) (x : Entry Sym) (
         never : (o : Option (Entry Sym)) (z : Entry Sym) → o ≡ Some z → o ≡ None → ⊥
         never o z s n = cc
 
-    pub started : (out : List InstanceState) → IsDecided plan focus history x until i f (levels_in plan focus e) [] out → AreForksAt plan focus history x until i e out
-    started out decided entries now later over =
-        let k = decided entries now later over (on_the_way entries now over) in (
-          decided_start (levels_in plan focus) (IsOpenAt plan focus entries entries until) x i.partial e (parts out) awaited
-              (subst (λ (t : Partial Sym). IsImage (Decides (levels_in plan focus) (IsOpenAt plan focus entries entries until) (levels_in plan focus e) []) (t ∷ []) (parts out)) is k.0),
+    pub started : (out : List InstanceState) → IsDecided plan focus history x since until i f (levels_in plan focus e) [] out → AreForksAt plan focus history x since until i e out
+    started out decided pool entries now later over =
+        let k = decided pool entries now later over (on_the_way pool entries now over) in (
+          decided_start (levels_in plan focus) (IsOpenAt plan focus pool entries until) x i.partial e (parts out) awaited
+              (subst (λ (t : Partial Sym). IsImage (Decides (levels_in plan focus) (IsOpenAt plan focus pool entries until) (levels_in plan focus e) []) (t ∷ []) (parts out)) is k.0),
           k.1,
         )

@@ -29,7 +29,7 @@ use Rattle.crs_store.specs.Joins.{AreApart, Joins, Renews}
 use Rattle.crs_store.specs.Levels.{levels_in}
 use Rattle.crs_store.specs.Stores.{parts, AllOf}
 use Rattle.crs_store.specs.Windows.{IsAble, IsOver, IsOpenAt, IsFollowed, IsPassed}
-use Rattle.crs_store.specs.Sweeps.{IsReady, IsFree, IsNow, IsOverNow, TakesIn}
+use Rattle.crs_store.specs.Sweeps.{IsReady, IsFree, IsNow, TakesIn}
 use Rattle.crs_store.proofs.Gathered.{widen}
 use Rattle.crs_store.proofs.Leaving.{leaves_image, leaves_each}
 use Rattle.crs_store.proofs.Overs.{open_able, floor_early}
@@ -89,7 +89,7 @@ narrowed From Able mid kept out left able im = widen From (parts kept) (parts mi
     (λ a b j f. let m = in_map_back (λ (t : InstanceState). t.partial) mid a j in subst (λ (t : Partial Sym). IsIn t (parts kept)) (sym m.2) (in_map (λ (t : InstanceState). t.partial) kept m.0 (in_sifted Able mid kept m.0 left m.1 (able m.0 m.1 b (subst (λ (t : Partial Sym). From t b) m.2 f)))))
     im
 
-module _ (plan : Plan) (focus : Bool) (proper : IsProper plan) (history : HistoryState) (x : Entry Sym) (until since : ℕ) (held kept more stay new : List InstanceState) (all : AllOf plan held) (renews : Renews (IsFollowed plan history x since) (IsAble plan focus x.date) held kept) (forks : AreForksOfAll plan focus history x until kept more)
+module _ (plan : Plan) (focus : Bool) (proper : IsProper plan) (history : HistoryState) (x : Entry Sym) (until since : ℕ) (held kept more stay new : List InstanceState) (all : AllOf plan held) (renews : Renews (IsFollowed plan history x since) (IsAble plan focus x.date) held kept) (forks : AreForksOfAll plan focus history x x.date until kept more)
     (passes : Renews (IsPassed plan history x.date until) (IsAble plan focus until) kept stay) (joins : Joins stay more new) where
   pub taken_anew : TakesIn plan focus history x until since held new
   taken_anew settled up later read low over ready =
@@ -100,9 +100,9 @@ module _ (plan : Plan) (focus : Bool) (proper : IsProper plan) (history : Histor
       let followed = renews.1 in
       let left = renews.2 in
       let far = far_later plan.reach since x.date history.floor up read.far in
-      let now : IsNow plan history x entries = record { read = record { kept = read.kept; few = read.few; far = far }; there = in_append_right settled (x ∷ []) x (inl refl) } in
+      let now : IsNow plan focus history x x.date entries entries = record { read = record { kept = read.kept; few = read.few; far = far }; there = in_append_right settled (x ∷ []) x (inl refl); early = omega arith; inside = λ e i. i; whole = λ _. refl } in
       let same : parts mid ≡ parts held = parts_same (IsFollowed plan history x since) (λ a b r. r.same) held mid followed in
-      let over_mid : AllByRecursion (IsOverNow plan focus entries x) mid = zip_all (IsFollowed plan history x since) (IsOver plan focus settled settled since) (IsOverNow plan focus entries x) (λ a b r o. record {
+      let over_mid : AllByRecursion (IsOver plan focus entries entries x.date) mid = zip_all (IsFollowed plan history x since) (IsOver plan focus settled settled since) (IsOver plan focus entries entries x.date) (λ a b r o. record {
         given = λ e y k. in_append_left settled (x ∷ []) y (o.given e y (sym (ap (λ (t : InstanceState). at t.partial e) r.same.same) ∙ k));
         closed = subst (λ (t : InstanceState). IsLevelClosed (levels_in plan focus) t.partial) (sym r.same.same) o.closed;
         follows = r.follows settled up read low o.follows;
@@ -110,17 +110,17 @@ module _ (plan : Plan) (focus : Bool) (proper : IsProper plan) (history : Histor
       let of_mid : AllOf plan mid = zip_of plan (IsFollowed plan history x since) (λ a b r. r.same) held mid followed all in
       let ready_mid : IsReady x (parts mid) = subst (IsReady x) (sym same) ready in
       let of_kept : AllOf plan kept = leaves_each (IsAble plan focus x.date) (IsOf plan) mid kept of_mid left in
-      let over_kept : AllByRecursion (IsOverNow plan focus entries x) kept = leaves_each (IsAble plan focus x.date) (IsOverNow plan focus entries x) mid kept over_mid left in
+      let over_kept : AllByRecursion (IsOver plan focus entries entries x.date) kept = leaves_each (IsAble plan focus x.date) (IsOver plan focus entries entries x.date) mid kept over_mid left in
       let ready_kept : IsReady x (parts kept) = (
         each_from_in (IsFree x) (parts kept) (λ a i. let m = in_map_back (λ (t : InstanceState). t.partial) kept a i in in_from_each (IsFree x) (parts mid) ready_mid.0 a (subst (λ (t : Partial Sym). IsIn t (parts mid)) (sym m.2) (in_map (λ (t : InstanceState). t.partial) mid m.0 ((sifted_in (IsAble plan focus x.date) mid kept m.0 left m.1).0)))),
-        (leaves_image (IsAble plan focus x.date) (λ i. IsOf plan i × IsOverNow plan focus entries x i) (IsOpenAt plan focus entries entries x.date)
-            (λ i q p. (open_able plan focus entries entries x.date i q.0 q.1).1 p) (λ i q f. (open_able plan focus entries entries x.date i q.0 q.1).0 f) mid kept (all_both (IsOf plan) (IsOverNow plan focus entries x) mid of_mid over_mid) ready_mid.1 left).distinct,
+        (leaves_image (IsAble plan focus x.date) (λ i. IsOf plan i × IsOver plan focus entries entries x.date i) (IsOpenAt plan focus entries entries x.date)
+            (λ i q p. (open_able plan focus entries entries x.date i q.0 q.1).1 p) (λ i q f. (open_able plan focus entries entries x.date i q.0 q.1).0 f) mid kept (all_both (IsOf plan) (IsOver plan focus entries entries x.date) mid of_mid over_mid) ready_mid.1 left).distinct,
       ) in
       let aft : List InstanceState = passes.0 in
       let passed = passes.1 in
       let same_aft : parts aft ≡ parts kept = parts_same (IsPassed plan history x.date until) (λ a b r. r.same) kept aft passed in
       let floor_now = floor_early plan proper x.date history.floor far in
-      let over_aft : AllByRecursion (IsOver plan focus entries entries until) aft = zip_all (IsPassed plan history x.date until) (IsOverNow plan focus entries x) (IsOver plan focus entries entries until) (λ a b r o. record {
+      let over_aft : AllByRecursion (IsOver plan focus entries entries until) aft = zip_all (IsPassed plan history x.date until) (IsOver plan focus entries entries x.date) (IsOver plan focus entries entries until) (λ a b r o. record {
         given = λ e y k. o.given e y (sym (ap (λ (t : InstanceState). at t.partial e) r.same.same) ∙ k);
         closed = subst (λ (t : InstanceState). IsLevelClosed (levels_in plan focus) t.partial) (sym r.same.same) o.closed;
         follows = r.follows entries later now.read floor_now o.follows;
@@ -132,12 +132,12 @@ module _ (plan : Plan) (focus : Bool) (proper : IsProper plan) (history : Histor
       (λ i q p. (open_able plan focus entries entries until i q.0 q.1).1 p) (λ i q f. (open_able plan focus entries entries until i q.0 q.1).0 f) aft stay (all_both (IsOf plan) (IsOver plan focus entries entries until) aft of_aft over_aft)
       (subst (Ordered (λ a b. a ≡ b → ⊥)) (sym same_aft) ready_kept.1) left_aft) in
       let over_stay : AllByRecursion (IsOver plan focus entries entries until) stay = leaves_each (IsAble plan focus until) (IsOver plan focus entries entries until) aft stay over_aft left_aft in
-      let able_from : (i : InstanceState) → IsIn i mid → IsOpenAt plan focus entries entries x.date i.partial → IsAble plan focus x.date i = (λ i j o. (open_able plan focus entries entries x.date i (in_from_each (IsOf plan) mid of_mid i j) (in_from_each (IsOverNow plan focus entries x) mid over_mid i j)).0 o) in
+      let able_from : (i : InstanceState) → IsIn i mid → IsOpenAt plan focus entries entries x.date i.partial → IsAble plan focus x.date i = (λ i j o. (open_able plan focus entries entries x.date i (in_from_each (IsOf plan) mid of_mid i j) (in_from_each (IsOver plan focus entries entries x.date) mid over_mid i j)).0 o) in
       let stays : IsImage (GoesOn Fine) (parts mid) (parts stay) = narrowed (GoesOn Fine) (IsAble plan focus x.date) mid kept (parts stay) left (λ i j b g.
-      able_from i j (open_now plan focus x until later entries i.partial (in_from_each (IsOverNow plan focus entries x) mid over_mid i j).given (subst (λ (t : Partial Sym). Fine t) g.0 g.1))) stays_kept in
-      let made = forks entries now later over_kept ready_kept in
+      able_from i j (open_now plan focus x until later entries i.partial (in_from_each (IsOver plan focus entries entries x.date) mid over_mid i j).given (subst (λ (t : Partial Sym). Fine t) g.0 g.1))) stays_kept in
+      let made = forks entries entries now later over_kept ready_kept in
       let born : IsImage (IsForkByLevel level Fine x) (parts mid) (parts more) = narrowed (IsForkByLevel level Fine x) (IsAble plan focus x.date) mid kept (parts more) left (λ i j b g.
-      let one = in_from_each (IsOverNow plan focus entries x) mid over_mid i j in
+      let one = in_from_each (IsOver plan focus entries entries x.date) mid over_mid i j in
       able_from i j (parent_open plan focus x until later entries i.partial b one.given one.closed g)) made.0 in
       let im = both_by_level level Fine (λ b o. o.closed) (λ b o. o.partial.distinct) x (parts mid) (parts stay) (parts more) (λ a i. in_from_each (IsFree x) (parts mid) ready_mid.0 a i) stays born in
       let whole : AreApart (stay ++ more) = subst (λ (t : List (Partial Sym)). Ordered (λ a b. a ≡ b → ⊥) t) (sym (map-append (λ (i : InstanceState). i.partial) stay more)) im.distinct in (

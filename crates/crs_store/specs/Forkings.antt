@@ -21,7 +21,7 @@ use Rattle.crs_store.specs.Hooks.{IsHookOfEvent, Waits, key_of}
 use Rattle.crs_store.specs.Links.{CanStart}
 use Rattle.crs_store.specs.Slots.{SlotsState, slot_at, handle_at, members}
 use Rattle.crs_store.specs.Stores.{parts}
-use Rattle.crs_store.specs.Sweeps.{IsReady, IsNow, IsOverNow}
+use Rattle.crs_store.specs.Sweeps.{IsReady, IsNow}
 use Rattle.crs_store.specs.Windows.{IsOpenAt, IsOver}
 
 -- each instance has a date window for the event
@@ -55,10 +55,10 @@ standing xs [] = []
 standing xs (p ∷ ps) = option_to_list (slice_index_or xs p None) ++ standing xs ps
 
 -- what comes of the chosen ones, where all that are held are over what can be read, and ready; it is judged at a date
-abbrev pub ComeOf : ((Partial Sym → Type 0) → Partial Sym → Partial Sym → Type 0) → Plan → Bool → HistoryState → Entry Sym → ℕ → List InstanceState → List InstanceState → List InstanceState → Type 0
-ComeOf From plan focus history x until held chosen out =
-    (entries : List (Entry Sym)) → IsNow plan history x entries → x.date ≤ until → AllByRecursion (IsOverNow plan focus entries x) held → IsReady x (parts held)
-    → IsImage (From (IsOpenAt plan focus entries entries until)) (parts chosen) (parts out) × AllByRecursion (IsOver plan focus entries entries until) out
+abbrev pub ComeOf : ((Partial Sym → Type 0) → Partial Sym → Partial Sym → Type 0) → Plan → Bool → HistoryState → Entry Sym → ℕ → ℕ → List InstanceState → List InstanceState → List InstanceState → Type 0
+ComeOf From plan focus history x since until held chosen out =
+    (pool entries : List (Entry Sym)) → IsNow plan focus history x since pool entries → since ≤ until → AllByRecursion (IsOver plan focus pool entries since) held → IsReady x (parts held)
+    → IsImage (From (IsOpenAt plan focus pool entries until)) (parts chosen) (parts out) × AllByRecursion (IsOver plan focus pool entries until) out
 
 -- what has x at the event e
 abbrev pub IsForkWith : (ℕ → ℕ) → Entry Sym → ℕ → (Partial Sym → Type 0) → Partial Sym → Partial Sym → Type 0
@@ -69,15 +69,15 @@ abbrev pub IsForkBelow : (ℕ → ℕ) → Entry Sym → ℕ → (Partial Sym �
 IsForkBelow level x n Fine a b = (e : ℕ) × (e < n) × StartsAt level Fine x a e b
 
 -- the forks at the event of what stands in the places
-abbrev pub AreForksOfPlaces : Plan → Bool → HistoryState → Entry Sym → ℕ → SlotsState → ℕ → List ℕ → List InstanceState → Type 0
-AreForksOfPlaces plan focus history x until slots e places out =
-    ComeOf (IsForkWith (levels_in plan focus) x e) plan focus history x until (members slots.slots) (standing slots.slots places) out
+abbrev pub AreForksOfPlaces : Plan → Bool → HistoryState → Entry Sym → ℕ → ℕ → SlotsState → ℕ → List ℕ → List InstanceState → Type 0
+AreForksOfPlaces plan focus history x since until slots e places out =
+    ComeOf (IsForkWith (levels_in plan focus) x e) plan focus history x since until (members slots.slots) (standing slots.slots places) out
 
 -- the forks at the event of all
-abbrev pub AreForksOfEvent : Plan → Bool → HistoryState → Entry Sym → ℕ → SlotsState → ℕ → List InstanceState → Type 0
-AreForksOfEvent plan focus history x until slots e out =
-    ComeOf (IsForkWith (levels_in plan focus) x e) plan focus history x until (members slots.slots) (members slots.slots) out
+abbrev pub AreForksOfEvent : Plan → Bool → HistoryState → Entry Sym → ℕ → ℕ → SlotsState → ℕ → List InstanceState → Type 0
+AreForksOfEvent plan focus history x since until slots e out =
+    ComeOf (IsForkWith (levels_in plan focus) x e) plan focus history x since until (members slots.slots) (members slots.slots) out
 
 -- the forks of all
-abbrev pub AreForksOfAll : Plan → Bool → HistoryState → Entry Sym → ℕ → List InstanceState → List InstanceState → Type 0
-AreForksOfAll plan focus history x until held out = ComeOf (λ Fine. IsForkByLevel (levels_in plan focus) Fine x) plan focus history x until held held out
+abbrev pub AreForksOfAll : Plan → Bool → HistoryState → Entry Sym → ℕ → ℕ → List InstanceState → List InstanceState → Type 0
+AreForksOfAll plan focus history x since until held out = ComeOf (λ Fine. IsForkByLevel (levels_in plan focus) Fine x) plan focus history x since until held held out

@@ -1,5 +1,5 @@
 -- For what instances wait.
-use Rattle.std.specs.Prelude.{◌≡◌, ◌⊎◌, ◌+◌, ◌<◌, ◌<ℤ◌, ◌≤ℤ◌, ℕ, ℤ, pos, List, Bool, true, Option, Some, None, IfSome, slice_get, slice_index_or}
+use Rattle.std.specs.Prelude.{if◌then◌else◌, ◌^◌, ◌≡◌, ◌⊎◌, ◌+◌, ◌<◌, ◌<ℤ◌, ◌≤ℤ◌, ℕ, ℤ, pos, List, Bool, true, Option, Some, None, IfSome, slice_get, slice_index_or}
 use Rattle.crs_agenda.specs.declared.timed.Handle.{Handle}
 use Rattle.crs_agenda.specs.Freshness.{is_fresh}
 use Rattle.crs_base.specs.declared.symbols.Sym.{Sym}
@@ -25,6 +25,10 @@ hook_at hooks n = slice_index_or hooks n (record { name = record { 0 = 0 }; pick
 -- the event can come by the date
 abbrev pub CanStart : InstanceState → ℕ → ℕ → Type 0
 CanStart i e d = IfSome (window_at i.windows e).least (λ m. m ≤ℤ pos d)
+
+-- by which date an awaited event can come for which an instance waits that was judged at d: of a prompt chronicle each, whatever its date
+abbrev pub linked_by : Plan → ℕ → ℕ
+linked_by plan d = if plan.chronicle.prompt then 2 ^ 42 else d
 
 -- the handle waits for each awaited event that can come by the date
 abbrev pub IsLinked : Plan → Bool → List Hook → IndexState → Handle → ℕ → InstanceState → Type 0

@@ -1,8 +1,9 @@
 -- Stores, and what they stand for.
-use Rattle.std.specs.Prelude.{◌≡◌, ◌≤◌, ◌<◌, ◌^◌, ℕ, List, [], ◌∷◌, ◌++◌, length, map, Bool}
+use Rattle.std.specs.Prelude.{◌≡◌, ◌≤◌, ◌<◌, ◌^◌, ℕ, List, [], ◌∷◌, ◌++◌, length, map, Bool, true, false}
 use Rattle.std.specs.List.{AllByRecursion}
 use Rattle.crs_base.specs.declared.symbols.Sym.{Sym}
 use Rattle.crs_base.specs.Entry.{Entry}
+use Rattle.crs_base.specs.Words.{IsIn}
 use Rattle.crs_model.specs.declared.plan.Plan.{Plan}
 use Rattle.crs_model.specs.Partial.{Partial}
 use Rattle.crs_model.specs.Plans.{chronicle, IsProper}
@@ -31,11 +32,12 @@ parts is = map (λ i. i.partial) is
 abbrev pub AllOf : Plan → List InstanceState → Type 0
 AllOf plan is = AllByRecursion (IsOf plan) is
 
--- a store of a proper plan, and instances of the plan, judged last at a date up to 2^42
+-- a store of a proper plan, and instances of the plan, judged last at a date up to 2^42; levels of a prompt chronicle aren't read
 pub record IsStore (s : StoreState) : Type 0 where
   pub proper : IsProper s.plan
   pub instances : AllOf s.plan s.held
   pub early : s.date ≤ 2 ^ 42
+  pub flat : s.plan.chronicle.prompt ≡ true → s.focus ≡ false
 
 -- the level of each event of the plan, as the store reads it
 abbrev pub levels_of : StoreState → ℕ → ℕ
@@ -79,3 +81,17 @@ IsOfferedUntil old history x until ahead beyond new =
     (was settled later : List (Entry Sym)) (d g h : ℕ) → StandsAhead old was settled settled (x ∷ later) d g h → AreAhead ahead beyond later h →
     HistoryStandsFor (settled ++ x ∷ []) history → IsFarBack old.plan.reach g history.floor → length (settled ++ x ∷ []) < 2 ^ 32 → IsFresh settled x → d ≤ x.date →
     (n : ℕ) × (d ≤ n) × (n ≤ until) × (LooksFor (chronicle old.plan) x.name → n ≡ until) × StandsAhead new was (settled ++ x ∷ []) (settled ++ x ∷ []) later n g h
+
+-- after x came to the pool of a prompt chronicle, whose arrival number is new there, and whose date isn't before g; the history stands for what is settled, and x isn't among it
+abbrev pub IsOfferedPrompt : StoreState → HistoryState → Entry Sym → StoreState → Type 0
+IsOfferedPrompt old history x new =
+    (was pool settled : List (Entry Sym)) (g : ℕ) → Stands old was pool settled g g →
+    HistoryStandsFor settled history → IsFarBack old.plan.reach g history.floor → length settled < 2 ^ 32 → IsFresh pool x → g ≤ x.date →
+    Stands new was (pool ++ x ∷ []) settled g g
+
+-- after x was settled, which is of the pool, whose date isn't before d, and which the history has as its last
+abbrev pub IsSettledWith : StoreState → HistoryState → Entry Sym → StoreState → Type 0
+IsSettledWith old history x new =
+    (was pool settled : List (Entry Sym)) (d g : ℕ) → Stands old was pool settled d g →
+    HistoryStandsFor (settled ++ x ∷ []) history → IsFarBack old.plan.reach g history.floor → length (settled ++ x ∷ []) < 2 ^ 32 → IsIn x pool → d ≤ x.date →
+    Stands new was pool (settled ++ x ∷ []) x.date g

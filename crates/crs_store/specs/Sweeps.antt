@@ -8,6 +8,7 @@ use Rattle.crs_model.specs.declared.plan.Plan.{Plan}
 use Rattle.crs_model.specs.Partial.{Partial, at}
 use Rattle.crs_model.specs.Images.{IsImage}
 use Rattle.crs_model.specs.Scans.{GoesOnByLevel}
+use Rattle.crs_model.specs.Steps.{GoesOn}
 use Rattle.crs_history.specs.Histories.{HistoryState}
 use Rattle.crs_instance.specs.Instances.{InstanceState}
 use Rattle.crs_store.specs.Ahead.{MayGo}
@@ -25,14 +26,13 @@ IsFree x a = (e : ℕ) → at a e ≡ Some x → ⊥
 abbrev pub IsReady : Entry Sym → List (Partial Sym) → Type 0
 IsReady x held = AllByRecursion (IsFree x) held × Ordered (λ a b. a ≡ b → ⊥) held
 
--- what can be read at the date of x, which is an entry by then, and the instances over it
-pub record IsNow (plan : Plan) (history : HistoryState) (x : Entry Sym) (entries : List (Entry Sym)) : Type 0 where
-  pub read : IsRead plan history entries x.date
-  pub there : IsIn x entries
-
--- an instance over all entries, judged at the date of x
-abbrev pub IsOverNow : Plan → Bool → List (Entry Sym) → Entry Sym → InstanceState → Type 0
-IsOverNow plan focus entries x i = IsOver plan focus entries entries x.date i
+-- what can be read at a date that x isn't before: the entries, where x is of the pool, and where levels are read the pool is the entries
+pub record IsNow (plan : Plan) (focus : Bool) (history : HistoryState) (x : Entry Sym) (since : ℕ) (pool entries : List (Entry Sym)) : Type 0 where
+  pub read : IsRead plan history entries since
+  pub there : IsIn x pool
+  pub early : since ≤ x.date
+  pub inside : (e : Entry Sym) → IsIn e entries → IsIn e pool
+  pub whole : focus ≡ true → pool ≡ entries
 
 -- what comes of the instances where x is settled after what was settled, and all is judged at a date
 abbrev pub TakesIn : Plan → Bool → HistoryState → Entry Sym → ℕ → ℕ → List InstanceState → List InstanceState → Type 0
@@ -46,6 +46,22 @@ TakesIn plan focus history x until since held new =
 abbrev pub TakesInSome : Plan → Bool → HistoryState → Entry Sym → ℕ → ℕ → List (Entry Sym) → ℕ → List InstanceState → List InstanceState → Type 0
 TakesInSome plan focus history x until since ahead beyond held new =
     (made : List InstanceState) × TakesIn plan focus history x until since held made × IsPartOf (MayGo plan focus ahead beyond) made new
+
+-- what comes of the instances of a prompt chronicle where x comes to the pool, and all stays judged at a date
+abbrev pub TakesPrompt : Plan → Bool → HistoryState → Entry Sym → ℕ → List InstanceState → List InstanceState → Type 0
+TakesPrompt plan focus history x g held new =
+    (pool entries : List (Entry Sym)) → g ≤ x.date → IsRead plan history entries g → ((e : Entry Sym) → IsIn e entries → IsIn e pool)
+    → AllByRecursion (IsOver plan focus pool entries g) held → IsReady x (parts held)
+    → IsImage (GoesOnByLevel (levels_in plan focus) (IsOpenAt plan focus (pool ++ x ∷ []) entries g) x) (parts held) (parts new)
+    × AllByRecursion (IsOver plan focus (pool ++ x ∷ []) entries g) new
+
+-- what stays of the instances where x is settled, which is of the pool, and all is judged at its date
+abbrev pub SettlesIn : Plan → Bool → HistoryState → Entry Sym → ℕ → List InstanceState → List InstanceState → Type 0
+SettlesIn plan focus history x since held new =
+    (pool settled : List (Entry Sym)) → since ≤ x.date → IsRead plan history (settled ++ x ∷ []) since → history.floor ≤ℤ pos since
+    → AllByRecursion (IsOver plan focus pool settled since) held → Ordered (λ a b. a ≡ b → ⊥) (parts held)
+    → IsImage (GoesOn (IsOpenAt plan focus pool (settled ++ x ∷ []) x.date)) (parts held) (parts new)
+    × AllByRecursion (IsOver plan focus pool (settled ++ x ∷ []) x.date) new
 
 abbrev pub is_whole : Partial Sym → Bool
 is_whole a = list_all (λ o. is_some o) a

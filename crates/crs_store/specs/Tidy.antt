@@ -11,18 +11,18 @@ use Rattle.crs_store.specs.declared.holding.Holding.{Holding}
 use Rattle.crs_store.specs.declared.hooks.Hook.{Hook}
 use Rattle.crs_store.specs.declared.hooks.Hooks.{Hooks}
 use Rattle.crs_store.specs.Dues.{AreDue, AreKept}
-use Rattle.crs_store.specs.Links.{Grows, IsLinked, IsLinkedAnew, IsArmed}
+use Rattle.crs_store.specs.Links.{linked_by, Grows, IsLinked, IsLinkedAnew, IsArmed}
 use Rattle.crs_store.specs.Linkings.{AreLinkedAnew}
 use Rattle.crs_store.specs.Slots.{SlotsState, slot_at, handle_at}
 use Rattle.crs_store.specs.Walks.{NamesDone}
 use Rattle.crs_store.specs.Sweeps.{IsDone}
 use Rattle.crs_store.specs.Windows.{IsAble}
 
--- Judged at d, it is able to be recognised. Its handle waits for each awaited event that can come by then, and for what may touch a window; it stands in the calendar at each date at which it has to be judged anew. Where it is done, its place is among the ripe ones.
+-- Judged at d, it is able to be recognised. Its handle waits for each awaited event that can come by then, of a prompt chronicle for each awaited event, and for what may touch a window; it stands in the calendar at each date at which it has to be judged anew. Where it is done, its place is among the ripe ones.
 pub record IsKnown (plan : Plan) (focus : Bool) (events windows : List Hook) (index : IndexState) (pairs : List Timed) (ripe : List ℕ) (handle : Handle) (d : ℕ) (i : InstanceState) : Type 0 where
   pub of : IsOf plan i
   pub able : IsAble plan focus d i
-  pub linked : IsLinked plan focus events index handle d i
+  pub linked : IsLinked plan focus events index handle (linked_by plan d) i
   pub armed : IsArmed plan windows index handle d i
   pub due : AreDue plan focus i handle d pairs
   pub done : IsDone plan d i → IsIn handle.place ripe
@@ -43,7 +43,7 @@ pub record Registers (plan : Plan) (focus : Bool) (hooks : Hooks) (h place : ℕ
   pub grown : Grows old.waiting new.waiting
   pub kept : AreKept old.dues.pairs new.dues.pairs
   pub stood : new.dues.date ≡ old.dues.date
-  pub linked : (i : InstanceState) → slot_at old.slots place ≡ Some i → IsLinkedAnew plan focus hooks.events.items new.waiting (handle_at old.slots place) None h i
+  pub linked : (i : InstanceState) → slot_at old.slots place ≡ Some i → IsLinkedAnew plan focus hooks.events.items new.waiting (handle_at old.slots place) None (linked_by plan h) i
   pub armed : (i : InstanceState) → slot_at old.slots place ≡ Some i → IsArmed plan hooks.windows.items new.waiting (handle_at old.slots place) h i
   pub due : (i : InstanceState) → slot_at old.slots place ≡ Some i → AreDue plan focus i (handle_at old.slots place) h new.dues.pairs
 
@@ -53,5 +53,5 @@ pub record SettlesPlaces (plan : Plan) (focus : Bool) (hooks : Hooks) (places : 
   pub dues : new.dues ≡ old.dues
   pub grown : Grows old.waiting new.waiting
   pub kept : (p : ℕ) → IsIn p old.ripe.items → IsIn p new.ripe.items
-  pub linked : AreLinkedAnew plan focus hooks.events.items old.slots new.waiting since h places
+  pub linked : AreLinkedAnew plan focus hooks.events.items old.slots new.waiting (linked_by plan since) (linked_by plan h) places
   pub named : NamesDone plan h old.slots places new.ripe.items

@@ -1,5 +1,5 @@
 //! The forks of the instances that may come of an entry.
-ghost use Rattle.std.specs.Prelude.{◌≡◌, ◌+◌, ◌*◌, ◌<◌, ◌≤◌, ◌^◌, length, None, false, IfOk, OnOk};
+ghost use Rattle.std.specs.Prelude.{◌≡◌, ◌+◌, ◌*◌, ◌<◌, ◌≤◌, ◌^◌, length, None, true, false, IfOk, OnOk};
 ghost use Rattle.std.specs.List.{AllZip, AllByRecursion};
 ghost use Rattle.std.specs.List.Sorted.{IsStrictlySortedBy};
 ghost use Rattle.std.specs.Ordering.{nat_cmp};
@@ -43,6 +43,7 @@ fn push_forks<L: Ledger>(
     event: u8,
     history: &History,
     entry: &Rc<Entry>,
+    since: u64,
     until: u64,
     steps: &mut Steps<L>,
     out: &mut Vec<Instance>,
@@ -50,10 +51,11 @@ fn push_forks<L: Ledger>(
     requires proper { IsProper plan.now }
     requires of { IsOf plan.now instance.now }
     requires event { event < length plan.now.chronicle.events }
-    requires last { EndsWith (entry_of entry.now.value) history.now.entries }
+    requires last { focus ≡ true → EndsWith (entry_of entry.now.value) history.now.entries }
     requires date { entry.now.value.date < 2 ^ 40 }
+    requires begun { since ≤ 2 ^ 42 }
     requires small { until ≤ 2 ^ 42 }
-    ensures forks { OnOk result (Adds plan.now focus until (AreForksAt plan.now focus history.now (entry_of entry.now.value) until instance.now event) out.old.items out.new.items) }
+    ensures forks { OnOk result (Adds plan.now focus until (AreForksAt plan.now focus history.now (entry_of entry.now.value) since until instance.now event) out.old.items out.new.items) }
     ensures cost { focus ≡ false → steps.new ≤ steps.old + 1 }
 {
     if !is_awaited(plan, focus, instance, event) {
@@ -68,7 +70,7 @@ fn push_forks<L: Ledger>(
     let level = level_of(plan, event, focus);
     let todo = Vec::new(alloc);
     decide(
-        alloc, plan, focus, instance, next, level, todo, history, entry, until, steps, out,
+        alloc, plan, focus, instance, next, level, todo, history, entry, since, until, steps, out,
     )
 }
 
@@ -155,6 +157,7 @@ fn forks_at<L: Ledger>(
     event: u8,
     history: &History,
     entry: &Rc<Entry>,
+    since: u64,
     until: u64,
     steps: &mut Steps<L>,
     out: &mut Vec<Instance>,
@@ -162,11 +165,12 @@ fn forks_at<L: Ledger>(
     requires proper { IsProper plan.now }
     requires of { AllOf plan.now (members slots.now.slots) }
     requires event { event < length plan.now.chronicle.events }
-    requires last { EndsWith (entry_of entry.now.value) history.now.entries }
+    requires last { focus ≡ true → EndsWith (entry_of entry.now.value) history.now.entries }
     requires date { entry.now.value.date < 2 ^ 40 }
+    requires begun { since ≤ 2 ^ 42 }
     requires small { until ≤ 2 ^ 42 }
     requires ordered { IsStrictlySortedBy nat_cmp places.now }
-    ensures forks { OnOk result (Adds plan.now focus until (AreForksOfPlaces plan.now focus history.now (entry_of entry.now.value) until slots.now event places.now) out.old.items out.new.items) }
+    ensures forks { OnOk result (Adds plan.now focus until (AreForksOfPlaces plan.now focus history.now (entry_of entry.now.value) since until slots.now event places.now) out.old.items out.new.items) }
     ensures cost { focus ≡ false → steps.new ≤ steps.old + length (members slots.now.slots) }
 {
     for place in places {
@@ -174,7 +178,7 @@ fn forks_at<L: Ledger>(
             continue;
         };
         push_forks(
-            alloc, plan, focus, instance, event, history, entry, until, steps, out,
+            alloc, plan, focus, instance, event, history, entry, since, until, steps, out,
         )?;
     }
     Ok(())
@@ -191,6 +195,7 @@ fn forks_of_event<L: Ledger>(
     event: u8,
     history: &History,
     entry: &Rc<Entry>,
+    since: u64,
     until: u64,
     steps: &mut Steps<L>,
     places: &mut Vec<u32>,
@@ -201,12 +206,13 @@ fn forks_of_event<L: Ledger>(
     requires event { event < length plan.now.chronicle.events }
     requires hook { IsHookAt plan.now event hook }
     requires linked { AreLinkedAt plan.now focus hook slots.now waiting.old event entry.now.value.date }
-    requires last { EndsWith (entry_of entry.now.value) history.now.entries }
+    requires last { focus ≡ true → EndsWith (entry_of entry.now.value) history.now.entries }
     requires date { entry.now.value.date < 2 ^ 40 }
+    requires begun { since ≤ 2 ^ 42 }
     requires small { until ≤ 2 ^ 42 }
     ensures fresh { KeepsFresh slots.now.serials waiting.old waiting.new }
     ensures standing { KeepsStanding slots.now waiting.old waiting.new }
-    ensures forks { OnOk result (Adds plan.now focus until (AreForksOfEvent plan.now focus history.now (entry_of entry.now.value) until slots.now event) out.old.items out.new.items) }
+    ensures forks { OnOk result (Adds plan.now focus until (AreForksOfEvent plan.now focus history.now (entry_of entry.now.value) since until slots.now event) out.old.items out.new.items) }
     ensures cost { focus ≡ false → steps.new ≤ steps.old + length (members slots.now.slots) }
 {
     places.clear();
@@ -214,7 +220,7 @@ fn forks_of_event<L: Ledger>(
     sort_places(places);
     let places = places.as_slice();
     forks_at(
-        alloc, plan, focus, slots, places, event, history, entry, until, steps, out,
+        alloc, plan, focus, slots, places, event, history, entry, since, until, steps, out,
     )
 }
 
@@ -229,6 +235,7 @@ pub(crate) fn forks<L: Ledger>(
     waiting: &mut Index,
     history: &History,
     entry: &Rc<Entry>,
+    since: u64,
     until: u64,
     steps: &mut Steps<L>,
     places: &mut Vec<u32>,
@@ -238,14 +245,15 @@ pub(crate) fn forks<L: Ledger>(
     requires hooks { AllZip IsHookOfEvent (chronicle plan.now).events hooks.now }
     requires of { AllOf plan.now (members slots.now.slots) }
     requires linked { AreLinked plan.now focus hooks.now slots.now waiting.old entry.now.value.date }
-    requires last { EndsWith (entry_of entry.now.value) history.now.entries }
+    requires last { focus ≡ true → EndsWith (entry_of entry.now.value) history.now.entries }
     requires date { entry.now.value.date < 2 ^ 40 }
+    requires begun { since ≤ 2 ^ 42 }
     requires small { until ≤ 2 ^ 42 }
     ensures fresh { KeepsFresh slots.now.serials waiting.old waiting.new }
     ensures standing { KeepsStanding slots.now waiting.old waiting.new }
     ensures of { OnOk result (AllOf plan.now out.new.items) }
     ensures able { OnOk result (AllByRecursion (IsAble plan.now focus until) out.new.items) }
-    ensures image { OnOk result (AreForksOfAll plan.now focus history.now (entry_of entry.now.value) until (members slots.now.slots) out.new.items) }
+    ensures image { OnOk result (AreForksOfAll plan.now focus history.now (entry_of entry.now.value) since until (members slots.now.slots) out.new.items) }
     ensures cost { focus ≡ false → steps.new ≤ steps.old + length plan.now.chronicle.events * length (members slots.now.slots) }
 {
     out.clear();
@@ -255,7 +263,7 @@ pub(crate) fn forks<L: Ledger>(
             continue;
         }
         forks_of_event(
-            alloc, plan, focus, hook, slots, waiting, event, history, entry, until, steps, places,
+            alloc, plan, focus, hook, slots, waiting, event, history, entry, since, until, steps, places,
             out,
         )?;
     }

@@ -16,7 +16,7 @@ ghost use Rattle.crs_store.specs.Windows.{IsAble, IsFollowed, IsPassed};
 use crate::dues::{collect_due, put_dues};
 use crate::hooks::Hooks;
 use crate::hope::is_hopeful;
-use crate::linking::{arm_windows, link_events, link_places};
+use crate::linking::{arm_windows, link_events, link_places, linked_by};
 use crate::links::note_touched;
 use crate::places::sort_places;
 use crate::slots::Slots;
@@ -120,7 +120,7 @@ fn register(
         instance,
         handle,
         None,
-        h,
+        linked_by(plan, h),
     )?;
     let windows = hooks.windows.as_slice();
     arm_windows(&mut holding.waiting, plan, windows, instance, handle, h)?;
@@ -237,8 +237,8 @@ fn settle_places(
         events,
         &holding.slots,
         places,
-        since,
-        h,
+        linked_by(plan, since),
+        linked_by(plan, h),
     )?;
     note_ripe(plan, &holding.slots, places, h, &mut holding.ripe)?;
     Ok(())

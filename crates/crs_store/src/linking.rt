@@ -3,7 +3,7 @@ ghost use Rattle.std.specs.Prelude.{◌≡◌, ◌<◌, ◌≤◌, ◌^◌, ◌+
 ghost use Rattle.crs_instance.specs.Instances.{IsOf};
 ghost use Rattle.crs_model.specs.Plans.{IsProper};
 ghost use Rattle.crs_store.specs.Hooks.{Waits};
-ghost use Rattle.crs_store.specs.Links.{Grows, IsLinkedAnew, IsArmed};
+ghost use Rattle.crs_store.specs.Links.{linked_by, Grows, IsLinkedAnew, IsArmed};
 ghost use Rattle.crs_store.specs.Linkings.{StartsBetween, IsLinkedAt, IsArmedAt, AreLinkedAnew};
 ghost use Rattle.crs_store.specs.Slots.{slot_at, handle_at};
 
@@ -45,6 +45,17 @@ fn starts_between(window: DateWindow, since: Option<u64>, h: u64) -> bool
         None => true,
         Some(earlier) => !is_by(least, earlier),
     }
+}
+
+/// It is after each date of an entry.
+const END: u64 = 1 << 42;
+
+/// By which date an event can come that an instance waits for, where it was judged at `h`: those of
+/// a prompt chronicle may take an entry of any date.
+pub(crate) fn linked_by(plan: &Plan, h: u64) -> u64
+    ensures { result ≡ linked_by plan.now h }
+{
+    if plan.chronicle.prompt { END } else { h }
 }
 
 /// Has the handle wait for the event, where it is awaited and can come by `h`, and couldn't by

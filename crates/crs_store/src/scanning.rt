@@ -1,6 +1,6 @@
 //! What comes of an instance whose level is done with: the events of the next levels are looked up
 //! among the entries that are there, in each way that they can be.
-ghost use Rattle.std.specs.Prelude.{◌≡◌, ◌<◌, ◌≤◌, ◌^◌, ◌++◌, ◌↔◌, ◌≤ℤ◌, pos, false, [], ◌∷◌, length, OnOk, IfSome, IsTrue};
+ghost use Rattle.std.specs.Prelude.{◌≡◌, ◌<◌, ◌≤◌, ◌^◌, ◌++◌, ◌↔◌, ◌≤ℤ◌, pos, true, false, [], ◌∷◌, length, OnOk, IfSome, IsTrue};
 ghost use Rattle.crs_base.specs.Seen.{entry_of};
 ghost use Rattle.crs_base.specs.Words.{IsIn};
 ghost use Rattle.crs_history.specs.Histories.{EndsWith};
@@ -29,6 +29,7 @@ fn keep_if_able(
     mut next: Instance,
     history: &History,
     entry: &Entry,
+    since: u64,
     until: u64,
     out: &mut Vec<Instance>,
 ) -> Result<(), AllocError>
@@ -36,11 +37,12 @@ fn keep_if_able(
     requires of { IsOf plan.now parent.now }
     requires next { IsOf plan.now next }
     requires date { entry.now.date < 2 ^ 40 }
+    requires begun { since ≤ 2 ^ 42 }
     requires small { until ≤ 2 ^ 42 }
-    ensures { OnOk result (Adds plan.now focus until (IsKeptIfAble plan.now focus history.now (entry_of entry.now) until parent.now next) out.old.items out.new.items) }
+    ensures { OnOk result (Adds plan.now focus until (IsKeptIfAble plan.now focus history.now (entry_of entry.now) since until parent.now next) out.old.items out.new.items) }
 {
-    begin_windows(plan, parent, &mut next, history, entry.date);
-    go_on_to(plan, &mut next, history, entry.date, until);
+    begin_windows(plan, parent, &mut next, history, since);
+    go_on_to(plan, &mut next, history, since, until);
     if is_able(plan, focus, &next, until) {
         out.push(next)?;
     }
@@ -72,6 +74,7 @@ pub(crate) fn decide<L: Ledger>(
     mut todo: Vec<u8>,
     history: &History,
     entry: &Entry,
+    since: u64,
     until: u64,
     steps: &mut Steps<L>,
     out: &mut Vec<Instance>,
@@ -80,23 +83,25 @@ pub(crate) fn decide<L: Ledger>(
     requires of { IsOf plan.now parent.now }
     requires next { IsOf plan.now next }
     requires todo { AreToDecide (levels_in plan.now focus) next.partial level todo.items }
-    requires last { EndsWith (entry_of entry.now) history.now.entries }
+    requires levels { focus ≡ false → todo.items ≡ [] }
+    requires last { focus ≡ true → EndsWith (entry_of entry.now) history.now.entries }
     requires date { entry.now.date < 2 ^ 40 }
+    requires begun { since ≤ 2 ^ 42 }
     requires small { until ≤ 2 ^ 42 }
-    ensures decided { OnOk result (Adds plan.now focus until (IsDecided plan.now focus history.now (entry_of entry.now) until parent.now next level todo.items) out.old.items out.new.items) }
+    ensures decided { OnOk result (Adds plan.now focus until (IsDecided plan.now focus history.now (entry_of entry.now) since until parent.now next level todo.items) out.old.items out.new.items) }
     ensures cost { focus ≡ false → todo.items ≡ [] → steps.new ≡ steps.old }
 {
     let Some(event) = todo.pop() else {
         return decide_higher(
-            alloc, plan, focus, parent, next, level, history, entry, until, steps, out,
+            alloc, plan, focus, parent, next, level, history, entry, since, until, steps, out,
         );
     };
     decide_at(
-        alloc, plan, focus, parent, &next, level, event, &todo, history, entry, until, steps, out,
+        alloc, plan, focus, parent, &next, level, event, &todo, history, entry, since, until, steps, out,
     )?;
     if can_be_left(&next, event, until) {
         decide(
-            alloc, plan, focus, parent, next, level, todo, history, entry, until, steps, out,
+            alloc, plan, focus, parent, next, level, todo, history, entry, since, until, steps, out,
         )?;
     }
     Ok(())
@@ -113,6 +118,7 @@ fn decide_higher<L: Ledger>(
     level: u8,
     history: &History,
     entry: &Entry,
+    since: u64,
     until: u64,
     steps: &mut Steps<L>,
     out: &mut Vec<Instance>,
@@ -120,18 +126,19 @@ fn decide_higher<L: Ledger>(
     requires proper { IsProper plan.now }
     requires of { IsOf plan.now parent.now }
     requires next { IsOf plan.now next }
-    requires last { EndsWith (entry_of entry.now) history.now.entries }
+    requires last { focus ≡ true → EndsWith (entry_of entry.now) history.now.entries }
     requires date { entry.now.date < 2 ^ 40 }
+    requires begun { since ≤ 2 ^ 42 }
     requires small { until ≤ 2 ^ 42 }
-    ensures decided { OnOk result (Adds plan.now focus until (IsDecided plan.now focus history.now (entry_of entry.now) until parent.now next level []) out.old.items out.new.items) }
+    ensures decided { OnOk result (Adds plan.now focus until (IsDecided plan.now focus history.now (entry_of entry.now) since until parent.now next level []) out.old.items out.new.items) }
     ensures cost { focus ≡ false → steps.new ≡ steps.old }
 {
     let Some(higher) = next_level(plan, focus, &next, level) else {
-        return keep_if_able(plan, focus, parent, next, history, entry, until, out);
+        return keep_if_able(plan, focus, parent, next, history, entry, since, until, out);
     };
     let todo = awaited_events(alloc, plan, focus, &next)?;
     decide(
-        alloc, plan, focus, parent, next, higher, todo, history, entry, until, steps, out,
+        alloc, plan, focus, parent, next, higher, todo, history, entry, since, until, steps, out,
     )
 }
 
@@ -148,6 +155,7 @@ fn decide_at<L: Ledger>(
     rest: &Vec<u8>,
     history: &History,
     entry: &Entry,
+    since: u64,
     until: u64,
     steps: &mut Steps<L>,
     out: &mut Vec<Instance>,
@@ -156,18 +164,20 @@ fn decide_at<L: Ledger>(
     requires of { IsOf plan.now parent.now }
     requires next { IsOf plan.now next.now }
     requires todo { AreToDecide (levels_in plan.now focus) next.now.partial level (rest.now.items ++ event ∷ []) }
+    requires read { focus ≡ true }
     requires last { EndsWith (entry_of entry.now) history.now.entries }
     requires date { entry.now.date < 2 ^ 40 }
+    requires begun { since ≤ 2 ^ 42 }
     requires small { until ≤ 2 ^ 42 }
-    ensures decided { OnOk result (Adds plan.now focus until (IsDecidedAt plan.now focus history.now (entry_of entry.now) until parent.now next.now level rest.now.items event) out.old.items out.new.items) }
+    ensures decided { OnOk result (Adds plan.now focus until (IsDecidedAt plan.now focus history.now (entry_of entry.now) since until parent.now next.now level rest.now.items event) out.old.items out.new.items) }
 {
     let name = plan.chronicle.events.as_slice()[event as usize]
         .pattern
         .name;
     for candidate in candidates(history, name, next.date_window(event), entry) {
         decide_with(
-            alloc, plan, focus, parent, next, level, event, candidate, rest, history, entry, until,
-            steps, out,
+            alloc, plan, focus, parent, next, level, event, candidate, rest, history, entry, since,
+            until, steps, out,
         )?;
     }
     Ok(())
@@ -187,6 +197,7 @@ fn decide_with<L: Ledger>(
     rest: &Vec<u8>,
     history: &History,
     entry: &Entry,
+    since: u64,
     until: u64,
     steps: &mut Steps<L>,
     out: &mut Vec<Instance>,
@@ -195,18 +206,20 @@ fn decide_with<L: Ledger>(
     requires of { IsOf plan.now parent.now }
     requires next { IsOf plan.now next.now }
     requires todo { AreToDecide (levels_in plan.now focus) next.now.partial level (rest.now.items ++ event ∷ []) }
+    requires read { focus ≡ true }
     requires last { EndsWith (entry_of entry.now) history.now.entries }
     requires date { entry.now.date < 2 ^ 40 }
     requires early { candidate.now.value.date < 2 ^ 40 }
     requires held { IsIn (entry_of candidate.now.value) history.now.entries }
+    requires begun { since ≤ 2 ^ 42 }
     requires small { until ≤ 2 ^ 42 }
-    ensures decided { OnOk result (Adds plan.now focus until (AreDecidedWith plan.now focus history.now (entry_of entry.now) until parent.now next.now level rest.now.items event (entry_of candidate.now.value ∷ [])) out.old.items out.new.items) }
+    ensures decided { OnOk result (Adds plan.now focus until (AreDecidedWith plan.now focus history.now (entry_of entry.now) since until parent.now next.now level rest.now.items event (entry_of candidate.now.value ∷ [])) out.old.items out.new.items) }
 {
     let Some(fork) = next.fork(plan, event, candidate, steps)? else {
         return Ok(());
     };
     let todo = Vec::from_slice(alloc, rest.as_slice())?;
     decide(
-        alloc, plan, focus, parent, fork, level, todo, history, entry, until, steps, out,
+        alloc, plan, focus, parent, fork, level, todo, history, entry, since, until, steps, out,
     )
 }

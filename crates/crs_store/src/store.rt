@@ -1,11 +1,12 @@
-ghost use Rattle.std.specs.Prelude.{◌≡◌, ◌+◌, ◌*◌, ◌<◌, ◌≤◌, ◌^◌, ◌↔◌, ◌⊎◌, [], ◌∷◌, length, replicate, None, slice_get, IsTrue, OnOk, IfOk, IfSome, Err, false, map};
+ghost use Rattle.std.specs.Prelude.{◌≡◌, ◌+◌, ◌*◌, ◌<◌, ◌≤◌, ◌^◌, ◌↔◌, ◌⊎◌, [], ◌∷◌, length, replicate, None, slice_get, IsTrue, OnOk, IfOk, IfSome, Err, true, false, map};
 ghost use Rattle.std.specs.Option.{option_copied};
 ghost use Rattle.crs_base.specs.Seen.{entry_of};
 ghost use Rattle.crs_history.specs.Histories.{EndsWith};
-ghost use Rattle.crs_model.specs.Plans.{IsProper};
+ghost use Rattle.crs_model.specs.Plans.{IsProper, chronicle};
+ghost use Rattle.crs_model.specs.Levels.{reads_levels};
 ghost use Rattle.crs_instance.specs.Instances.{InstanceState, IsOf};
-ghost use Rattle.crs_store.specs.Stores.{Stands, IsStore, IsSameStore, IsOffered, IsOfferedAt, IsOfferedUntil};
-ghost use Rattle.crs_store.specs.Sweeps.{TakesInSome};
+ghost use Rattle.crs_store.specs.Stores.{Stands, IsStore, IsSameStore, IsOffered, IsOfferedAt, IsOfferedUntil, IsOfferedPrompt, IsSettledWith};
+ghost use Rattle.crs_store.specs.Sweeps.{TakesInSome, TakesPrompt};
 ghost use Rattle.crs_store.specs.Answers.{IsAdvanced, MovesOn};
 ghost use Rattle.crs_store.specs.Hooks.{AreHooks};
 ghost use Rattle.crs_store.specs.Slots.{members};
@@ -99,6 +100,7 @@ fn take_in<L: Ledger>(
         &mut holding.waiting,
         history,
         entry,
+        entry.date,
         until,
         steps,
         places,
@@ -108,6 +110,51 @@ fn take_in<L: Ledger>(
         holding, plan, focus, hooks, history, entry.date, until, places,
     )?;
     hold_all(holding, plan, focus, hooks, born, ahead, beyond, until)?;
+    Ok(())
+}
+
+/// Adds what comes of the instances of a prompt chronicle by the entry, which isn't settled yet: all
+/// stays judged at the date `g`.
+fn take_prompt<L: Ledger>(
+    alloc: Global,
+    plan: &Plan,
+    focus: bool,
+    hooks: &Hooks,
+    holding: &mut Holding,
+    history: &History,
+    entry: &Rc<Entry>,
+    g: u64,
+    steps: &mut Steps<L>,
+    places: &mut Vec<u32>,
+    born: &mut Vec<Instance>,
+) -> Result<(), AllocError>
+    requires proper { IsProper plan.now }
+    requires hooks { AreHooks plan.now hooks.now.events.items hooks.now.windows.items }
+    requires prompt { plan.now.chronicle.prompt ≡ true }
+    requires flat { focus ≡ false }
+    requires tidy { IsTidyHolding plan.now focus hooks.now holding.old g }
+    requires early { g ≤ entry.now.value.date }
+    requires date { entry.now.value.date < 2 ^ 40 }
+    ensures tidy { OnOk result (IsTidyHolding plan.now focus hooks.now holding.new g) }
+    ensures taken { OnOk result (TakesPrompt plan.now focus history.now (entry_of entry.now.value) g (members holding.old.slots.slots) (members holding.new.slots.slots)) }
+    ensures cost { steps.new ≤ steps.old + length plan.now.chronicle.events * length (members holding.old.slots.slots) }
+{
+    forks(
+        alloc,
+        plan,
+        focus,
+        hooks.events.as_slice(),
+        &holding.slots,
+        &mut holding.waiting,
+        history,
+        entry,
+        g,
+        g,
+        steps,
+        places,
+        born,
+    )?;
+    hold_all(holding, plan, focus, hooks, born, &[], 0, g)?;
     Ok(())
 }
 
@@ -167,15 +214,16 @@ fn first_holding(
 
 impl Store {
     /// A store of the chronicle of this number, counted from 0 in file order. Nothing is bound yet.
-    /// Without focus every event counts as of level 0.
+    /// Without focus, and where the chronicle is prompt, every event counts as of level 0.
     pub fn new(alloc: Global, plan: Rc<Plan>, number: u32, focus: bool) -> Result<Store, AllocError>
         requires proper { IsProper plan.value }
         ensures plan { IfOk result (λ s. s.plan ≡ plan.value) }
         ensures number { IfOk result (λ s. s.number ≡ number) }
-        ensures focus { IfOk result (λ s. s.focus ≡ focus) }
+        ensures focus { IfOk result (λ s. s.focus ≡ reads_levels (chronicle plan.value) focus) }
         ensures running { IfOk result (λ s. s.stopped ≡ false) }
         ensures stands { IfOk result (λ s. Stands s [] [] [] 0 0) }
     {
+        let focus = focus && !plan.chronicle.prompt;
         let hooks = Hooks::of(alloc, &plan)?;
         let holding = first_holding(alloc, &plan, focus, &hooks)?;
         Ok(Store {
@@ -289,6 +337,95 @@ impl Store {
         ) {
             Ok(()) => {
                 self.date = until;
+                Ok(())
+            }
+            Err(_) => {
+                self.holding = no_holding(self.alloc);
+                self.stopped = true;
+                Err(StoreRefused::Memory)
+            }
+        }
+    }
+
+    /// Whether the chronicle is prompt.
+    pub fn is_prompt(&self) -> bool
+        ensures { result ≡ self.now.plan.chronicle.prompt }
+    {
+        self.plan.chronicle.prompt
+    }
+
+    /// Takes in an entry of a prompt chronicle, which isn't dated before the last horizon and isn't
+    /// settled yet. After `Memory` nothing is held, and the store answers only `Stopped`.
+    pub fn offer_prompt<L: Ledger>(
+        &mut self,
+        history: &History,
+        entry: &Rc<Entry>,
+        steps: &mut Steps<L>,
+    ) -> Result<(), StoreRefused>
+        requires prompt { self.old.plan.chronicle.prompt ≡ true }
+        requires date { entry.now.value.date < 2 ^ 40 }
+        ensures stopped { (result ≡ Err Stopped) ↔ IsTrue self.old.stopped }
+        ensures raised { IsTrue self.new.stopped ↔ (IsTrue self.old.stopped ⊎ (result ≡ Err Memory)) }
+        ensures same { IsSameStore self.old self.new }
+        ensures stands { OnOk result (IsOfferedPrompt self.old history.now (entry_of entry.now.value) self.new) }
+        ensures cost { steps.new ≤ steps.old + 2 * length self.old.plan.chronicle.events * length self.old.held }
+    {
+        if self.stopped {
+            return Err(StoreRefused::Stopped);
+        }
+        if entry.date < self.date {
+            return Ok(());
+        }
+        match take_prompt(
+            self.alloc,
+            &self.plan,
+            self.focus,
+            &self.hooks,
+            &mut self.holding,
+            history,
+            entry,
+            self.date,
+            steps,
+            &mut self.places,
+            &mut self.born,
+        ) {
+            Ok(()) => Ok(()),
+            Err(_) => {
+                self.holding = no_holding(self.alloc);
+                self.stopped = true;
+                Err(StoreRefused::Memory)
+            }
+        }
+    }
+
+    /// Settles an entry that a prompt chronicle took in before, which is the last of the history: its
+    /// windows are judged at the entry's date. After `Memory` nothing is held, and the store answers
+    /// only `Stopped`.
+    pub fn settle(&mut self, history: &History, entry: &Rc<Entry>) -> Result<(), StoreRefused>
+        requires date { entry.now.value.date < 2 ^ 40 }
+        ensures stopped { (result ≡ Err Stopped) ↔ IsTrue self.old.stopped }
+        ensures raised { IsTrue self.new.stopped ↔ (IsTrue self.old.stopped ⊎ (result ≡ Err Memory)) }
+        ensures same { IsSameStore self.old self.new }
+        ensures stands { OnOk result (IsSettledWith self.old history.now (entry_of entry.now.value) self.new) }
+    {
+        if self.stopped {
+            return Err(StoreRefused::Stopped);
+        }
+        if entry.date < self.date {
+            return Ok(());
+        }
+        match follow(
+            &mut self.holding,
+            &self.plan,
+            self.focus,
+            &self.hooks,
+            history,
+            entry,
+            self.date,
+            &mut self.places,
+        ) {
+            Ok(()) => {
+                self.date = entry.date;
                 Ok(())
             }
             Err(_) => {

@@ -21,7 +21,7 @@ returns-clause-forks g c =
     let still : (p : ℕ) → IsIn p found → IsIn p c.as_slice-places.result.now = (λ p i. subst (λ (ps : List ℕ). IsIn p ps) (sym c.as_slice-places.ensures.value) (c.sort_places.ensures.kept p i)) in
     let places = c.as_slice-places.result.now in
     on_ok_weaker c.forks_at.result
-    (adds_as c.args.plan.now c.args.focus c.args.until (AreForksOfPlaces c.args.plan.now c.args.focus c.args.history.now x c.args.until c.args.slots.now c.args.event places) (AreForksOfEvent c.args.plan.now c.args.focus c.args.history.now x c.args.until c.args.slots.now c.args.event) c.args.out.now.items c.forks_at.new.out.items
-    (λ more d. all_found c.args.plan.now c.args.focus c.args.history.now x c.args.until c.args.slots.now c.args.event c.requires.proper c.requires.of c.requires.event c.args.hook c.requires.hook c.args.waiting.now places more c.requires.linked
+    (adds_as c.args.plan.now c.args.focus c.args.until (AreForksOfPlaces c.args.plan.now c.args.focus c.args.history.now x c.args.since c.args.until c.args.slots.now c.args.event places) (AreForksOfEvent c.args.plan.now c.args.focus c.args.history.now x c.args.since c.args.until c.args.slots.now c.args.event) c.args.out.now.items c.forks_at.new.out.items
+    (λ more d. all_found c.args.plan.now c.args.focus c.args.history.now x c.args.since c.args.until c.args.slots.now c.args.event c.requires.proper c.requires.of c.requires.event c.args.hook c.requires.hook c.args.waiting.now places more c.requires.linked
     (λ p w i s inside. still p (lacking p w i s inside)) (λ p w i s inside. still p (having p w i s inside)) d))
     c.forks_at.ensures.forks

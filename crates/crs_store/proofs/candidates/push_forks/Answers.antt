@@ -15,8 +15,8 @@ never s = cc
 pub returns-then-not-is_awaited-clause-forks : goal.returns-then-not-is_awaited-clause-forks
 returns-then-not-is_awaited-clause-forks g c =
     let plan = c.args.plan.now in
-    adds_none plan c.args.focus c.args.until (AreForksAt plan c.args.focus c.args.history.now (entry_of c.args.entry.now.value) c.args.until c.args.instance.now c.args.event) c.args.out.now.items
-    (unawaited plan c.args.focus c.args.history.now (entry_of c.args.entry.now.value) c.args.until c.args.instance.now c.args.event (λ a. never ((c.if-not-is_awaited.ensures {u = tt}).1 a)))
+    adds_none plan c.args.focus c.args.until (AreForksAt plan c.args.focus c.args.history.now (entry_of c.args.entry.now.value) c.args.since c.args.until c.args.instance.now c.args.event) c.args.out.now.items
+    (unawaited plan c.args.focus c.args.history.now (entry_of c.args.entry.now.value) c.args.since c.args.until c.args.instance.now c.args.event (λ a. never ((c.if-not-is_awaited.ensures {u = tt}).1 a)))
 
 pub can_wait_with-requires-clause-unbound : goal.can_wait_with-requires-clause-unbound
 can_wait_with-requires-clause-unbound g c = ((c.if-not-is_awaited.ensures {u = tt}).0 refl).unbound
@@ -27,15 +27,15 @@ returns-then-not-can_wait_with-clause-forks g c =
     let x = entry_of c.args.entry.now.value in
     let awaited = (c.if-not-is_awaited.ensures {u = tt}).0 refl in
     let late = subst (λ (e : CodeEntry). AnotherIsLate plan (levels_in plan c.args.focus) c.args.instance.now.partial c.args.event e.date c.args.until) c.deref.ensures ((c.if-not-can_wait_with.ensures {u = tt}).no refl) in
-    adds_none plan c.args.focus c.args.until (AreForksAt plan c.args.focus c.args.history.now x c.args.until c.args.instance.now c.args.event) c.args.out.now.items
-    (too_late plan c.args.focus c.args.history.now x c.args.until c.args.instance.now c.args.event awaited late)
+    adds_none plan c.args.focus c.args.until (AreForksAt plan c.args.focus c.args.history.now x c.args.since c.args.until c.args.instance.now c.args.event) c.args.out.now.items
+    (too_late plan c.args.focus c.args.history.now x c.args.since c.args.until c.args.instance.now c.args.event awaited late)
 
 pub returns-in_default-clause-forks : goal.returns-in_default-clause-forks
 returns-in_default-clause-forks g c =
     let plan = c.args.plan.now in
     let x = entry_of c.args.entry.now.value in
-    adds_none plan c.args.focus c.args.until (AreForksAt plan c.args.focus c.args.history.now x c.args.until c.args.instance.now c.args.event) c.args.out.now.items
-    (unforked plan c.args.focus c.args.history.now x c.args.until c.args.instance.now c.args.event
+    adds_none plan c.args.focus c.args.until (AreForksAt plan c.args.focus c.args.history.now x c.args.since c.args.until c.args.instance.now c.args.event) c.args.out.now.items
+    (unforked plan c.args.focus c.args.history.now x c.args.since c.args.until c.args.instance.now c.args.event
     (subst (λ (t : Option InstanceState). IsForked plan c.args.instance.now c.args.event x t) c.in_default.is ((c.in_ok-next.ensures {u = tt}).fork)))
 
 pub returns-clause-forks : goal.returns-clause-forks
@@ -44,15 +44,16 @@ returns-clause-forks g c =
     let history = c.args.history.now in
     let x = entry_of c.args.entry.now.value in
     let focus = c.args.focus in
+    let since = c.args.since in
     let until = c.args.until in
     let instance = c.args.instance.now in
     let event = c.args.event in
     let awaited = (c.if-not-is_awaited.ensures {u = tt}).0 refl in
     let forked = subst (λ (t : Option InstanceState). IsForked plan instance event x t) c.in-Some.is ((c.in_ok-next.ensures {u = tt}).fork) in
     on_ok_weaker c.decide.result
-    (adds_as plan focus until (IsDecided plan focus history (entry_of c.deref-2.result.now) until instance c.in-Some.next c.level_of-level.result c.new-todo.result.items) (AreForksAt plan focus history x until instance event) c.args.out.now.items c.decide.new.out.items
-    (λ more d. started plan focus history x until instance event awaited c.in-Some.next forked.1 more
-    (subst (λ (l : ℕ). IsDecided plan focus history x until instance c.in-Some.next l [] more) c.level_of-level.ensures
-    (subst (λ (todo : List ℕ). IsDecided plan focus history x until instance c.in-Some.next c.level_of-level.result todo more) c.new-todo.ensures.items
-    (subst (λ (e : CodeEntry). IsDecided plan focus history (entry_of e) until instance c.in-Some.next c.level_of-level.result c.new-todo.result.items more) c.deref-2.ensures d)))))
+    (adds_as plan focus until (IsDecided plan focus history (entry_of c.deref-2.result.now) since until instance c.in-Some.next c.level_of-level.result c.new-todo.result.items) (AreForksAt plan focus history x since until instance event) c.args.out.now.items c.decide.new.out.items
+    (λ more d. started plan focus history x since until instance event awaited c.in-Some.next forked.1 more
+    (subst (λ (l : ℕ). IsDecided plan focus history x since until instance c.in-Some.next l [] more) c.level_of-level.ensures
+    (subst (λ (todo : List ℕ). IsDecided plan focus history x since until instance c.in-Some.next c.level_of-level.result todo more) c.new-todo.ensures.items
+    (subst (λ (e : CodeEntry). IsDecided plan focus history (entry_of e) since until instance c.in-Some.next c.level_of-level.result c.new-todo.result.items more) c.deref-2.ensures d)))))
     c.decide.ensures.decided

@@ -19,12 +19,12 @@ returns-in_ok-push c =
     let of = still_of c.args.plan.now c.begin_windows.new.fork c.go_on_to.new.instance c.go_on_to.ensures.same (still_of c.args.plan.now c.args.next c.begin_windows.new.fork c.begin_windows.ensures.same c.requires.next) in
     let able = c.is_able.ensures.0 c.if-is_able.true in
     let items : c.push.new.self.items ≡ c.args.out.now.items ++ c.go_on_to.new.instance ∷ [] = search rules in
-    adds_one c.args.plan.now c.args.focus c.args.until (IsKeptIfAble c.args.plan.now c.args.focus c.args.history.now (entry_of c.args.entry.now) c.args.until c.args.parent.now c.args.next) c.args.out.now.items c.push.new.self.items c.go_on_to.new.instance items of able
-    (kept_able c.args.plan.now c.args.focus c.requires.proper c.args.history.now (entry_of c.args.entry.now) c.args.until c.args.parent.now c.args.next c.begin_windows.new.fork c.go_on_to.new.instance c.requires.of c.requires.next of c.begin_windows.ensures c.go_on_to.ensures able)
+    adds_one c.args.plan.now c.args.focus c.args.until (IsKeptIfAble c.args.plan.now c.args.focus c.args.history.now (entry_of c.args.entry.now) c.args.since c.args.until c.args.parent.now c.args.next) c.args.out.now.items c.push.new.self.items c.go_on_to.new.instance items of able
+    (kept_able c.args.plan.now c.args.focus c.requires.proper c.args.history.now (entry_of c.args.entry.now) c.args.since c.args.until c.args.parent.now c.args.next c.begin_windows.new.fork c.go_on_to.new.instance c.requires.of c.requires.next of c.begin_windows.ensures c.go_on_to.ensures able)
 
 pub returns-else-is_able : goal.returns-else-is_able
 returns-else-is_able c =
     let of = still_of c.args.plan.now c.begin_windows.new.fork c.go_on_to.new.instance c.go_on_to.ensures.same (still_of c.args.plan.now c.args.next c.begin_windows.new.fork c.begin_windows.ensures.same c.requires.next) in
-    adds_none c.args.plan.now c.args.focus c.args.until (IsKeptIfAble c.args.plan.now c.args.focus c.args.history.now (entry_of c.args.entry.now) c.args.until c.args.parent.now c.args.next) c.args.out.now.items
-    (kept_unable c.args.plan.now c.args.focus c.requires.proper c.args.history.now (entry_of c.args.entry.now) c.args.until c.args.parent.now c.args.next c.begin_windows.new.fork c.go_on_to.new.instance c.requires.of c.requires.next of c.begin_windows.ensures c.go_on_to.ensures
+    adds_none c.args.plan.now c.args.focus c.args.until (IsKeptIfAble c.args.plan.now c.args.focus c.args.history.now (entry_of c.args.entry.now) c.args.since c.args.until c.args.parent.now c.args.next) c.args.out.now.items
+    (kept_unable c.args.plan.now c.args.focus c.requires.proper c.args.history.now (entry_of c.args.entry.now) c.args.since c.args.until c.args.parent.now c.args.next c.begin_windows.new.fork c.go_on_to.new.instance c.requires.of c.requires.next of c.begin_windows.ensures c.go_on_to.ensures
     (λ able. no_both c.is_able.result (c.is_able.ensures.1 able) c.if-is_able.false))

@@ -1,12 +1,16 @@
-use Rattle.std.proofs.Common.{◌∙◌, ◌++◌, length, map, sym, subst}
+use Rattle.std.proofs.Common.{◌∙◌, ◌++◌, List, length, map, sym, ap, subst, inl, arith}
 use Rattle.crs_base.specs.declared.entry.Entry.{Entry as CodeEntry}
 use Rattle.crs_base.specs.Seen.{entry_of}
 use Rattle.crs_store.specs.Ahead.{MayGo}
+use Rattle.crs_store.specs.Forkings.{AreForksOfAll}
 use Rattle.crs_store.specs.Joins.{Renews}
+use Rattle.crs_store.specs.Links.{AreLinked}
+use Rattle.crs_store.specs.declared.hooks.Hook.{Hook}
 use Rattle.crs_store.specs.Slots.{members}
 use Rattle.crs_store.specs.Tidy.{IsTidy}
 use Rattle.crs_store.specs.Windows.{IsAble, IsFollowed, IsPassed}
-use Rattle.crs_store.proofs.Assembled.{tidy_all, tidy_standing, few_ticks}
+use Rattle.crs_store.proofs.Assembled.{tidy_all, tidy_standing, tidy_linked, few_ticks}
+use Rattle.crs_store.proofs.Linked.{within_linked}
 use Rattle.crs_store.proofs.Joined.{joins_both, part_of}
 use Rattle.crs_store.proofs.Taken.{taken_anew}
 use Rattle.crs_store.proofs.store.take_in.Goals as goal
@@ -14,13 +18,20 @@ use Rattle.crs_store.proofs.store.take_in.Goals as goal
 pub forks-requires-clause-of : goal.forks-requires-clause-of
 forks-requires-clause-of g c = tidy_all c.args.plan.now c.args.focus c.args.hooks.now c.follow.new.holding c.deref.result.now.date ((c.in_ok-follow.ensures {u = tt}).tidy)
 
+pub forks-requires-clause-linked : goal.forks-requires-clause-linked
+forks-requires-clause-linked g c =
+    let tidy = (c.in_ok-follow.ensures {u = tt}).tidy in
+    subst (λ (hs : List Hook). AreLinked c.args.plan.now c.args.focus hs c.follow.new.holding.slots c.follow.new.holding.waiting c.args.entry.now.value.date) (sym c.as_slice.ensures.value)
+    (tidy_linked c.args.plan.now c.args.focus c.args.hooks.now c.follow.new.holding c.deref.result.now.date tidy c.args.entry.now.value.date
+    (within_linked c.args.plan.now c.deref.result.now.date c.args.entry.now.value.date c.requires.date (inl (let e = ap (λ (x : CodeEntry). x.date) c.deref.ensures in omega (arith, e)))))
+
 pub returns-in_err-forks-clause-cost : goal.returns-in_err-forks-clause-cost
 returns-in_err-forks-clause-cost g c = λ flat.
     few_ticks (IsFollowed c.args.plan.now c.args.history.now (entry_of c.deref.result.now) c.args.since) (IsAble c.args.plan.now c.args.focus c.deref.result.now.date) (length c.args.plan.now.chronicle.events) c.args.steps.now c.forks.new.steps (members c.args.holding.now.slots.slots) (members c.follow.new.holding.slots.slots) ((c.in_ok-follow.ensures {u = tt}).renews) (c.forks.ensures.cost flat)
 
 pub pass-requires-clause-tidy : goal.pass-requires-clause-tidy
 pass-requires-clause-tidy g c =
-    subst (λ (e : CodeEntry). IsTidy c.args.plan.now c.args.focus c.args.hooks.now.events.items c.args.hooks.now.windows.items c.follow.new.holding.slots c.forks.new.waiting c.follow.new.holding.dues c.follow.new.holding.ripe.items e.date) (c.deref.ensures ∙ sym c.deref-2.ensures)
+    subst (λ (e : CodeEntry). IsTidy c.args.plan.now c.args.focus c.args.hooks.now.events.items c.args.hooks.now.windows.items c.follow.new.holding.slots c.forks.new.waiting c.follow.new.holding.dues c.follow.new.holding.ripe.items e.date) (c.deref.ensures ∙ sym c.deref-3.ensures)
     (tidy_standing c.args.plan.now c.args.focus c.args.hooks.now c.follow.new.holding c.deref.result.now.date ((c.in_ok-follow.ensures {u = tt}).tidy) c.forks.new.waiting c.forks.ensures.standing)
 
 pub returns-in_err-pass-clause-cost : goal.returns-in_err-pass-clause-cost
@@ -41,11 +52,11 @@ returns-clause-taken g c =
     let kept = members c.follow.new.holding.slots.slots in
     let stay = members c.pass.new.holding.slots.slots in
     let renews = subst (λ (e : CodeEntry). Renews (IsFollowed plan history (entry_of e) c.args.since) (IsAble plan focus e.date) held kept) c.deref.ensures ((c.in_ok-follow.ensures {u = tt}).renews) in
-    let passes = subst (λ (e : CodeEntry). Renews (IsPassed plan history e.date c.args.until) (IsAble plan focus c.args.until) kept stay) c.deref-2.ensures ((c.in_ok-pass.ensures {u = tt}).renews) in
+    let passes = subst (λ (e : CodeEntry). Renews (IsPassed plan history e.date c.args.until) (IsAble plan focus c.args.until) kept stay) c.deref-3.ensures ((c.in_ok-pass.ensures {u = tt}).renews) in
     let more = c.forks.new.out.items in
     let new = members c.hold_all.new.holding.slots.slots in (
       stay ++ more,
-      taken_anew plan focus c.requires.proper history (entry_of x) c.args.until c.args.since held kept more stay (stay ++ more) (tidy_all plan focus c.args.hooks.now c.args.holding.now c.args.since c.requires.tidy) renews ((c.in_ok-forks.ensures {u = tt}).image) passes (joins_both stay more),
+      taken_anew plan focus c.requires.proper history (entry_of x) c.args.until c.args.since held kept more stay (stay ++ more) (tidy_all plan focus c.args.hooks.now c.args.holding.now c.args.since c.requires.tidy) renews (subst (λ (e : CodeEntry). AreForksOfAll plan focus history (entry_of x) e.date c.args.until kept more) c.deref-2.ensures ((c.in_ok-forks.ensures {u = tt}).image)) passes (joins_both stay more),
       part_of (MayGo plan focus (map (λ r. entry_of r.value) c.args.ahead.now) c.args.beyond) stay more new ((c.in_ok-hold_all.ensures {u = tt}).joins),
     )
 

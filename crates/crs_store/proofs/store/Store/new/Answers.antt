@@ -8,5 +8,5 @@ use Rattle.crs_store.proofs.store.Store.new.Goals as goal
 
 pub returns-clause-stands : goal.returns-clause-stands
 returns-clause-stands c =
-    let root = subst (λ (p : Plan). (i : InstanceState) × (members c.in_ok-holding.holding.slots.slots ≡ i ∷ []) × IsOf p i × (i.partial ≡ replicate (length p.chronicle.events) None)) c.deref-2.ensures ((c.in_ok-holding.ensures {u = tt}).root) in
-    new_stands c.args.plan.value c.args.focus c.requires.proper root.0 root.2 root.3 (record { plan = c.args.plan.value; number = c.args.number; focus = c.args.focus; held = members c.in_ok-holding.holding.slots.slots; date = 0; stopped = false }) refl refl root.1 refl
+    let root = subst (λ (p : Plan). (i : InstanceState) × (members c.in_ok-holding.holding.slots.slots ≡ i ∷ []) × IsOf p i × (i.partial ≡ replicate (length p.chronicle.events) None)) c.deref-3.ensures ((c.in_ok-holding.ensures {u = tt}).root) in
+    new_stands c.args.plan.value _ c.requires.proper root.0 root.2 root.3 (record { plan = c.args.plan.value; number = c.args.number; focus = _; held = members c.in_ok-holding.holding.slots.slots; date = 0; stopped = false }) refl refl root.1 refl
