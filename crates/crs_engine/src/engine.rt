@@ -15,7 +15,7 @@ ghost use Rattle.crs_engine.specs.declared.refused.Refused.TheVariants.{Memory};
 
 use crate::moving::{forget_behind, hold, mark_all};
 use crate::refused::Refused;
-use crate::starting::stores_of;
+use crate::starting::{has_prompt, stores_of};
 use crate::sums::kept_by;
 use crs_base::{Entry, List, Steps};
 use crs_buffer::Buffer;
@@ -38,14 +38,21 @@ pub struct Engine {
     stores: Vec<Store>,
     history: History,
     buffer: Buffer,
+    /// Those of the waiting entries that were accepted since the last mark, where some chronicle is
+    /// prompt.
+    fresh: Buffer,
     /// What is settled at a mark. It is filled anew at each one, and keeps its memory.
     due: Vec<Rc<Entry>>,
     delay: u64,
     last: u64,
     horizon: u64,
     accepted: u32,
+    /// How many entries were accepted by the last mark.
+    marked: u32,
     limit: u32,
     focus: bool,
+    /// Whether some chronicle is prompt.
+    prompt: bool,
     stopped: bool,
     alloc: Global,
 }
@@ -71,18 +78,22 @@ impl Engine {
         ensures stands { IfOk result (λ e. StandsFor e [] []) }
     {
         let stores = stores_of(alloc, plans.plans.as_slice(), focus)?;
+        let prompt = has_prompt(plans.plans.as_slice());
         Ok(Engine {
             plans,
             stores,
             history: History::new(alloc),
             buffer: Buffer::new(alloc),
+            fresh: Buffer::new(alloc),
             due: Vec::new(alloc),
             delay: 0,
             last: 0,
             horizon: 0,
             accepted: 0,
+            marked: 0,
             limit,
             focus,
+            prompt,
             stopped: false,
             alloc,
         })
@@ -178,7 +189,13 @@ impl Engine {
         if self.accepted == self.limit {
             return Err(Refused::Full { limit: self.limit });
         }
-        match hold(self.alloc, &mut self.buffer, entry) {
+        match hold(
+            self.alloc,
+            &mut self.buffer,
+            &mut self.fresh,
+            self.prompt,
+            entry,
+        ) {
             Ok(()) => {
                 self.accepted += 1;
                 Ok(())
@@ -287,6 +304,7 @@ impl Engine {
             &mut self.stores,
             &mut self.history,
             &mut self.buffer,
+            &mut self.fresh,
             &mut self.due,
             h,
             mark,
@@ -295,6 +313,7 @@ impl Engine {
             Ok(answer) => {
                 self.last = t;
                 self.horizon = h;
+                self.marked = self.accepted;
                 Ok(answer)
             }
             Err(_) => {

@@ -49,10 +49,51 @@ fn offer_all<L: Ledger>(
     match stores.split_first_mut() {
         None => Ok(()),
         Some((first, rest)) => {
-            first.offer_until(history, entry, until, ahead, beyond, steps)?;
+            if first.is_prompt() {
+                first.settle(history, entry)?;
+            } else {
+                first.offer_until(history, entry, until, ahead, beyond, steps)?;
+            }
             offer_all(rest, history, entry, until, ahead, beyond, steps)
         }
     }
+}
+
+/// Offers the entry, which isn't settled yet, to each store of a prompt chronicle.
+fn offer_prompt_all<L: Ledger>(
+    stores: &mut [Store],
+    history: &History,
+    entry: &Rc<Entry>,
+    steps: &mut Steps<L>,
+) -> Result<(), NoMemory>
+{
+    match stores.split_first_mut() {
+        None => Ok(()),
+        Some((first, rest)) => {
+            if first.is_prompt() {
+                first.offer_prompt(history, entry, steps)?;
+            }
+            offer_prompt_all(rest, history, entry, steps)
+        }
+    }
+}
+
+/// It is after each date of an entry.
+const END: u64 = 1 << 42;
+
+/// Offers the entries that were accepted since the last mark to the stores of prompt chronicles, in
+/// key order.
+fn offer_fresh<L: Ledger>(
+    stores: &mut [Store],
+    history: &History,
+    fresh: &mut Buffer,
+    steps: &mut Steps<L>,
+) -> Result<(), NoMemory>
+{
+    while let Some(entry) = fresh.release_before(END) {
+        offer_prompt_all(stores, history, &entry, steps)?;
+    }
+    Ok(())
 }
 
 /// The date of the first of the entries, or `h` where that is the lesser or there is none.
@@ -226,12 +267,14 @@ pub(crate) fn advance(
     Ok(answer)
 }
 
-/// Settles the entries dated before `h`, and moves all stores on to it.
+/// Offers those accepted since the last mark to the stores of prompt chronicles, settles the entries
+/// dated before `h`, and moves all stores on to it.
 pub(crate) fn mark_all<L: Ledger>(
     alloc: Global,
     stores: &mut [Store],
     history: &mut History,
     buffer: &mut Buffer,
+    fresh: &mut Buffer,
     due: &mut Vec<Rc<Entry>>,
     h: u64,
     mark: Mark,
@@ -247,6 +290,7 @@ pub(crate) fn mark_all<L: Ledger>(
     ensures floor { history.new.floor ≡ history.old.floor }
     ensures marked { IfOk result (AreMarked h mark stores.old history.old buffer.old stores.new history.new buffer.new) }
 {
+    offer_fresh(stores, history, fresh, steps)?;
     settle(stores, history, buffer, due, h, steps)?;
     let answer = advance(alloc, stores, history, h, mark)?;
     Ok(answer)
@@ -265,11 +309,21 @@ pub(crate) fn forget_behind(history: &mut History, h: u64, reach: i64)
     history.forget_before(h as i64 - reach);
 }
 
-/// Puts the entry into the buffer.
-pub(crate) fn hold(alloc: Global, buffer: &mut Buffer, entry: Entry) -> Result<(), AllocError>
+/// Puts the entry into the buffer, and where it is wanted among those accepted since the last mark.
+pub(crate) fn hold(
+    alloc: Global,
+    buffer: &mut Buffer,
+    fresh: &mut Buffer,
+    wanted: bool,
+    entry: Entry,
+) -> Result<(), AllocError>
     ensures ok { IsNewKey (entry_of entry) buffer.old → OnOk result (buffer.new ≡ put_in_order (entry_of entry) buffer.old) }
     ensures sorted { OnOk result (IsInKeyOrder buffer.new) }
     ensures err { OnErr result (buffer.new ≡ buffer.old) }
 {
-    buffer.put(Rc::new(alloc, entry)?)
+    let shared = Rc::new(alloc, entry)?;
+    if wanted {
+        fresh.put(shared.clone()?)?;
+    }
+    buffer.put(shared)
 }

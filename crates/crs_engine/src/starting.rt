@@ -26,3 +26,15 @@ pub(crate) fn stores_of(
     }
     Ok(stores)
 }
+
+/// Whether one of the plans is of a prompt chronicle.
+pub(crate) fn has_prompt(plans: &[Rc<Plan>]) -> bool
+    ensures { result ≡ list_any (λ r. r.value.chronicle.prompt) plans.now }
+{
+    for plan in plans {
+        if plan.chronicle.prompt {
+            return true;
+        }
+    }
+    false
+}

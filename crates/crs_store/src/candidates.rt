@@ -263,8 +263,8 @@ pub(crate) fn forks<L: Ledger>(
             continue;
         }
         forks_of_event(
-            alloc, plan, focus, hook, slots, waiting, event, history, entry, since, until, steps, places,
-            out,
+            alloc, plan, focus, hook, slots, waiting, event, history, entry, since, until, steps,
+            places, out,
         )?;
     }
     Ok(())

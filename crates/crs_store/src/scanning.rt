@@ -97,7 +97,8 @@ pub(crate) fn decide<L: Ledger>(
         );
     };
     decide_at(
-        alloc, plan, focus, parent, &next, level, event, &todo, history, entry, since, until, steps, out,
+        alloc, plan, focus, parent, &next, level, event, &todo, history, entry, since, until,
+        steps, out,
     )?;
     if can_be_left(&next, event, until) {
         decide(
