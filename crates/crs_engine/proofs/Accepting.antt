@@ -1,6 +1,6 @@
 -- What an engine stands for when an entry was accepted.
-use Rattle.std.proofs.Common.{◌≡◌, ◌≢◌, ℕ, ◌<◌, ◌≤◌, ◌+◌, ◌^◌, List, ◌++◌, map, sym, ap, subst, ◌∙◌, inl, inr, arith}
-use Rattle.std.specs.List.{AllByRecursion}
+use Rattle.std.proofs.Common.{◌≡◌, ◌≢◌, ℕ, ◌<◌, ◌≤◌, ◌+◌, ◌^◌, List, [], ◌∷◌, ◌++◌, map, sym, ap, subst, ◌∙◌, inl, inr, arith, Bool, true, false}
+use Rattle.std.specs.List.{AllByRecursion, AllZip}
 use Rattle.std.specs.declared.cmp.Ordering.TheVariants.{Less}
 use Rattle.std.proofs.lemmas.Bool.{cases_lt}
 use Rattle.crs_base.specs.declared.symbols.Sym.{Sym}
@@ -10,9 +10,15 @@ use Rattle.crs_base.proofs.Words.{in_append, in_append_left, in_append_right, in
 use Rattle.crs_base.proofs.Alls.{all_each}
 use Rattle.crs_base.proofs.KeyOrder.{less_by_date}
 use Rattle.crs_model.specs.Matching.{AreDistinct}
-use Rattle.crs_model.specs.Order.{put_in_order}
+use Rattle.crs_model.specs.Order.{put_in_order, arrived}
+use Rattle.crs_model.specs.Open.{pool_among}
+use Rattle.crs_model.specs.Plans.{chronicle}
+use Rattle.crs_model.specs.declared.plan.Plan.{Plan}
+use Rattle.crs_store.specs.Stores.{StoreState, Stands}
 use Rattle.crs_buffer.specs.Entries.{IsNewKey}
-use Rattle.crs_engine.specs.Engines.{EngineState, StandsFor, HaveNumbersBelow, IsWaiting}
+use Rattle.crs_engine.specs.Engines.{EngineState, StandsFor, HaveNumbersBelow, IsStoreAt, IsWaiting, has_prompt, plans_of}
+use Rattle.crs_engine.specs.Moves.{put_where}
+use Rattle.crs_engine.proofs.Pools.{arrived_more, not_arrived_put}
 use Rattle.crs_engine.proofs.Order.{ordered_left, ordered_right, ordered_cross, keys_differ, put_each, put_distinct, in_put_new, in_put_old}
 
 -- no waiting entry has the key of the next one
@@ -21,6 +27,20 @@ new_key n ws x e h = all_each {P = IsWaiting n} ws (λ y w. keys_differ x y (λ 
 
 pub waiting_more : (n : ℕ) (ws : List (Entry Sym)) (x : Entry Sym) → x.arrival ≡ n → x.date < 2 ^ 40 → AllByRecursion (IsWaiting n) ws → AllByRecursion (IsWaiting (n + 1)) (put_in_order x ws)
 waiting_more n ws x e d h = put_each x (IsWaiting (n + 1)) ws (record { dated = d; arrived = omega (arith, e) }) (all_each {P = IsWaiting n} ws (λ y w. record { dated = w.dated; arrived = (let a = w.arrived in omega arith) }) h)
+
+pub fresh_more : (b : Bool) (n : ℕ) (fs : List (Entry Sym)) (x : Entry Sym) → x.arrival ≡ n → x.date < 2 ^ 40 → AllByRecursion (IsWaiting n) fs → AllByRecursion (IsWaiting (n + 1)) (put_where b x fs)
+fresh_more true n fs x e d h = waiting_more n fs x e d h
+fresh_more false n fs x e d h = all_each {P = IsWaiting n} fs (λ y w. record { dated = w.dated; arrived = (let a = w.arrived in omega arith) }) h
+
+-- the pools stay as they are where the next entry waits
+stores_put : (focus : Bool) (m : ℕ) (settled was now : List (Entry Sym)) (h : ℕ) → arrived m (settled ++ now) ≡ arrived m (settled ++ was) → (ps : List Plan) (ss : List StoreState) → AllZip (IsStoreAt focus m settled was h) ps ss → AllZip (IsStoreAt focus m settled now h) ps ss
+stores_put focus m settled was now h e [] [] z = tt
+stores_put focus m settled was now h e [] (s ∷ ss) z = absurd z
+stores_put focus m settled was now h e (p ∷ ps) [] z = absurd z
+stores_put focus m settled was now h e (p ∷ ps) (s ∷ ss) z = (
+  record { plan = (z.0).plan; focus_is = (z.0).focus_is; stands = subst (λ (t : List (Entry Sym)). Stands s (pool_among (chronicle p) settled t) (pool_among (chronicle p) settled t) settled h h) (sym e) (z.0).stands },
+  stores_put focus m settled was now h e ps ss z.1,
+)
 
 abbrev pub arrivals : List (Entry Sym) → List ℕ
 arrivals es = map (λ e. e.arrival) es
@@ -69,20 +89,24 @@ in_order_more s w x h order before_h late up =
     in_from_each (λ t. entry_cmp y t ≡ Less) (put_in_order x w)
     (put_each x (λ t. entry_cmp y t ≡ Less) w (less_by_date y x (let a = in_from_each (λ t. t.date < h) s before_h y i in omega arith)) (each_from_in (λ t. entry_cmp y t ≡ Less) w (λ t k. ordered_cross (λ a b. entry_cmp a b ≡ Less) s w order y t i k))) z j)
 
-pub accepted_from : (seen old : EngineState) (x : Entry Sym) (ws : List (Entry Sym)) → seen ≡ old → x.arrival ≡ seen.accepted → seen.horizon ≤ x.date → ws ≡ put_in_order x seen.waiting → IsInKeyOrder ws →
+pub accepted_from : (seen old : EngineState) (x : Entry Sym) (ws fs : List (Entry Sym)) (b : Bool) → seen ≡ old → x.arrival ≡ seen.accepted → seen.horizon ≤ x.date → ws ≡ put_in_order x seen.waiting → IsInKeyOrder ws → b ≡ has_prompt seen.plans → fs ≡ put_where b x seen.fresh →
     (s w : List (Entry Sym)) → StandsFor old s w →
-    StandsFor (record { plans = seen.plans; stores = seen.stores; history = seen.history; waiting = ws; delay = seen.delay; last = seen.last; horizon = seen.horizon; accepted = seen.accepted + 1; limit = seen.limit; focus = seen.focus; stopped = seen.stopped }) s (put_in_order x w)
-accepted_from seen old x ws view is late put sorted s w stands =
+    StandsFor (record { plans = seen.plans; stores = seen.stores; history = seen.history; waiting = ws; fresh = fs; delay = seen.delay; last = seen.last; horizon = seen.horizon; accepted = seen.accepted + 1; marked = seen.marked; limit = seen.limit; focus = seen.focus; stopped = seen.stopped }) s (put_in_order x w)
+accepted_from seen old x ws fs b view is late put sorted prompt given s w stands =
     let so : StandsFor seen s w = subst (λ (t : EngineState). StandsFor t s w) (sym view) stands in
     let held : ws ≡ put_in_order x w = put ∙ ap (put_in_order x) so.held in
     let up : Ordered (λ a b. entry_cmp a b ≡ Less) (put_in_order x w) = subst (λ (t : List (Entry Sym)). Ordered (λ a b. entry_cmp a b ≡ Less) t) held sorted in
+    let after : seen.marked ≤ x.arrival = let c = so.counted in omega (arith, is, c) in
     record {
       settled_before = so.settled_before;
       waiting_after = put_each x (λ y. seen.horizon ≤ y.date) w late so.waiting_after;
       in_order = in_order_more s w x seen.horizon so.in_order so.settled_before late up;
       numbered = numbered_more seen.accepted s w x is so.numbered;
       held = held;
+      counted = (let c = so.counted in omega arith);
+      arrived_settled = so.arrived_settled;
+      fresh_is = λ e. given ∙ ap (λ (t : Bool). put_where t x seen.fresh) (prompt ∙ e) ∙ ap (put_in_order x) (so.fresh_is e) ∙ sym (not_arrived_put seen.marked x after w (ordered_right (λ a b. entry_cmp a b ≡ Less) s w so.in_order));
       history = so.history;
       far_back = so.far_back;
-      stores = so.stores;
+      stores = stores_put seen.focus seen.marked s w (put_in_order x w) seen.horizon (arrived_more seen.marked x after s w) (plans_of seen.plans) seen.stores so.stores;
     }

@@ -49,6 +49,9 @@ forgot seen old now view is floor kept s w stands =
       in_order = so.in_order;
       numbered = so.numbered;
       held = so.held;
+      counted = so.counted;
+      arrived_settled = so.arrived_settled;
+      fresh_is = so.fresh_is;
       history = kept s so.history;
       far_back = subst (λ (z : ℤ). AllByRecursion (λ p. IsFarBack p.reach seen.horizon z) (plans_of seen.plans)) (sym floor)
           (all_far_at seen.plans.reach seen.horizon (plans_of seen.plans) (λ r i. (is.reach).bounds r (inr i)));
@@ -71,6 +74,7 @@ still_engine seen now is floor order dated least = record {
   least = least;
   needed = omega (arith, ints, floor);
   settled = λ running. dated seen.horizon (is.settled running);
+  fresh = is.fresh;
 }
 
 -- no entry that waits is before the floor

@@ -1,6 +1,7 @@
 pub mod Settling
 pub mod Beginning
 pub mod Order
+pub mod Pools
 pub mod Accepting
 pub mod Marking
 pub mod Floors

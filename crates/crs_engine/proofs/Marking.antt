@@ -1,6 +1,7 @@
 -- What an engine stands for after a mark, and its answer.
-use Rattle.std.proofs.Common.{◌≡◌, ◌≢◌, ℕ, zero, suc, ◌<◌, ◌≤◌, ◌-◌, ◌^◌, List, [], ◌∷◌, ◌++◌, length, map, refl, sym, ap, subst, ◌∙◌, inl, arith, append_assoc, append-nil, length-append, take, drop, Bool}
-use Rattle.std.specs.List.{AllByRecursion, AllZip}
+use Rattle.std.proofs.Common.{◌≡◌, ◌≢◌, ℕ, zero, suc, ◌<◌, ◌≤◌, ◌-◌, ◌^◌, List, [], ◌∷◌, ◌++◌, length, map, refl, sym, ap, subst, ◌∙◌, inl, inr, arith, append_assoc, append-nil, length-append, take, drop, Bool, true, not, nat_lt}
+use Rattle.std.specs.List.{AllByRecursion, AllZip, list_any}
+use Rattle.std.proofs.lemmas.Bool.{true≢false, or_parts}
 use Rattle.std.specs.declared.cmp.Ordering.TheVariants.{Less}
 use Rattle.std.proofs.lemmas.List.{take_all}
 use Rattle.crs_history.proofs.FarBack.{far_later}
@@ -8,7 +9,7 @@ use Rattle.std.proofs.Math.Nat.{max-eq_right}
 use Rattle.crs_base.specs.declared.symbols.Sym.{Sym}
 use Rattle.crs_base.specs.Words.{IsIn, Ordered}
 use Rattle.crs_base.specs.Entry.{Entry, entry_cmp, IsInKeyOrder}
-use Rattle.crs_base.proofs.Words.{in_from_each}
+use Rattle.crs_base.proofs.Words.{in_from_each, each_from_in, in_append_left, in_append_right, in_filter_back, in_map}
 use Rattle.crs_base.proofs.Alls.{all_left, all_right, all_append, all_each}
 use Rattle.crs_base.proofs.KeyOrder.{in_dates}
 use Rattle.crs_model.specs.declared.plan.Plan.{Plan}
@@ -16,31 +17,47 @@ use Rattle.crs_model.specs.declared.recognition.Mark.{Mark}
 use Rattle.crs_model.specs.declared.recognition.Recognition.{Recognition}
 use Rattle.crs_model.specs.Matching.{AreDistinct}
 use Rattle.crs_model.specs.Steps.{IsFresh}
-use Rattle.crs_model.specs.Open.{IsNew, before}
-use Rattle.crs_model.specs.Order.{Lists, assignment_cmp}
+use Rattle.crs_model.specs.Open.{IsNew, before, pool_among}
+use Rattle.crs_model.specs.Order.{Lists, assignment_cmp, arrived}
 use Rattle.crs_model.specs.Plans.{chronicle}
 use Rattle.crs_model.specs.Seen.{assignment_of}
 use Rattle.crs_store.specs.Ahead.{AreAhead}
 use Rattle.crs_store.specs.Stores.{StoreState, Stands, StandsAhead, IsSameStore}
 use Rattle.crs_store.proofs.Standing.{ahead_of}
-use Rattle.crs_store.specs.Answers.{IsAnswer, IsMarked}
+use Rattle.crs_store.specs.Answers.{IsAnswer, IsMarked, IsAdvanced}
 use Rattle.std.specs.Prelude.{ℤ, ◌≤ℤ◌, false, Result, Ok, Err, IfOk, OnOk}
 use Rattle.crs_history.specs.Histories.{HistoryState, lowest, IsFarBack, StandsFor as HistoryStandsFor}
 use Rattle.crs_model.specs.Models.{Chronicle}
 use Rattle.crs_engine.specs.declared.refused.Refused.{Refused}
-use Rattle.crs_engine.specs.Engines.{HasMoved, EngineState, StandsFor, HaveNumbersBelow, IsStoreAt, IsStoreOf, AreStoresOf, IsWaiting, IsEngine, plans_of, floor_at, since}
+use Rattle.crs_engine.specs.Engines.{HasMoved, EngineState, StandsFor, HaveNumbersBelow, IsStoreAt, IsStoreOf, AreStoresOf, IsWaiting, IsEngine, plans_of, pool_of, has_prompt, not_arrived, floor_at, since}
 use Rattle.crs_engine.proofs.Floors.{floor_later}
 use Rattle.crs_engine.specs.Marks.{ListsNew, ListsAllNew, AfterMark}
-use Rattle.crs_engine.specs.Moves.{AreSameStores, AreOffered, HasPut, AreOfferedAll, AreAdvanced, AreMarked, IsRestOf, date_after}
+use Rattle.crs_engine.specs.Moves.{AreSameStores, IsTakenIn, IsGivenFresh, AreGivenFresh, AreOffered, HasPut, AreOfferedAll, AreAdvanced, AreMarked, IsRestOf, date_after}
 use Rattle.crs_engine.proofs.Settling.{date_within}
+use Rattle.crs_engine.proofs.Pools.{arrived_all, arrived_none, pool_to, pool_from, pool_apart, stands_alike, among_plain, among_prompt}
 use Rattle.crs_engine.proofs.Order.{numbers_few, ordered_left, ordered_right, ordered_cross, before_parts, since_parts}
 
-abbrev pub AllStand : List StoreState → List (Entry Sym) → List (Entry Sym) → ℕ → ℕ → Type 0
-AllStand ss was pool d g = AllByRecursion (λ s. Stands s was pool pool d g) ss
+-- a store once those accepted since the last mark came to the pools
+pub record StandsFresh (s : StoreState) (settled was pool : List (Entry Sym)) (g : ℕ) : Type 0 where
+  pub plain : s.plan.chronicle.prompt ≡ false → Stands s settled settled settled g g
+  pub prompt : s.plan.chronicle.prompt ≡ true → Stands s was pool settled g g
 
--- each was judged at a date that isn't after d, and the later entries come next, up to h
-abbrev pub AllStandBy : List StoreState → List (Entry Sym) → List (Entry Sym) → List (Entry Sym) → ℕ → ℕ → ℕ → Type 0
-AllStandBy ss was pool later d g h = AllByRecursion (λ s. (n : ℕ) × (n ≤ d) × StandsAhead s was pool pool later n g h) ss
+abbrev pub AllFresh : List StoreState → List (Entry Sym) → List (Entry Sym) → List (Entry Sym) → ℕ → Type 0
+AllFresh ss settled was pool g = AllByRecursion (λ s. StandsFresh s settled was pool g) ss
+
+-- A store that was judged at a date that isn't after d. The later entries come next, up to h. Of a plain chronicle the pool is what is settled, and was what had been settled; of a prompt one it is what came, and was what had come.
+pub record StandsBy (s : StoreState) (was had settled came later : List (Entry Sym)) (d g h : ℕ) : Type 0 where
+  pub date : ℕ
+  pub within : date ≤ d
+  pub plain : s.plan.chronicle.prompt ≡ false → StandsAhead s was settled settled later date g h
+  pub prompt : s.plan.chronicle.prompt ≡ true → Stands s had came settled date g
+
+abbrev pub AllStandBy : List StoreState → List (Entry Sym) → List (Entry Sym) → List (Entry Sym) → List (Entry Sym) → List (Entry Sym) → ℕ → ℕ → ℕ → Type 0
+AllStandBy ss was had settled came later d g h = AllByRecursion (λ s. StandsBy s was had settled came later d g h) ss
+
+-- each plan's store stands for its pool
+abbrev pub AllStand : List Plan → List StoreState → List (Entry Sym) → List (Entry Sym) → ℕ → Type 0
+AllStand ps ss settled came h = AllZip (λ p s. Stands s (pool_among (chronicle p) settled came) (pool_among (chronicle p) settled came) settled h h) ps ss
 
 abbrev pub AllFar : List StoreState → ℕ → ℤ → Type 0
 AllFar ss g floor = AllByRecursion (λ s. IsFarBack s.plan.reach g floor) ss
@@ -64,34 +81,124 @@ same_far g floor [] (n ∷ news) s k = absurd s
 same_far g floor (o ∷ olds) [] s k = absurd s
 same_far g floor (o ∷ olds) (n ∷ news) s k = (subst (λ (q : Plan). IsFarBack q.reach g floor) (sym (s.0).plan) k.0, same_far g floor olds news s.1 k.1)
 
+-- ---- what came to the pools
+
+prompt_same : (o n : StoreState) → IsSameStore o n → (b : Bool) → n.plan.chronicle.prompt ≡ b → o.plan.chronicle.prompt ≡ b
+prompt_same o n same b e = sym (ap (λ (p : Plan). p.chronicle.prompt) same.plan) ∙ e
+
+never_both : (b : Bool) → b ≡ true → b ≡ false → ⊥
+never_both b t f = true≢false (sym t ∙ f)
+
+module _ (history : HistoryState) (settled was : List (Entry Sym)) (g : ℕ) (kept : HistoryStandsFor settled history) (few : length settled < 2 ^ 32) where
+  fresh_one : (o n : StoreState) (x : Entry Sym) (pool : List (Entry Sym)) → StandsFresh o settled was pool g → IsGivenFresh o history x n → IsFarBack o.plan.reach g history.floor → IsFresh pool x → g ≤ x.date → StandsFresh n settled was (pool ++ x ∷ []) g
+  fresh_one o n x pool st k far fresh dated = record {
+    plain = λ e. (let f = prompt_same o n k.same false e in subst (λ (t : StoreState). Stands t settled settled settled g g) (sym (k.plain f)) (st.plain f));
+    prompt = λ e. (let f = prompt_same o n k.same true e in (k.prompt f) was pool settled g (st.prompt f) kept far few fresh dated);
+  }
+
+  fresh_each : (olds news : List StoreState) (x : Entry Sym) (pool : List (Entry Sym)) → AllFresh olds settled was pool g → AllZip (λ o n. IsGivenFresh o history x n) olds news → AllFar olds g history.floor → IsFresh pool x → g ≤ x.date → AllFresh news settled was (pool ++ x ∷ []) g
+  fresh_each [] [] x pool st k far fresh dated = tt
+  fresh_each [] (n ∷ news) x pool st k far fresh dated = absurd k
+  fresh_each (o ∷ olds) [] x pool st k far fresh dated = absurd k
+  fresh_each (o ∷ olds) (n ∷ news) x pool st k far fresh dated = (fresh_one o n x pool st.0 k.0 far.0 fresh dated, fresh_each olds news x pool st.1 k.1 far.1 fresh dated)
+
+  given_same : (olds news : List StoreState) (x : Entry Sym) → AllZip (λ o n. IsGivenFresh o history x n) olds news → AreSameStores olds news
+  given_same [] [] x k = tt
+  given_same [] (n ∷ news) x k = absurd k
+  given_same (o ∷ olds) [] x k = absurd k
+  given_same (o ∷ olds) (n ∷ news) x k = ((k.0).same, given_same olds news x k.1)
+
+  fresh_all : (xs : List (Entry Sym)) (olds news : List StoreState) (pool : List (Entry Sym)) → AllFresh olds settled was pool g → AllFar olds g history.floor → AreGivenFresh history xs olds news → AreDistinct (pool ++ xs) → AllByRecursion (λ x. g ≤ x.date) xs → AllFresh news settled was (pool ++ xs) g
+  fresh_all [] olds news pool st far k apart dated = subst (λ (t : List (Entry Sym)). AllFresh news settled was t g) (sym (append-nil pool)) (subst (λ (t : List StoreState). AllFresh t settled was pool g) (sym k) st)
+  fresh_all (x ∷ xs) olds news pool st far k apart dated =
+      let joined : (pool ++ x ∷ []) ++ xs ≡ pool ++ x ∷ xs = append_assoc pool (x ∷ []) xs in
+      let one = fresh_each olds k.0 x pool st k.1 far (λ e i. ordered_cross (λ a b. a.arrival ≢ b.arrival) pool (x ∷ xs) apart e x i (inl refl)) dated.0 in
+      subst (λ (t : List (Entry Sym)). AllFresh news settled was t g) joined
+      (fresh_all xs k.0 news (pool ++ x ∷ []) one (same_far g history.floor olds k.0 (given_same olds k.0 x k.1) far) k.2 (subst AreDistinct (sym joined) apart) dated.1)
+
+-- where no chronicle is prompt, nothing changes
+abbrev pub ArePlain : List StoreState → Type 0
+ArePlain ss = AllByRecursion (λ s. s.plan.chronicle.prompt ≡ false) ss
+
+plain_each : (history : HistoryState) (x : Entry Sym) (olds news : List StoreState) → ArePlain olds → AllZip (λ o n. IsGivenFresh o history x n) olds news → news ≡ olds
+plain_each history x [] [] p k = refl
+plain_each history x [] (n ∷ news) p k = absurd k
+plain_each history x (o ∷ olds) [] p k = absurd k
+plain_each history x (o ∷ olds) (n ∷ news) p k = ap (λ (t : StoreState). t ∷ news) ((k.0).plain p.0) ∙ ap (λ (t : List StoreState). o ∷ t) (plain_each history x olds news p.1 k.1)
+
+plain_all : (history : HistoryState) (xs : List (Entry Sym)) (olds news : List StoreState) → ArePlain olds → AreGivenFresh history xs olds news → news ≡ olds
+plain_all history [] olds news p k = k
+plain_all history (x ∷ xs) olds news p k =
+    let one = plain_each history x olds k.0 p k.1 in
+    plain_all history xs k.0 news (subst ArePlain (sym one) p) k.2 ∙ one
+
+stores_plain : (focus : Bool) (ps : List Plan) (n : ℕ) (ss : List StoreState) → AreStoresOf focus ps n ss → list_any (λ p. p.chronicle.prompt) ps ≡ false → ArePlain ss
+stores_plain focus [] n [] of e = tt
+stores_plain focus [] n (s ∷ ss) of e = absurd of
+stores_plain focus (p ∷ ps) n [] of e = absurd of
+stores_plain focus (p ∷ ps) n (s ∷ ss) of e =
+    let parts = or_parts p.chronicle.prompt (list_any (λ q. q.chronicle.prompt) ps) e in
+    (ap (λ (q : Plan). q.chronicle.prompt) (of.0).plan ∙ parts.0, stores_plain focus ps (suc n) ss of.1 parts.1)
+
+fresh_plain : (settled was pool other : List (Entry Sym)) (g : ℕ) (ss : List StoreState) → ArePlain ss → AllFresh ss settled was pool g → AllFresh ss settled was other g
+fresh_plain settled was pool other g [] p k = tt
+fresh_plain settled was pool other g (s ∷ ss) p k = (record { plain = (k.0).plain; prompt = λ e. absurd (never_both s.plan.chronicle.prompt e p.0) }, fresh_plain settled was pool other g ss p.1 k.1)
+
+fresh_alike : (settled was pool other : List (Entry Sym)) (g : ℕ) → ((e : Entry Sym) → IsIn e pool → IsIn e other) → ((e : Entry Sym) → IsIn e other → IsIn e pool) → (ss : List StoreState) → AllFresh ss settled was pool g → AllFresh ss settled was other g
+fresh_alike settled was pool other g there back [] k = tt
+fresh_alike settled was pool other g there back (s ∷ ss) k = (record { plain = (k.0).plain; prompt = λ e. stands_alike s was pool other settled g g there back ((k.0).prompt e) }, fresh_alike settled was pool other g there back ss k.1)
+
+begin_each : (settled was pool later : List (Entry Sym)) (g h : ℕ) (ss : List StoreState) → AllFresh ss settled was pool g → AllStandBy ss settled was settled pool later g g h
+begin_each settled was pool later g h [] k = tt
+begin_each settled was pool later g h (s ∷ ss) k = (record { date = g; within = omega arith; plain = λ e. ahead_of s settled settled settled later g g h ((k.0).plain e); prompt = (k.0).prompt }, begin_each settled was pool later g h ss k.1)
+
 -- ---- offered
 
-offered_one : (olds news : List StoreState) (put : HistoryState) (x : Entry Sym) (until : ℕ) (ahead : List (Entry Sym)) (beyond : ℕ) (was pool later : List (Entry Sym)) (d g h : ℕ)
-    → AllStandBy olds was pool (x ∷ later) d g h → AreAhead ahead beyond later h → AreOffered olds put x until ahead beyond news → HistoryStandsFor (pool ++ x ∷ []) put → AllFar olds g put.floor
-    → length (pool ++ x ∷ []) < 2 ^ 32 → IsFresh pool x → d ≤ x.date →
-    AllStandBy news was (pool ++ x ∷ []) later until g h
-offered_one [] [] put x until ahead beyond was pool later d g h stand coming k kept far few fresh dated = tt
-offered_one [] (n ∷ news) put x until ahead beyond was pool later d g h stand coming k kept far few fresh dated = absurd k
-offered_one (o ∷ olds) [] put x until ahead beyond was pool later d g h stand coming k kept far few fresh dated = absurd k
-offered_one (o ∷ olds) (n ∷ news) put x until ahead beyond was pool later d g h stand coming k kept far few fresh dated =
-    let one = stand.0 in
-    let r = k.0 was pool later one.0 g h one.2 coming kept far.0 few fresh (let l = one.1 in omega arith) in
-    ((r.0, r.2, r.4), offered_one olds news put x until ahead beyond was pool later d g h stand.1 coming k.1 kept far.1 few fresh dated)
+taken_one : (o n : StoreState) (put : HistoryState) (x : Entry Sym) (until : ℕ) (ahead : List (Entry Sym)) (beyond : ℕ) (was had settled came later : List (Entry Sym)) (d g h : ℕ) → IsSameStore o n → StandsBy o was had settled came (x ∷ later) d g h → AreAhead ahead beyond later h → IsTakenIn o put x until ahead beyond n
+    → HistoryStandsFor (settled ++ x ∷ []) put → IsFarBack o.plan.reach g put.floor → length (settled ++ x ∷ []) < 2 ^ 32 → IsFresh settled x → IsIn x came → d ≤ x.date → x.date ≤ until → StandsBy n was had (settled ++ x ∷ []) came later until g h
+taken_one o n put x until ahead beyond was had settled came later d g h same st coming k kept far few fresh inside dated ends = by o.plan.chronicle.prompt refl
+  where
+    after_d : st.date ≤ x.date
+    after_d = let w = st.within in omega arith
+
+    by : (b : Bool) → o.plan.chronicle.prompt ≡ b → StandsBy n was had (settled ++ x ∷ []) came later until g h
+    by false e = let r = (k.plain e) was settled later st.date g h (st.plain e) coming kept far few fresh after_d in record {
+      date = r.0;
+      within = r.2;
+      plain = λ f. r.4;
+      prompt = λ f. absurd (never_both o.plan.chronicle.prompt (prompt_same o n same true f) e);
+    }
+    by true e = record {
+      date = x.date;
+      within = ends;
+      plain = λ f. absurd (never_both o.plan.chronicle.prompt e (prompt_same o n same false f));
+      prompt = λ f. (k.prompt e) had came settled st.date g (st.prompt e) kept far few inside after_d;
+    }
+
+offered_one : (olds news : List StoreState) (put : HistoryState) (x : Entry Sym) (until : ℕ) (ahead : List (Entry Sym)) (beyond : ℕ) (was had settled came later : List (Entry Sym)) (d g h : ℕ)
+    → AreSameStores olds news → AllStandBy olds was had settled came (x ∷ later) d g h → AreAhead ahead beyond later h → AreOffered olds put x until ahead beyond news → HistoryStandsFor (settled ++ x ∷ []) put → AllFar olds g put.floor
+    → length (settled ++ x ∷ []) < 2 ^ 32 → IsFresh settled x → IsIn x came → d ≤ x.date → x.date ≤ until →
+    AllStandBy news was had (settled ++ x ∷ []) came later until g h
+offered_one [] [] put x until ahead beyond was had settled came later d g h same stand coming k kept far few fresh inside dated ends = tt
+offered_one [] (n ∷ news) put x until ahead beyond was had settled came later d g h same stand coming k kept far few fresh inside dated ends = absurd k
+offered_one (o ∷ olds) [] put x until ahead beyond was had settled came later d g h same stand coming k kept far few fresh inside dated ends = absurd k
+offered_one (o ∷ olds) (n ∷ news) put x until ahead beyond was had settled came later d g h same stand coming k kept far few fresh inside dated ends =
+    (taken_one o n put x until ahead beyond was had settled came later d g h same.0 stand.0 coming k.0 kept far.0 few fresh inside dated ends, offered_one olds news put x until ahead beyond was had settled came later d g h same.1 stand.1 coming k.1 kept far.1 few fresh inside dated ends)
 
 -- the stores and the history stand for what is settled, and the history goes far enough back
-pub record StandTogether (ss : List StoreState) (past : HistoryState) (was pool later : List (Entry Sym)) (d g h : ℕ) : Type 0 where
-  pub stores : AllStandBy ss was pool later d g h
-  pub history : HistoryStandsFor pool past
+pub record StandTogether (ss : List StoreState) (past : HistoryState) (was had settled came later : List (Entry Sym)) (d g h : ℕ) : Type 0 where
+  pub stores : AllStandBy ss was had settled came later d g h
+  pub history : HistoryStandsFor settled past
   pub far : AllFar ss g past.floor
 
-stand_offered : (olds next : List StoreState) (past put : HistoryState) (x : Entry Sym) (until : ℕ) (ahead : List (Entry Sym)) (beyond : ℕ) (was pool later : List (Entry Sym)) (d g h : ℕ)
-    → StandTogether olds past was pool (x ∷ later) d g h → AreAhead ahead beyond later h → HasPut past x put → AreSameStores olds next → AreOffered olds put x until ahead beyond next
-    → length (pool ++ x ∷ []) < 2 ^ 32 → IsFresh pool x → d ≤ x.date → StandTogether next put was (pool ++ x ∷ []) later until g h
-stand_offered olds next past put x until ahead beyond was pool later d g h stand coming has same k few fresh dated =
+stand_offered : (olds next : List StoreState) (past put : HistoryState) (x : Entry Sym) (until : ℕ) (ahead : List (Entry Sym)) (beyond : ℕ) (was had settled came later : List (Entry Sym)) (d g h : ℕ)
+    → StandTogether olds past was had settled came (x ∷ later) d g h → AreAhead ahead beyond later h → HasPut past x put → AreSameStores olds next → AreOffered olds put x until ahead beyond next
+    → length (settled ++ x ∷ []) < 2 ^ 32 → IsFresh settled x → IsIn x came → d ≤ x.date → x.date ≤ until → StandTogether next put was had (settled ++ x ∷ []) came later until g h
+stand_offered olds next past put x until ahead beyond was had settled came later d g h stand coming has same k few fresh inside dated ends =
     let far : AllFar olds g put.floor = subst (AllFar olds g) (sym has.floor) stand.far in
     record {
-      stores = offered_one olds next put x until ahead beyond was pool later d g h stand.stores coming k (has.stands pool stand.history) far few fresh dated;
-      history = has.stands pool stand.history;
+      stores = offered_one olds next put x until ahead beyond was had settled came later d g h same stand.stores coming k (has.stands settled stand.history) far few fresh inside dated ends;
+      history = has.stands settled stand.history;
       far = same_far g put.floor olds next same far;
     }
 
@@ -100,45 +207,77 @@ none_before : (h : ℕ) (xs : List (Entry Sym)) → Ordered (λ x y. x.date ≤ 
 none_before h [] dates = tt
 none_before h (x ∷ xs) dates = (omega arith, all_each {P = λ y. x.date ≤ y.date} xs (λ y l. omega arith) dates.0)
 
-offered_all : (h : ℕ) (xs : List (Entry Sym)) (olds news : List StoreState) (past now : HistoryState) (was pool : List (Entry Sym))
+not_after : (h : ℕ) (x : Entry Sym) (xs : List (Entry Sym)) → x.date < h → AllByRecursion (λ y. x.date ≤ y.date) xs → x.date ≤ date_after h xs
+not_after h x [] l all = omega arith
+not_after h x (y ∷ xs) l all = let d = all.0 in omega arith
+
+offered_all : (h : ℕ) (xs : List (Entry Sym)) (olds news : List StoreState) (past now : HistoryState) (was had settled came : List (Entry Sym))
     (d g : ℕ)
-    → StandTogether olds past was pool xs d g h → AreOfferedAll h [] olds past xs news now → AreDistinct (pool ++ xs)
-    → AllByRecursion (λ x. d ≤ x.date) xs
-    → Ordered (λ x y. x.date ≤ y.date) xs → d ≤ h → length (pool ++ xs) < 2 ^ 32 →
-    (e : ℕ) × StandTogether news now was (pool ++ xs) [] e g h × (e ≤ h)
-offered_all h [] olds news past now was pool d g stand k apart later dates low few = (
+    → StandTogether olds past was had settled came xs d g h → AreOfferedAll h [] olds past xs news now → AreDistinct (settled ++ xs)
+    → AllByRecursion (λ x. d ≤ x.date) xs → AllByRecursion (λ x. x.date < h) xs → ((x : Entry Sym) → IsIn x xs → IsIn x came)
+    → Ordered (λ x y. x.date ≤ y.date) xs → d ≤ h → length (settled ++ xs) < 2 ^ 32 →
+    (e : ℕ) × StandTogether news now was had (settled ++ xs) came [] e g h × (e ≤ h)
+offered_all h [] olds news past now was had settled came d g stand k apart later due inside dates low few = (
   d,
-  subst (λ (t : List (Entry Sym)). StandTogether news now was t [] d g h) (sym (append-nil pool))
-      (subst (λ (t : List StoreState). StandTogether t now was pool [] d g h) (sym k.0) (subst (λ (t : HistoryState). StandTogether olds t was pool [] d g h) (sym k.1) stand)),
+  subst (λ (t : List (Entry Sym)). StandTogether news now was had t came [] d g h) (sym (append-nil settled))
+      (subst (λ (t : List StoreState). StandTogether t now was had settled came [] d g h) (sym k.0) (subst (λ (t : HistoryState). StandTogether olds t was had settled came [] d g h) (sym k.1) stand)),
   low,
 )
-offered_all h (x ∷ xs) olds news past now was pool d g stand k apart later dates low few =
+offered_all h (x ∷ xs) olds news past now was had settled came d g stand k apart later due inside dates low few =
     let next = k.0 in
     let put = k.1 in
-    let joined : (pool ++ x ∷ []) ++ xs ≡ pool ++ x ∷ xs = append_assoc pool (x ∷ []) xs in
-    let few_one : length (pool ++ x ∷ []) < 2 ^ 32 = let a = length-append pool (x ∷ []) in let b = length-append pool (x ∷ xs) in omega arith in
+    let joined : (settled ++ x ∷ []) ++ xs ≡ settled ++ x ∷ xs = append_assoc settled (x ∷ []) xs in
+    let few_one : length (settled ++ x ∷ []) < 2 ^ 32 = let a = length-append settled (x ∷ []) in let b = length-append settled (x ∷ xs) in omega arith in
     let coming : AreAhead k.2 k.3 xs h = subst (λ (t : List (Entry Sym)). AreAhead k.2 k.3 t h) (append-nil xs) k.4 in
     let offered : AreOffered olds put x (date_after h xs) k.2 k.3 next = subst (λ (t : List (Entry Sym)). AreOffered olds put x (date_after h t) k.2 k.3 next) (append-nil xs) k.7 in
-    let one = stand_offered olds next past put x (date_after h xs) k.2 k.3 was pool xs d g h stand coming k.5 k.6 offered few_one (λ e i. ordered_cross (λ a b. a.arrival ≢ b.arrival) pool (x ∷ xs) apart e x i (inl refl)) later.0 in
-    let r = offered_all h xs next news put now was (pool ++ x ∷ []) (date_after h xs) g one k.8 (subst AreDistinct (sym joined) apart) (none_before h xs dates.1) dates.1 (date_within h xs)
+    let one = stand_offered olds next past put x (date_after h xs) k.2 k.3 was had settled came xs d g h stand coming k.5 k.6 offered few_one (λ e i. ordered_cross (λ a b. a.arrival ≢ b.arrival) settled (x ∷ xs) apart e x i (inl refl)) (inside x (inl refl)) later.0 (not_after h x xs due.0 dates.0) in
+    let r = offered_all h xs next news put now was had (settled ++ x ∷ []) came (date_after h xs) g one k.8 (subst AreDistinct (sym joined) apart) (none_before h xs dates.1) due.1 (λ y i. inside y (inr i)) dates.1 (date_within h xs)
     (subst (λ (t : List (Entry Sym)). length t < 2 ^ 32) (sym joined) few) in
-    (r.0, subst (λ (t : List (Entry Sym)). StandTogether news now was t [] r.0 g h) joined r.1, r.2)
+    (r.0, subst (λ (t : List (Entry Sym)). StandTogether news now was had t came [] r.0 g h) joined r.1, r.2)
 
 -- ---- advanced
 
-answer_as : (p : Plan) (n : ℕ) (o : StoreState) (mark : Mark) (was pool : List (Entry Sym)) (g h : ℕ) (first : List Recognition) → o.plan ≡ p → o.number ≡ n → before g pool ≡ was → IsAnswer (chronicle o.plan) o.number mark was pool pool g h first → ListsNew (chronicle p) n mark was was g pool pool h first
-answer_as p n o mark was pool g h first sp sn sw a =
-    let b : IsAnswer (chronicle p) n mark was pool pool g h first = subst (λ (q : Plan). IsAnswer (chronicle q) n mark was pool pool g h first) sp (subst (λ (m : ℕ). IsAnswer (chronicle o.plan) m mark was pool pool g h first) sn a) in
+answer_as : (p : Plan) (n : ℕ) (o : StoreState) (mark : Mark) (was_pool was pool now : List (Entry Sym)) (g h : ℕ) (first : List Recognition) → o.plan ≡ p → o.number ≡ n → before g now ≡ was → IsAnswer (chronicle o.plan) o.number mark was_pool pool now g h first → ListsNew (chronicle p) n mark was_pool was g pool now h first
+answer_as p n o mark was_pool was pool now g h first sp sn sw a =
+    let b : IsAnswer (chronicle p) n mark was_pool pool now g h first = subst (λ (q : Plan). IsAnswer (chronicle q) n mark was_pool pool now g h first) sp (subst (λ (m : ℕ). IsAnswer (chronicle o.plan) m mark was_pool pool now g h first) sn a) in
     record {
-      listed = subst (λ (t : List (Entry Sym)). Lists assignment_cmp (IsNew (chronicle p) was t g pool pool h) (map assignment_of first)) sw b.listed;
+      listed = subst (λ (t : List (Entry Sym)). Lists assignment_cmp (IsNew (chronicle p) was_pool t g pool now h) (map assignment_of first)) sw b.listed;
       each = b.each;
     }
 
-module _ (history : HistoryState) (mark : Mark) (was pool : List (Entry Sym)) (d g h : ℕ) (sw : before g pool ≡ was) (kept : HistoryStandsFor pool history) (few : length pool < 2 ^ 32) (apart : AreDistinct pool) (later : d ≤ h) (dated : (e : Entry Sym) → IsIn e pool → e.date < h) (dates : Ordered (λ x y. x.date ≤ y.date) pool) where
+module _ (history : HistoryState) (mark : Mark) (was had settled came : List (Entry Sym)) (d g h : ℕ) (sw : before g settled ≡ was) (kept : HistoryStandsFor settled history) (few : length settled < 2 ^ 32) (apart : AreDistinct settled) (apart_came : AreDistinct came) (later : d ≤ h) (dated : (e : Entry Sym) → IsIn e settled → e.date < h) (dates : Ordered (λ x y. x.date ≤ y.date) settled) where
+  -- what a mark makes of one store
+  abbrev Advanced : Plan → ℕ → StoreState → List Recognition → Type 0
+  Advanced p n x first =
+      Stands x (pool_among (chronicle p) settled came) (pool_among (chronicle p) settled came) settled h h
+      × ListsNew (chronicle p) n mark (pool_among (chronicle p) was had) was g (pool_among (chronicle p) settled came) settled h first
+
+  advanced_one : (p : Plan) (n : ℕ) (o x : StoreState) (first : List Recognition) → o.plan ≡ p → o.number ≡ n → StandsBy o was had settled came [] d g h → IsFarBack o.plan.reach g history.floor → IsAdvanced o history h mark x first → Advanced p n x first
+  advanced_one p n o x first sp sn st far k = by o.plan.chronicle.prompt refl
+    where
+      at_most : st.date ≤ h
+      at_most = let w = st.within in omega arith
+
+      by : (b : Bool) → o.plan.chronicle.prompt ≡ b → Advanced p n x first
+      by false e =
+          let m : IsMarked o x mark was settled settled g h first = k was settled settled st.date g (st.plain e) kept far few apart at_most dated dates in
+          let pools = among_plain p o.plan sp e settled came in (
+            subst (λ (t : List (Entry Sym)). Stands x t t settled h h) (sym pools) m.stands,
+            subst (λ (t : List (Entry Sym)). ListsNew (chronicle p) n mark t was g (pool_among (chronicle p) settled came) settled h first) (sym (among_plain p o.plan sp e was had))
+                (subst (λ (t : List (Entry Sym)). ListsNew (chronicle p) n mark was was g t settled h first) (sym pools) (answer_as p n o mark was was settled settled g h first sp sn sw m.answers)),
+          )
+      by true e =
+          let m : IsMarked o x mark had came settled g h first = k had came settled st.date g (ahead_of o had came settled [] st.date g h (st.prompt e)) kept far few apart_came at_most dated dates in
+          let pools = among_prompt p o.plan sp e settled came in (
+            subst (λ (t : List (Entry Sym)). Stands x t t settled h h) (sym pools) m.stands,
+            subst (λ (t : List (Entry Sym)). ListsNew (chronicle p) n mark t was g (pool_among (chronicle p) settled came) settled h first) (sym (among_prompt p o.plan sp e was had))
+                (subst (λ (t : List (Entry Sym)). ListsNew (chronicle p) n mark had was g t settled h first) (sym pools) (answer_as p n o mark had was came settled g h first sp sn sw m.answers)),
+          )
+
   advanced_all : (focus : Bool) (ps : List Plan) (n : ℕ) (olds news : List StoreState) (answer : List Recognition)
-      → AreStoresOf focus ps n olds → AllStandBy olds was pool [] d g h → AllFar olds g history.floor → AreAdvanced history h mark olds news answer
-      → AllStand news pool pool h h × ListsAllNew ps n mark was g pool h answer
-  advanced_all focus [] n [] news answer of stand far k = (subst (λ (t : List StoreState). AllStand t pool pool h h) (sym k.0) tt, k.1)
+      → AreStoresOf focus ps n olds → AllStandBy olds was had settled came [] d g h → AllFar olds g history.floor → AreAdvanced history h mark olds news answer
+      → AllStand ps news settled came h × ListsAllNew ps n mark (λ p. pool_among (chronicle p) was had) was g (λ p. pool_among (chronicle p) settled came) settled h answer
+  advanced_all focus [] n [] news answer of stand far k = (subst (λ (t : List StoreState). AllStand [] t settled came h) (sym k.0) tt, k.1)
   advanced_all focus [] n (o ∷ olds) news answer of stand far k = absurd of
   advanced_all focus (p ∷ ps) n [] news answer of stand far k = absurd of
   advanced_all focus (p ∷ ps) n (o ∷ olds) news answer of stand far k =
@@ -146,10 +285,10 @@ module _ (history : HistoryState) (mark : Mark) (was pool : List (Entry Sym)) (d
       let rest = k.1 in
       let first = k.2 in
       let more = k.3 in
-      let marked : IsMarked o new_one mark was pool pool g h first = k.6 was pool pool (stand.0).0 g (stand.0).2 kept far.0 few apart (let l = (stand.0).1 in omega arith) dated dates in
+      let one = advanced_one p n o new_one first (of.0).plan (of.0).number stand.0 far.0 k.6 in
       let r = advanced_all focus ps (suc n) olds rest more of.1 stand.1 far.1 k.7 in (
-        subst (λ (t : List StoreState). AllStand t pool pool h h) (sym k.4) (marked.stands, r.0),
-        (first, more, k.5, answer_as p n o mark was pool g h first (of.0).plan (of.0).number sw marked.answers, r.1),
+        subst (λ (t : List StoreState). AllStand (p ∷ ps) t settled came h) (sym k.4) (one.0, r.0),
+        (first, more, k.5, one.1, r.1),
       )
 
 -- ---- the stores of the plans
@@ -166,27 +305,32 @@ stores_same focus (p ∷ ps) n [] news h k = absurd h
 stores_same focus (p ∷ ps) n (o ∷ olds) [] h k = absurd k
 stores_same focus (p ∷ ps) n (o ∷ olds) (x ∷ news) h k = (same_store_of focus p n o x h.0 k.0, stores_same focus ps (suc n) olds news h.1 k.1)
 
-pub all_stand : (focus : Bool) (settled later : List (Entry Sym)) (h g : ℕ) (ps : List Plan) (ss : List StoreState)
-    → AllZip (IsStoreAt focus settled h) ps ss → AllStandBy ss settled settled later h h g
-all_stand focus settled later h g [] [] z = tt
-all_stand focus settled later h g [] (s ∷ ss) z = absurd z
-all_stand focus settled later h g (p ∷ ps) [] z = absurd z
-all_stand focus settled later h g (p ∷ ps) (s ∷ ss) z = ((h, omega arith, ahead_of s settled settled settled later h h g (z.0).stands), all_stand focus settled later h g ps ss z.1)
+fresh_at : (focus : Bool) (m : ℕ) (settled waiting : List (Entry Sym)) (h : ℕ) (p : Plan) (s : StoreState) → IsStoreAt focus m settled waiting h p s → StandsFresh s settled (arrived m (settled ++ waiting)) (arrived m (settled ++ waiting)) h
+fresh_at focus m settled waiting h p s z = record {
+  plain = λ e. subst (λ (t : List (Entry Sym)). Stands s t t settled h h) (among_plain p s.plan z.plan e settled (arrived m (settled ++ waiting))) z.stands;
+  prompt = λ e. subst (λ (t : List (Entry Sym)). Stands s t t settled h h) (among_prompt p s.plan z.plan e settled (arrived m (settled ++ waiting))) z.stands;
+}
 
-pub stores_at : (focus : Bool) (settled : List (Entry Sym)) (h : ℕ) (ps : List Plan) (n : ℕ) (ss : List StoreState)
-    → AreStoresOf focus ps n ss → AllStand ss settled settled h h → AllZip (IsStoreAt focus settled h) ps ss
-stores_at focus settled h [] n [] of stand = tt
-stores_at focus settled h [] n (s ∷ ss) of stand = absurd of
-stores_at focus settled h (p ∷ ps) n [] of stand = absurd of
-stores_at focus settled h (p ∷ ps) n (s ∷ ss) of stand =
-    (record { plan = (of.0).plan; focus_is = (of.0).focus_is; stands = stand.0 }, stores_at focus settled h ps (suc n) ss of.1 stand.1)
+all_fresh : (focus : Bool) (m : ℕ) (settled waiting : List (Entry Sym)) (h : ℕ) (ps : List Plan) (ss : List StoreState) → AllZip (IsStoreAt focus m settled waiting h) ps ss → AllFresh ss settled (arrived m (settled ++ waiting)) (arrived m (settled ++ waiting)) h
+all_fresh focus m settled waiting h [] [] z = tt
+all_fresh focus m settled waiting h [] (s ∷ ss) z = absurd z
+all_fresh focus m settled waiting h (p ∷ ps) [] z = absurd z
+all_fresh focus m settled waiting h (p ∷ ps) (s ∷ ss) z = (fresh_at focus m settled waiting h p s z.0, all_fresh focus m settled waiting h ps ss z.1)
+
+pub stores_at : (focus : Bool) (m : ℕ) (settled waiting : List (Entry Sym)) (h : ℕ) (ps : List Plan) (n : ℕ) (ss : List StoreState)
+    → AreStoresOf focus ps n ss → AllStand ps ss settled (arrived m (settled ++ waiting)) h → AllZip (IsStoreAt focus m settled waiting h) ps ss
+stores_at focus m settled waiting h [] n [] of stand = tt
+stores_at focus m settled waiting h [] n (s ∷ ss) of stand = absurd of
+stores_at focus m settled waiting h (p ∷ ps) n [] of stand = absurd of
+stores_at focus m settled waiting h (p ∷ ps) n (s ∷ ss) of stand =
+    (record { plan = (of.0).plan; focus_is = (of.0).focus_is; stands = stand.0 }, stores_at focus m settled waiting h ps (suc n) ss of.1 stand.1)
 
 -- ---- a mark
 
 module _ (seen new : EngineState) (mark : Mark) (answer : List Recognition) (same_plans : new.plans ≡ seen.plans)
-    (same_focus : new.focus ≡ seen.focus) (same_count : new.accepted ≡ seen.accepted) (floor : new.history.floor ≡ seen.history.floor)
+    (same_focus : new.focus ≡ seen.focus) (same_count : new.accepted ≡ seen.accepted) (all_marked : new.marked ≡ seen.accepted) (none : new.fresh ≡ []) (floor : new.history.floor ≡ seen.history.floor)
     (few : seen.accepted < 2 ^ 32) (of : AreStoresOf seen.focus (plans_of seen.plans) 0 seen.stores) (later : seen.horizon ≤ new.horizon)
-    (marked : AreMarked new.horizon mark seen.stores seen.history seen.waiting new.stores new.history new.waiting answer) (same : AreSameStores seen.stores new.stores) (s w : List (Entry Sym)) (stands : StandsFor seen s w) where
+    (marked : AreMarked new.horizon mark seen.stores seen.history seen.waiting seen.fresh new.stores new.history new.waiting answer) (same : AreSameStores seen.stores new.stores) (s w : List (Entry Sym)) (stands : StandsFor seen s w) where
   parted : w ≡ (marked.settled).done ++ new.waiting
   parted = sym stands.held ∙ (marked.settled).due.parted
 
@@ -220,21 +364,65 @@ module _ (seen new : EngineState) (mark : Mark) (answer : List Recognition) (sam
   few_settled : length (s ++ (marked.settled).done) < 2 ^ 32
   few_settled = let a = numbers_few seen.accepted ((s ++ (marked.settled).done) ++ new.waiting) numbered in let b = length-append (s ++ (marked.settled).done) new.waiting in omega arith
 
-  together : StandTogether seen.stores seen.history s s (marked.settled).done seen.horizon seen.horizon new.horizon
+  -- all that was accepted by the last mark
+  abbrev had : List (Entry Sym)
+  had = arrived seen.marked (s ++ w)
+
+  fresh_after : AllByRecursion (λ x. seen.horizon ≤ x.date) (not_arrived seen.marked w)
+  fresh_after = each_from_in (λ x. seen.horizon ≤ x.date) (not_arrived seen.marked w) (λ x i. in_from_each (λ x. seen.horizon ≤ x.date) w stands.waiting_after x (in_filter_back (λ (t : Entry Sym). not (nat_lt t.arrival seen.marked)) w x i).0)
+
+  few_before : length s < 2 ^ 32
+  few_before = let a = length-append s (marked.settled).done in let b = few_settled in omega arith
+
+  far_before : AllFar seen.stores seen.horizon seen.history.floor
+  far_before = stores_far seen.horizon seen.history.floor seen.focus (plans_of seen.plans) 0 seen.stores of stands.far_back
+
+  old_fresh : AllFresh seen.stores s had had seen.horizon
+  old_fresh = all_fresh seen.focus seen.marked s w seen.horizon (plans_of seen.plans) seen.stores stands.stores
+
+  all_apart : AreDistinct (s ++ w)
+  all_apart = stands.numbered.distinct
+
+  pooled_fresh : (b : Bool) → has_prompt seen.plans ≡ b → AllFresh marked.pooled s had (s ++ w) seen.horizon
+  pooled_fresh true e =
+      let given : AreGivenFresh seen.history (not_arrived seen.marked w) seen.stores marked.pooled = subst (λ (t : List (Entry Sym)). AreGivenFresh seen.history t seen.stores marked.pooled) (stands.fresh_is e) marked.given in
+      fresh_alike s had (had ++ not_arrived seen.marked w) (s ++ w) seen.horizon (pool_to s w seen.marked stands.arrived_settled) (pool_from s w seen.marked stands.arrived_settled) marked.pooled
+      (fresh_all seen.history s had seen.horizon stands.history few_before (not_arrived seen.marked w) seen.stores marked.pooled had old_fresh far_before given (pool_apart s w seen.marked stands.arrived_settled all_apart) fresh_after)
+  pooled_fresh false e =
+      let plain = stores_plain seen.focus (plans_of seen.plans) 0 seen.stores of e in
+      subst (λ (t : List StoreState). AllFresh t s had (s ++ w) seen.horizon) (sym (plain_all seen.history seen.fresh seen.stores marked.pooled plain marked.given))
+      (fresh_plain s had had (s ++ w) seen.horizon seen.stores plain old_fresh)
+
+  together : StandTogether marked.pooled seen.history s had s (s ++ w) (marked.settled).done seen.horizon seen.horizon new.horizon
   together = record {
-    stores = all_stand seen.focus s (marked.settled).done seen.horizon new.horizon (plans_of seen.plans) seen.stores stands.stores;
+    stores = begin_each s had (s ++ w) (marked.settled).done seen.horizon new.horizon marked.pooled (pooled_fresh (has_prompt seen.plans) refl);
     history = stands.history;
-    far = stores_far seen.horizon seen.history.floor seen.focus (plans_of seen.plans) 0 seen.stores of stands.far_back;
+    far = same_far seen.horizon seen.history.floor seen.stores marked.pooled marked.same_pooled far_before;
   }
 
-  offers : (e : ℕ) × StandTogether marked.between new.history s (s ++ (marked.settled).done) [] e seen.horizon new.horizon × (e ≤ new.horizon)
-  offers = offered_all new.horizon (marked.settled).done seen.stores marked.between seen.history new.history s s seen.horizon seen.horizon together (marked.settled).offered apart done_after
+  done_inside : (x : Entry Sym) → IsIn x (marked.settled).done → IsIn x (s ++ w)
+  done_inside x i = in_append_right s w x (subst (IsIn x) (sym parted) (in_append_left (marked.settled).done new.waiting x i))
+
+  offers : (e : ℕ) × StandTogether marked.between new.history s had (s ++ (marked.settled).done) (s ++ w) [] e seen.horizon new.horizon × (e ≤ new.horizon)
+  offers = offered_all new.horizon (marked.settled).done marked.pooled marked.between seen.history new.history s had s (s ++ w) seen.horizon seen.horizon together (marked.settled).offered apart done_after (marked.settled).due.before done_inside
       (ordered_right (λ x y. x.date ≤ y.date) s (marked.settled).done (in_dates (s ++ (marked.settled).done) up_now)) later few_settled
 
-  after : AllStand new.stores (s ++ (marked.settled).done) (s ++ (marked.settled).done) new.horizon new.horizon × ListsAllNew (plans_of seen.plans) 0 mark s seen.horizon (s ++ (marked.settled).done) new.horizon answer
-  after = advanced_all new.history mark s (s ++ (marked.settled).done) offers.0 seen.horizon new.horizon (before_parts seen.horizon s (marked.settled).done stands.settled_before done_after) (offers.1).history few_settled apart offers.2
+  of_pooled : AreStoresOf seen.focus (plans_of seen.plans) 0 marked.pooled
+  of_pooled = stores_same seen.focus (plans_of seen.plans) 0 seen.stores marked.pooled of marked.same_pooled
+
+  after : AllStand (plans_of seen.plans) new.stores (s ++ (marked.settled).done) (s ++ w) new.horizon × ListsAllNew (plans_of seen.plans) 0 mark (λ p. pool_among (chronicle p) s had) s seen.horizon (λ p. pool_among (chronicle p) (s ++ (marked.settled).done) (s ++ w)) (s ++ (marked.settled).done) new.horizon answer
+  after = advanced_all new.history mark s had (s ++ (marked.settled).done) (s ++ w) offers.0 seen.horizon new.horizon (before_parts seen.horizon s (marked.settled).done stands.settled_before done_after) (offers.1).history few_settled apart all_apart offers.2
       (λ e i. in_from_each (λ x. x.date < new.horizon) (s ++ (marked.settled).done) all_before e i) (in_dates (s ++ (marked.settled).done) up_now)
-      seen.focus (plans_of seen.plans) 0 marked.between new.stores answer (stores_same seen.focus (plans_of seen.plans) 0 seen.stores marked.between of (marked.settled).same) (offers.1).stores (offers.1).far marked.advanced
+      seen.focus (plans_of seen.plans) 0 marked.between new.stores answer (stores_same seen.focus (plans_of seen.plans) 0 marked.pooled marked.between of_pooled (marked.settled).same) (offers.1).stores (offers.1).far marked.advanced
+
+  -- ---- all has arrived by now
+
+  each_arrived : AllByRecursion (λ x. x.arrival < new.marked) ((s ++ (marked.settled).done) ++ new.waiting)
+  each_arrived = subst (λ (n : ℕ). AllByRecursion (λ x. x.arrival < n) ((s ++ (marked.settled).done) ++ new.waiting)) (sym all_marked)
+      (each_from_in (λ x. x.arrival < seen.accepted) ((s ++ (marked.settled).done) ++ new.waiting) (λ x i. (numbered.numbers x.arrival).1 (in_map (λ (e : Entry Sym). e.arrival) ((s ++ (marked.settled).done) ++ new.waiting) x i)))
+
+  now_arrived : arrived new.marked ((s ++ (marked.settled).done) ++ new.waiting) ≡ s ++ w
+  now_arrived = arrived_all new.marked ((s ++ (marked.settled).done) ++ new.waiting) each_arrived ∙ whole
 
   far_back : AllByRecursion (λ p. IsFarBack p.reach new.horizon new.history.floor) (plans_of seen.plans)
   far_back = subst (λ (z : ℤ). AllByRecursion (λ p. IsFarBack p.reach new.horizon z) (plans_of seen.plans)) (sym floor) (plans_later seen.horizon new.horizon seen.history.floor later (plans_of seen.plans) stands.far_back)
@@ -246,17 +434,23 @@ module _ (seen new : EngineState) (mark : Mark) (answer : List Recognition) (sam
     in_order = up;
     numbered = subst (λ (n : ℕ). HaveNumbersBelow n ((s ++ (marked.settled).done) ++ new.waiting)) (sym same_count) numbered;
     held = refl;
+    counted = (let a = all_marked in let b = same_count in omega (arith, a, b));
+    arrived_settled = all_left (λ x. x.arrival < new.marked) (s ++ (marked.settled).done) new.waiting each_arrived;
+    fresh_is = λ e. none ∙ sym (arrived_none new.marked new.waiting (all_right (λ x. x.arrival < new.marked) (s ++ (marked.settled).done) new.waiting each_arrived));
     history = (offers.1).history;
     far_back = subst (λ (ps : List Plan). AllByRecursion (λ p. IsFarBack p.reach new.horizon new.history.floor) ps) (sym (ap plans_of same_plans)) far_back;
-    stores = subst (λ (b : Bool). AllZip (IsStoreAt b (s ++ (marked.settled).done) new.horizon) (plans_of new.plans) new.stores) (sym same_focus)
-        (subst (λ (ps : List Plan). AllZip (IsStoreAt seen.focus (s ++ (marked.settled).done) new.horizon) ps new.stores) (sym (ap plans_of same_plans))
-        (stores_at seen.focus (s ++ (marked.settled).done) new.horizon (plans_of seen.plans) 0 new.stores (stores_same seen.focus (plans_of seen.plans) 0 seen.stores new.stores of same) after.0));
+    stores = subst (λ (b : Bool). AllZip (IsStoreAt b new.marked (s ++ (marked.settled).done) new.waiting new.horizon) (plans_of new.plans) new.stores) (sym same_focus)
+        (subst (λ (ps : List Plan). AllZip (IsStoreAt seen.focus new.marked (s ++ (marked.settled).done) new.waiting new.horizon) ps new.stores) (sym (ap plans_of same_plans))
+        (stores_at seen.focus new.marked (s ++ (marked.settled).done) new.waiting new.horizon (plans_of seen.plans) 0 new.stores (stores_same seen.focus (plans_of seen.plans) 0 seen.stores new.stores of same)
+        (subst (λ (t : List (Entry Sym)). AllStand (plans_of seen.plans) new.stores (s ++ (marked.settled).done) t new.horizon) (sym now_arrived) after.0)));
   }
 
   pub after_mark : AfterMark seen new mark s w answer
   after_mark = record {
     stands = subst (λ (t : List (Entry Sym)). StandsFor new (s ++ t) (since new.horizon w)) (sym now_before) (subst (λ (t : List (Entry Sym)). StandsFor new (s ++ (marked.settled).done) t) (sym now_since) stands_parted);
-    answers = subst (λ (t : List (Entry Sym)). ListsAllNew (plans_of seen.plans) 0 mark s seen.horizon (s ++ t) new.horizon answer) (sym now_before) after.1;
+    answers = subst (λ (t : List (Entry Sym)). ListsAllNew (plans_of seen.plans) 0 mark (pool_of seen.marked s w) s seen.horizon (pool_of new.marked (s ++ t) (since new.horizon w)) (s ++ t) new.horizon answer) (sym now_before)
+        (subst (λ (t : List (Entry Sym)). ListsAllNew (plans_of seen.plans) 0 mark (pool_of seen.marked s w) s seen.horizon (pool_of new.marked (s ++ (marked.settled).done) t) (s ++ (marked.settled).done) new.horizon answer) (sym now_since)
+        (subst (λ (t : List (Entry Sym)). ListsAllNew (plans_of seen.plans) 0 mark (pool_of seen.marked s w) s seen.horizon (λ p. pool_among (chronicle p) (s ++ (marked.settled).done) t) (s ++ (marked.settled).done) new.horizon answer) (sym now_arrived) after.1));
   }
 
 -- ---- the engine's fields
@@ -274,8 +468,8 @@ drop_all (x ∷ xs) zero e = absurd (omega arith)
 drop_all (x ∷ xs) (suc n) e = drop_all xs n (omega arith)
 
 -- the history once the settled entries are added
-pub history_before : (h g : ℕ) (past now : HistoryState) (olds news : List StoreState) (held rest : List (Entry Sym)) (mark : Mark) (answer : List Recognition) → AllByRecursion (λ x. x.date < g) past.entries → g ≤ h → AreMarked h mark olds past held news now rest answer → AllByRecursion (λ x. x.date < h) now.entries
-history_before h g past now olds news held rest mark answer before_g later m =
+pub history_before : (h g : ℕ) (past now : HistoryState) (olds news : List StoreState) (held fresh rest : List (Entry Sym)) (mark : Mark) (answer : List Recognition) → AllByRecursion (λ x. x.date < g) past.entries → g ≤ h → AreMarked h mark olds past held fresh news now rest answer → AllByRecursion (λ x. x.date < h) now.entries
+history_before h g past now olds news held fresh rest mark answer before_g later m =
     subst (λ (t : List (Entry Sym)). AllByRecursion (λ x. x.date < h) t) (sym (m.settled).kept)
     (all_append (λ x. x.date < h) past.entries (m.settled).done (all_each {P = λ x. x.date < g} past.entries (λ x l. omega arith) before_g) (m.settled).due.before)
 
@@ -288,11 +482,11 @@ written_back olds news n e same =
 pub rest_waiting : (n : ℕ) (held rest : List (Entry Sym)) → AllByRecursion (IsWaiting n) held → IsRestOf held rest → AllByRecursion (IsWaiting n) rest
 rest_waiting n held rest h r = all_right (IsWaiting n) r.0 rest (subst (AllByRecursion (IsWaiting n)) r.1 h)
 
-pub engine_on : (seen : EngineState) (news : List StoreState) (now : HistoryState) (rest : List (Entry Sym)) (t h : ℕ) (stopped : Bool) → IsEngine seen → AreSameStores seen.stores news → IsRestOf seen.waiting rest → h ≤ 2 ^ 42 → (t < 2 ^ 40 → h ≤ t - seen.delay) →
+pub engine_on : (seen : EngineState) (news : List StoreState) (now : HistoryState) (rest fresh : List (Entry Sym)) (t h m : ℕ) (stopped : Bool) → IsEngine seen → AreSameStores seen.stores news → IsRestOf seen.waiting rest → h ≤ 2 ^ 42 → (t < 2 ^ 40 → h ≤ t - seen.delay) →
     IsInKeyOrder (now.entries ++ rest) → now.floor ≡ seen.history.floor → (stopped ≡ false → AllByRecursion (λ x. x.date < h) now.entries) →
-    seen.horizon ≤ h → AllByRecursion (λ x. h ≤ x.date) rest →
-    IsEngine (record { plans = seen.plans; stores = news; history = now; waiting = rest; delay = seen.delay; last = t; horizon = h; accepted = seen.accepted; limit = seen.limit; focus = seen.focus; stopped = stopped })
-engine_on seen news now rest t h stopped is same r low behind order floor settled later due = record {
+    seen.horizon ≤ h → AllByRecursion (λ x. h ≤ x.date) rest → (stopped ≡ false → fresh ≡ []) →
+    IsEngine (record { plans = seen.plans; stores = news; history = now; waiting = rest; fresh = fresh; delay = seen.delay; last = t; horizon = h; accepted = seen.accepted; marked = m; limit = seen.limit; focus = seen.focus; stopped = stopped })
+engine_on seen news now rest fresh t h m stopped is same r low behind order floor settled later due none = record {
   stores = stores_same seen.focus (plans_of seen.plans) 0 seen.stores news is.stores same;
   waiting = rest_waiting seen.accepted seen.waiting rest is.waiting r;
   few = is.few;
@@ -306,28 +500,29 @@ engine_on seen news now rest t h stopped is same r low behind order floor settle
   least = subst (λ (z : ℤ). lowest ≤ℤ z) (sym floor) is.least;
   needed = subst (λ (z : ℤ). z ≤ℤ floor_at seen.plans.reach h) (sym floor) (floor_later seen.plans.reach seen.horizon h seen.history.floor later is.needed);
   settled = settled;
+  fresh = λ running. subst (λ (t : List (Entry Sym)). AllByRecursion (IsWaiting seen.accepted) t) (sym (none running)) tt;
 }
 
 pub rest_due : (h : ℕ) (held rest : List (Entry Sym)) → AllByRecursion (λ x. h ≤ x.date) held → IsRestOf held rest → AllByRecursion (λ x. h ≤ x.date) rest
 rest_due h held rest all r = all_right (λ x. h ≤ x.date) r.0 rest (subst (AllByRecursion (λ x. h ≤ x.date)) r.1 all)
 
-pub marked_from : (seen old : EngineState) (news : List StoreState) (now : HistoryState) (rest : List (Entry Sym)) (t h : ℕ) (stopped : Bool) (mark : Mark) (answer : List Recognition) → seen ≡ old → IsEngine seen → seen.horizon ≤ h → AreMarked h mark seen.stores seen.history seen.waiting news now rest answer → AreSameStores seen.stores news → now.floor ≡ seen.history.floor →
-    (s w : List (Entry Sym)) → StandsFor old s w → AfterMark old (record { plans = seen.plans; stores = news; history = now; waiting = rest; delay = seen.delay; last = t; horizon = h; accepted = seen.accepted; limit = seen.limit; focus = seen.focus; stopped = stopped }) mark s w answer
-marked_from seen old news now rest t h stopped mark answer view is later marked same floor s w stands =
-    let new : EngineState = record { plans = seen.plans; stores = news; history = now; waiting = rest; delay = seen.delay; last = t; horizon = h; accepted = seen.accepted; limit = seen.limit; focus = seen.focus; stopped = stopped } in
+pub marked_from : (seen old : EngineState) (news : List StoreState) (now : HistoryState) (rest fresh : List (Entry Sym)) (t h : ℕ) (stopped : Bool) (mark : Mark) (answer : List Recognition) → seen ≡ old → IsEngine seen → seen.horizon ≤ h → AreMarked h mark seen.stores seen.history seen.waiting seen.fresh news now rest answer → AreSameStores seen.stores news → now.floor ≡ seen.history.floor → fresh ≡ [] →
+    (s w : List (Entry Sym)) → StandsFor old s w → AfterMark old (record { plans = seen.plans; stores = news; history = now; waiting = rest; fresh = fresh; delay = seen.delay; last = t; horizon = h; accepted = seen.accepted; marked = seen.accepted; limit = seen.limit; focus = seen.focus; stopped = stopped }) mark s w answer
+marked_from seen old news now rest fresh t h stopped mark answer view is later marked same floor none s w stands =
+    let new : EngineState = record { plans = seen.plans; stores = news; history = now; waiting = rest; fresh = fresh; delay = seen.delay; last = t; horizon = h; accepted = seen.accepted; marked = seen.accepted; limit = seen.limit; focus = seen.focus; stopped = stopped } in
     subst (λ (o : EngineState). AfterMark o new mark s w answer) view
-    (after_mark seen new mark answer refl refl refl floor (let a = is.few in let b = is.limited in omega arith) is.stores later marked same s w (subst (λ (o : EngineState). StandsFor o s w) (sym view) stands))
+    (after_mark seen new mark answer refl refl refl refl none floor (let a = is.few in let b = is.limited in omega arith) is.stores later marked same s w (subst (λ (o : EngineState). StandsFor o s w) (sym view) stands))
 
 -- ---- the end again
 
-none_newly : (c : Chronicle Sym) (n : ℕ) (mark : Mark) (s : List (Entry Sym)) (h : ℕ) (answer : List Recognition) → ListsNew c n mark s s h s s h answer → answer ≡ []
-none_newly c n mark s h [] l = refl
-none_newly c n mark s h (r ∷ answer) l = let k = (l.listed).each in absurd ((k.0).1 (k.0).0)
+none_newly : (c : Chronicle Sym) (n : ℕ) (mark : Mark) (pool s : List (Entry Sym)) (h : ℕ) (answer : List Recognition) → ListsNew c n mark pool s h pool s h answer → answer ≡ []
+none_newly c n mark pool s h [] l = refl
+none_newly c n mark pool s h (r ∷ answer) l = let k = (l.listed).each in absurd ((k.0).1 (k.0).0)
 
-none_new : (ps : List Plan) (n : ℕ) (mark : Mark) (s : List (Entry Sym)) (h : ℕ) (answer : List Recognition) → ListsAllNew ps n mark s h s h answer → answer ≡ []
-none_new [] n mark s h answer k = k
-none_new (p ∷ ps) n mark s h answer k =
-    k.2 ∙ ap (λ (t : List Recognition). t ++ k.1) (none_newly (chronicle p) n mark s h k.0 k.3) ∙ none_new ps (suc n) mark s h k.1 k.4
+none_new : (ps : List Plan) (n : ℕ) (mark : Mark) (pool : Plan → List (Entry Sym)) (s : List (Entry Sym)) (h : ℕ) (answer : List Recognition) → ListsAllNew ps n mark pool s h pool s h answer → answer ≡ []
+none_new [] n mark pool s h answer k = k
+none_new (p ∷ ps) n mark pool s h answer k =
+    k.2 ∙ ap (λ (t : List Recognition). t ++ k.1) (none_newly (chronicle p) n mark (pool p) s h k.0 k.3) ∙ none_new ps (suc n) mark pool s h k.1 k.4
 
 none_waiting : (n : ℕ) (ws : List (Entry Sym)) → AllByRecursion (IsWaiting n) ws → AllByRecursion (λ x. 2 ^ 42 ≤ x.date) ws → ws ≡ []
 none_waiting n [] h k = refl
@@ -337,9 +532,15 @@ end_again : (old new : EngineState) → AllByRecursion (IsWaiting old.accepted) 
 end_again old new small at now mark s w answer stands m =
     let none : w ≡ [] = none_waiting old.accepted w (subst (AllByRecursion (IsWaiting old.accepted)) stands.held small) (subst (λ (h : ℕ). AllByRecursion (λ x. h ≤ x.date) w) at stands.waiting_after) in
     let whole : s ++ before new.horizon w ≡ s = ap (λ (t : List (Entry Sym)). s ++ before new.horizon t) none ∙ append-nil s in
-    none_new (plans_of old.plans) 0 mark s old.horizon answer
-    (subst (λ (h : ℕ). ListsAllNew (plans_of old.plans) 0 mark s old.horizon s h answer) (now ∙ sym at)
-    (subst (λ (t : List (Entry Sym)). ListsAllNew (plans_of old.plans) 0 mark s old.horizon t new.horizon answer) whole m.answers))
+    let none_since : since new.horizon w ≡ [] = ap (since new.horizon) none in
+    let settled_then : arrived old.marked (s ++ w) ≡ s = ap (λ (t : List (Entry Sym)). arrived old.marked (s ++ t)) none ∙ ap (arrived old.marked) (append-nil s) ∙ arrived_all old.marked s stands.arrived_settled in
+    let by_now : AllByRecursion (λ x. x.arrival < new.marked) s = subst (AllByRecursion (λ x. x.arrival < new.marked)) whole (m.stands).arrived_settled in
+    let settled_now : arrived new.marked ((s ++ before new.horizon w) ++ since new.horizon w) ≡ s = ap (λ (t : List (Entry Sym)). arrived new.marked (t ++ since new.horizon w)) whole ∙ ap (λ (t : List (Entry Sym)). arrived new.marked (s ++ t)) none_since ∙ ap (arrived new.marked) (append-nil s) ∙ arrived_all new.marked s by_now in
+    none_new (plans_of old.plans) 0 mark (λ p. pool_among (chronicle p) s s) s old.horizon answer
+    (subst (λ (h : ℕ). ListsAllNew (plans_of old.plans) 0 mark (λ p. pool_among (chronicle p) s s) s old.horizon (λ p. pool_among (chronicle p) s s) s h answer) (now ∙ sym at)
+    (subst (λ (t : List (Entry Sym)). ListsAllNew (plans_of old.plans) 0 mark (λ p. pool_among (chronicle p) s s) s old.horizon (λ p. pool_among (chronicle p) t s) t new.horizon answer) whole
+    (subst (λ (t : List (Entry Sym)). ListsAllNew (plans_of old.plans) 0 mark (λ p. pool_among (chronicle p) s s) s old.horizon (λ p. pool_among (chronicle p) (s ++ before new.horizon w) t) (s ++ before new.horizon w) new.horizon answer) settled_now
+    (subst (λ (t : List (Entry Sym)). ListsAllNew (plans_of old.plans) 0 mark (λ p. pool_among (chronicle p) s t) s old.horizon (pool_of new.marked (s ++ before new.horizon w) (since new.horizon w)) (s ++ before new.horizon w) new.horizon answer) settled_then m.answers))))
 
 pub again_by : (r : Result (List Recognition) Refused) (seen old new : EngineState) (mark : Mark) → seen ≡ old → IsEngine seen → OnOk r (HasMoved old new (2 ^ 42) (2 ^ 42)) → IfOk r (λ a. (s w : List (Entry Sym)) → StandsFor old s w → AfterMark old new mark s w a) → old.horizon ≡ 2 ^ 42 → IfOk r (λ a. (s w : List (Entry Sym)) → StandsFor old s w → a ≡ [])
 again_by (Ok a) seen old new mark view is moved marked at = λ s w stands.
@@ -348,10 +549,10 @@ again_by (Err e) seen old new mark view is moved marked at = tt
 
 -- a delay changes nothing of what an engine stands for
 pub delayed : (seen old : EngineState) (d : ℕ) → seen ≡ old → (s w : List (Entry Sym)) → StandsFor old s w →
-    StandsFor (record { plans = seen.plans; stores = seen.stores; history = seen.history; waiting = seen.waiting; delay = d; last = seen.last; horizon = seen.horizon; accepted = seen.accepted; limit = seen.limit; focus = seen.focus; stopped = seen.stopped }) s w
+    StandsFor (record { plans = seen.plans; stores = seen.stores; history = seen.history; waiting = seen.waiting; fresh = seen.fresh; delay = d; last = seen.last; horizon = seen.horizon; accepted = seen.accepted; marked = seen.marked; limit = seen.limit; focus = seen.focus; stopped = seen.stopped }) s w
 delayed seen old d view s w stands =
     let so : StandsFor seen s w = subst (λ (o : EngineState). StandsFor o s w) (sym view) stands in
-    record { settled_before = so.settled_before; waiting_after = so.waiting_after; in_order = so.in_order; numbered = so.numbered; held = so.held; history = so.history; far_back = so.far_back; stores = so.stores }
+    record { settled_before = so.settled_before; waiting_after = so.waiting_after; in_order = so.in_order; numbered = so.numbered; held = so.held; counted = so.counted; arrived_settled = so.arrived_settled; fresh_is = so.fresh_is; history = so.history; far_back = so.far_back; stores = so.stores }
 
 -- the horizon moves where that is forward
 pub moved_forward : (old new : EngineState) (t h : ℕ) → HasMoved old new t h → old.horizon ≤ h → new.horizon ≡ h

@@ -48,7 +48,7 @@ keys_differ a b never e = never (ap (λ (k : Key). k.arrival) (key_exact (key_of
 
 -- ---- one more in order
 
-put_cases : (P : List (Entry Sym) → Type 0) (e x : Entry Sym) (xs : List (Entry Sym)) → P (e ∷ x ∷ xs) → P (x ∷ put_in_order e xs) → P (put_in_order e (x ∷ xs))
+pub put_cases : (P : List (Entry Sym) → Type 0) (e x : Entry Sym) (xs : List (Entry Sym)) → P (e ∷ x ∷ xs) → P (x ∷ put_in_order e xs) → P (put_in_order e (x ∷ xs))
 put_cases P e x xs first later = by (is_lt (entry_cmp e x))
   where
     by : (b : Bool) → P (cond b (e ∷ x ∷ xs) (x ∷ put_in_order e xs))

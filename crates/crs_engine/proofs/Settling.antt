@@ -2,7 +2,7 @@
 use Rattle.std.proofs.Common.{◌≡◌, ℕ, ◌<◌, ◌≤◌, ◌^◌, List, [], ◌∷◌, ◌++◌, refl, sym, ap, subst, ◌∙◌, inl, inr, arith, append_assoc, append-nil, cond, nat_lt, Bool, true, false}
 use Rattle.std.specs.Prelude.{Some, None, min, pos, ◌≤ℤ◌, ℤ}
 use Rattle.std.proofs.lemmas.Int.{ints}
-use Rattle.std.specs.List.{AllByRecursion}
+use Rattle.std.specs.List.{AllByRecursion, AllZip}
 use Rattle.std.proofs.lemmas.Bool.{ltb-true, le-ltb}
 use Rattle.crs_base.specs.declared.symbols.Sym.{Sym}
 use Rattle.crs_base.specs.Entry.{Entry, entry_cmp, IsInKeyOrder}
@@ -18,7 +18,7 @@ use Rattle.crs_history.specs.Histories.{HistoryState, EndsWith, IsAfterAll, Stan
 use Rattle.crs_store.specs.Ahead.{AreAhead}
 use Rattle.crs_store.specs.Stores.{StoreState, IsSameStore}
 use Rattle.crs_store.specs.Answers.{IsAdvanced}
-use Rattle.crs_engine.specs.Moves.{AreSameStores, AreOffered, HasPut, AreOfferedAll, AreTaken, ArePut, AreSettledInPart, AreSettled, IsRestOf, AreAdvanced, date_after}
+use Rattle.crs_engine.specs.Moves.{AreSameStores, IsGivenFresh, AreGivenFresh, AreOffered, HasPut, AreOfferedAll, AreTaken, ArePut, AreSettledInPart, AreSettled, IsRestOf, AreAdvanced, date_after}
 use Rattle.crs_engine.proofs.Order.{ordered_cross, ordered_right, ordered_without}
 
 pub same_all : (ss : List StoreState) → AreSameStores ss ss
@@ -383,6 +383,48 @@ each_waiting P olds news past now held h rest so all = all_right P (so.part).don
 
 pub each_late : (olds news : List StoreState) (past now : HistoryState) (held : List (Entry Sym)) (h : ℕ) (rest : List (Entry Sym)) → AreSettledByPieces olds past held h news now rest → AllByRecursion (λ x. past.floor ≤ℤ pos x.date) held → AllByRecursion (λ x. now.floor ≤ℤ pos x.date) rest
 each_late olds news past now held h rest so all = subst (λ (z : ℤ). AllByRecursion (λ x. z ≤ℤ pos x.date) rest) (sym so.floor) (each_waiting (λ x. past.floor ≤ℤ pos x.date) olds news past now held h rest so all)
+
+-- ---- what comes to the pools
+
+-- what is known while those accepted since the last mark come to the pools
+pub record AreGivenSoFar (olds : List StoreState) (history : HistoryState) (fresh : List (Entry Sym)) (news : List StoreState) (rest : List (Entry Sym)) : Type 0 where
+  pub same : AreSameStores olds news
+  pub small : AllByRecursion IsSmall rest
+  pub done : List (Entry Sym)
+  pub parted : fresh ≡ done ++ rest
+  pub given : AreGivenFresh history done olds news
+
+pub given_none : (olds : List StoreState) (history : HistoryState) (fresh : List (Entry Sym)) → AllByRecursion IsSmall fresh → AreGivenSoFar olds history fresh olds fresh
+given_none olds history fresh small = record { same = same_all olds; small = small; done = []; parted = refl; given = refl }
+
+given_on : (history : HistoryState) (xs : List (Entry Sym)) (x : Entry Sym) (olds mid news : List StoreState) → AreGivenFresh history xs olds mid → AllZip (λ o n. IsGivenFresh o history x n) mid news → AreGivenFresh history (xs ++ x ∷ []) olds news
+given_on history [] x olds mid news k z = (news, subst (λ (t : List StoreState). AllZip (λ o n. IsGivenFresh o history x n) t news) k z, refl)
+given_on history (y ∷ xs) x olds mid news k z = (k.0, k.1, given_on history xs x k.0 mid news k.2 z)
+
+module _ (olds : List StoreState) (history : HistoryState) (fresh : List (Entry Sym)) (mid : List StoreState) (rest : List (Entry Sym)) (so : AreGivenSoFar olds history fresh mid rest) where
+  pub given_more : (h : ℕ) (x : Entry Sym) (after : List (Entry Sym)) (news : List StoreState) → released rest h ≡ Some x → after ≡ left rest h → AreSameStores mid news → AllZip (λ o n. IsGivenFresh o history x n) mid news → AreGivenSoFar olds history fresh news after
+  given_more h x after news e r same z =
+      let out = first_taken h rest after x e r in
+      record {
+        same = same_on olds mid news so.same same;
+        small = (subst (AllByRecursion IsSmall) out.0 so.small).1;
+        done = so.done ++ x ∷ [];
+        parted = so.parted ∙ ap (λ (t : List (Entry Sym)). so.done ++ t) out.0 ∙ sym (append_assoc so.done (x ∷ []) after);
+        given = given_on history so.done x olds mid news so.given z;
+      }
+
+  pub first_small : (h : ℕ) (x : Entry Sym) → released rest h ≡ Some x → x.date < 2 ^ 40
+  first_small h x e = (subst (AllByRecursion IsSmall) (came_out rest h x e).0 so.small).0
+
+  none_left : (h : ℕ) → 2 ^ 40 ≤ h → (xs : List (Entry Sym)) → AllByRecursion IsSmall xs → AllByRecursion (λ x. h ≤ x.date) xs → xs ≡ []
+  none_left h l [] a b = refl
+  none_left h l (x ∷ xs) a b = let s = a.0 in let t = b.0 in absurd (omega arith)
+
+  pub given_whole : (h : ℕ) → 2 ^ 40 ≤ h → AllByRecursion (λ x. h ≤ x.date) rest → AreGivenFresh history fresh olds mid
+  given_whole h l none = subst (λ (t : List (Entry Sym)). AreGivenFresh history t olds mid) (sym (so.parted ∙ ap (λ (t : List (Entry Sym)). so.done ++ t) (none_left h l rest so.small none) ∙ append-nil so.done)) so.given
+
+  pub given_out : (h : ℕ) → 2 ^ 40 ≤ h → AllByRecursion (λ x. h ≤ x.date) rest → (after : List (Entry Sym)) → after ≡ left rest h → after ≡ []
+  given_out h l none after r = r ∙ left_none h rest none ∙ none_left h l rest so.small none
 
 -- ---- lists of stores
 

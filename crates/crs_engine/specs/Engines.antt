@@ -1,6 +1,6 @@
 -- Engines, and what they stand for.
-use Rattle.std.specs.Prelude.{◌≡◌, ◌<◌, ◌≤◌, ◌≤ℤ◌, ◌-ℤ◌, pos, ◌+◌, ◌-◌, ◌^◌, ◌↔◌, ℕ, ℤ, suc, Option, Some, None, List, [], ◌∷◌, ◌++◌, map, filter, not, nat_lt, min, max, sum, length, Bool, false}
-use Rattle.std.specs.List.{AllByRecursion, AllZip}
+use Rattle.std.specs.Prelude.{◌≡◌, ◌<◌, ◌≤◌, ◌≤ℤ◌, ◌-ℤ◌, pos, ◌+◌, ◌-◌, ◌^◌, ◌↔◌, ℕ, ℤ, suc, Option, Some, None, List, [], ◌∷◌, ◌++◌, map, filter, not, nat_lt, min, max, sum, length, Bool, true, false}
+use Rattle.std.specs.List.{AllByRecursion, AllZip, list_any}
 use Rattle.std.specs.declared.cmp.Ordering.TheVariants.{Less}
 use Rattle.crs_base.specs.declared.symbols.Sym.{Sym}
 use Rattle.crs_base.specs.Words.{IsIn, Ordered}
@@ -8,20 +8,26 @@ use Rattle.crs_base.specs.Entry.{Entry, entry_cmp, IsInKeyOrder}
 use Rattle.crs_model.specs.declared.plan.Plan.{Plan}
 use Rattle.crs_model.specs.declared.plan.Plans.{Plans}
 use Rattle.crs_model.specs.Matching.{AreDistinct}
+use Rattle.crs_model.specs.Levels.{reads_levels}
+use Rattle.crs_model.specs.Open.{pool_among}
+use Rattle.crs_model.specs.Order.{arrived}
+use Rattle.crs_model.specs.Plans.{chronicle}
 use Rattle.crs_model.specs.Reach.{IsReachOfAll, IsSmallSpan}
 use Rattle.crs_history.specs.Histories.{HistoryState, lowest, IsFarBack, StandsFor as HistoryStandsFor}
 use Rattle.crs_store.specs.Stores.{StoreState, Stands}
 
--- an engine, as contracts see it
+-- An engine, as contracts see it. `fresh` are those of the waiting entries that were accepted since the last mark, and `marked` is how many were accepted by it.
 pub record EngineState : Type 0 where
   pub plans : Plans
   pub stores : List StoreState
   pub history : HistoryState
   pub waiting : List (Entry Sym)
+  pub fresh : List (Entry Sym)
   pub delay : ℕ
   pub last : ℕ
   pub horizon : ℕ
   pub accepted : ℕ
+  pub marked : ℕ
   pub limit : ℕ
   pub focus : Bool
   pub stopped : Bool
@@ -48,26 +54,37 @@ module _ {S : Type 0} where
     pub distinct : AreDistinct entries
     pub numbers : (k : ℕ) → (k < n) ↔ IsIn k (map (λ e. e.arrival) entries)
 
--- the entries that the assignments of a plan may take: the settled ones
-abbrev pub pool_of : Plan → List (Entry Sym) → List (Entry Sym)
-pool_of p settled = settled
+-- the entries that the assignments of a plan may take: the settled ones, and of a prompt chronicle those that were accepted by the last mark
+abbrev pub pool_of : ℕ → List (Entry Sym) → List (Entry Sym) → Plan → List (Entry Sym)
+pool_of marked settled waiting p = pool_among (chronicle p) settled (arrived marked (settled ++ waiting))
+
+-- whether one of the plans is of a prompt chronicle
+abbrev pub has_prompt : Plans → Bool
+has_prompt ps = list_any (λ p. p.chronicle.prompt) (plans_of ps)
+
+-- those of the entries that hadn't arrived when so many were accepted
+abbrev pub not_arrived : ℕ → List (Entry Sym) → List (Entry Sym)
+not_arrived n entries = filter (λ e. not (nat_lt e.arrival n)) entries
 
 -- a store of the plan that reads levels or not as given, and stands for its pool and for the entries settled at h
-pub record IsStoreAt (focus : Bool) (settled : List (Entry Sym)) (h : ℕ) (p : Plan) (s : StoreState) : Type 0 where
+pub record IsStoreAt (focus : Bool) (marked : ℕ) (settled waiting : List (Entry Sym)) (h : ℕ) (p : Plan) (s : StoreState) : Type 0 where
   pub plan : s.plan ≡ p
-  pub focus_is : s.focus ≡ focus
-  pub stands : Stands s (pool_of p settled) (pool_of p settled) settled h h
+  pub focus_is : s.focus ≡ reads_levels (chronicle p) focus
+  pub stands : Stands s (pool_of marked settled waiting p) (pool_of marked settled waiting p) settled h h
 
--- The settled entries are dated before the horizon and the waiting ones at or after it. All are in key order, and have the arrival numbers below the count of accepted ones. The buffer holds the waiting ones, the history and each plan's store stand for the settled ones, and the history goes far enough back for each plan.
+-- The settled entries are dated before the horizon and the waiting ones at or after it. All are in key order, and have the arrival numbers below the count of accepted ones. The settled ones were accepted by the last mark. The buffer holds the waiting ones and, where some chronicle is prompt, those of them that were accepted since the last mark. The history stands for the settled ones, each plan's store for its pool and them, and the history goes far enough back for each plan.
 pub record StandsFor (e : EngineState) (settled waiting : List (Entry Sym)) : Type 0 where
   pub settled_before : AllByRecursion (λ x. x.date < e.horizon) settled
   pub waiting_after : AllByRecursion (λ x. e.horizon ≤ x.date) waiting
   pub in_order : Ordered (λ x y. entry_cmp x y ≡ Less) (settled ++ waiting)
   pub numbered : HaveNumbersBelow e.accepted (settled ++ waiting)
   pub held : e.waiting ≡ waiting
+  pub counted : e.marked ≤ e.accepted
+  pub arrived_settled : AllByRecursion (λ x. x.arrival < e.marked) settled
+  pub fresh_is : has_prompt e.plans ≡ true → e.fresh ≡ not_arrived e.marked waiting
   pub history : HistoryStandsFor settled e.history
   pub far_back : AllByRecursion (λ p. IsFarBack p.reach e.horizon e.history.floor) (plans_of e.plans)
-  pub stores : AllZip (IsStoreAt e.focus settled e.horizon) (plans_of e.plans) e.stores
+  pub stores : AllZip (IsStoreAt e.focus e.marked settled waiting e.horizon) (plans_of e.plans) e.stores
 
 -- how many partial assignments are held, or 2^64 - 1 where there are more
 abbrev pub kept_of : EngineState → ℕ
@@ -82,13 +99,14 @@ pub record IsNewEngine (plans : Plans) (focus : Bool) (limit : ℕ) (e : EngineS
   pub no_clock : e.last ≡ 0
   pub at_start : e.horizon ≡ 0
   pub none_accepted : e.accepted ≡ 0
+  pub none_marked : e.marked ≡ 0
   pub running : e.stopped ≡ false
 
 -- a store of the plan, with this number, that reads levels or not as given
 pub record IsStoreOf (focus : Bool) (p : Plan) (n : ℕ) (s : StoreState) : Type 0 where
   pub plan : s.plan ≡ p
   pub number : s.number ≡ n
-  pub focus_is : s.focus ≡ focus
+  pub focus_is : s.focus ≡ reads_levels (chronicle p) focus
 
 -- the stores are those of the plans, numbered from n
 abbrev pub AreStoresOf : Bool → List Plan → ℕ → List StoreState → Type 0
@@ -117,6 +135,7 @@ pub record IsEngine (e : EngineState) : Type 0 where
   pub least : lowest ≤ℤ e.history.floor
   pub needed : e.history.floor ≤ℤ floor_at e.plans.reach e.horizon
   pub settled : e.stopped ≡ false → AllByRecursion (λ x. x.date < e.horizon) e.history.entries
+  pub fresh : e.stopped ≡ false → AllByRecursion (IsWaiting e.accepted) e.fresh
 
 -- an entry was accepted
 pub record HasAccepted (old new : EngineState) : Type 0 where
@@ -126,6 +145,7 @@ pub record HasAccepted (old new : EngineState) : Type 0 where
   pub same_delay : new.delay ≡ old.delay
   pub same_clock : new.last ≡ old.last
   pub same_horizon : new.horizon ≡ old.horizon
+  pub same_marked : new.marked ≡ old.marked
   pub one_more : new.accepted ≡ old.accepted + 1
 
 -- the clock moved on to t, and the horizon to h where that is the greater
@@ -137,3 +157,4 @@ pub record HasMoved (old new : EngineState) (t h : ℕ) : Type 0 where
   pub same_count : new.accepted ≡ old.accepted
   pub clock : new.last ≡ t
   pub moved : new.horizon ≡ max old.horizon h
+  pub marked : new.marked ≡ old.accepted

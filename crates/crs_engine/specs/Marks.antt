@@ -19,14 +19,15 @@ pub record ListsNew (c : Chronicle Sym) (number : ℕ) (mark : Mark) (was_pool w
   pub listed : Lists assignment_cmp (IsNew c was_pool was g pool now h) (map assignment_of answer)
   pub each : AllByRecursion (IsRecognitionOf c number mark) answer
 
--- one chronicle after another in file order, the first of which has the number n
-abbrev pub ListsAllNew : List Plan → ℕ → Mark → List (Entry Sym) → ℕ → List (Entry Sym) → ℕ → List Recognition → Type 0
-ListsAllNew [] n mark was g now h answer = answer ≡ []
-ListsAllNew (p ∷ ps) n mark was g now h answer =
+-- one chronicle after another in file order, the first of which has the number n; each has a pool of its own
+abbrev pub ListsAllNew : List Plan → ℕ → Mark → (Plan → List (Entry Sym)) → List (Entry Sym) → ℕ → (Plan → List (Entry Sym)) → List (Entry Sym) → ℕ → List Recognition → Type 0
+ListsAllNew [] n mark was_pool was g pool now h answer = answer ≡ []
+ListsAllNew (p ∷ ps) n mark was_pool was g pool now h answer =
     (first : List Recognition) × (rest : List Recognition) × (answer ≡ first ++ rest)
-    × ListsNew (chronicle p) n mark (pool_of p was) was g (pool_of p now) now h first × ListsAllNew ps (suc n) mark was g now h rest
+    × ListsNew (chronicle p) n mark (was_pool p) was g (pool p) now h first × ListsAllNew ps (suc n) mark was_pool was g pool now h rest
 
 -- after a mark: the engine stands for the two lists parted at its new horizon, and the answer has what is new
 pub record AfterMark (old new : EngineState) (mark : Mark) (settled waiting : List (Entry Sym)) (answer : List Recognition) : Type 0 where
   pub stands : StandsFor new (settled ++ before new.horizon waiting) (since new.horizon waiting)
-  pub answers : ListsAllNew (plans_of old.plans) 0 mark settled old.horizon (settled ++ before new.horizon waiting) new.horizon answer
+  pub answers : ListsAllNew (plans_of old.plans) 0 mark (pool_of old.marked settled waiting) settled old.horizon
+      (pool_of new.marked (settled ++ before new.horizon waiting) (since new.horizon waiting)) (settled ++ before new.horizon waiting) new.horizon answer

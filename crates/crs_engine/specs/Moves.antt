@@ -1,21 +1,42 @@
 -- What becomes of all stores.
-use Rattle.std.specs.Prelude.{◌≡◌, ◌<◌, ◌≤◌, ℕ, min, List, [], ◌∷◌, ◌++◌}
+use Rattle.std.specs.Prelude.{Bool, true, false, if◌then◌else◌, ◌≡◌, ◌<◌, ◌≤◌, ℕ, min, List, [], ◌∷◌, ◌++◌}
 use Rattle.std.specs.List.{AllByRecursion, AllZip}
 use Rattle.crs_base.specs.declared.symbols.Sym.{Sym}
 use Rattle.crs_base.specs.Entry.{Entry}
 use Rattle.crs_model.specs.declared.recognition.Mark.{Mark}
 use Rattle.crs_model.specs.declared.recognition.Recognition.{Recognition}
+use Rattle.crs_model.specs.Order.{put_in_order}
 use Rattle.crs_history.specs.Histories.{HistoryState, StandsFor}
-use Rattle.crs_store.specs.Stores.{StoreState, IsSameStore, IsOfferedUntil}
+use Rattle.crs_store.specs.Stores.{StoreState, IsSameStore, IsOfferedUntil, IsOfferedPrompt, IsSettledWith}
 use Rattle.crs_store.specs.Ahead.{AreAhead}
 use Rattle.crs_store.specs.Answers.{IsAdvanced}
 
 abbrev pub AreSameStores : List StoreState → List StoreState → Type 0
 AreSameStores olds news = AllZip IsSameStore olds news
 
--- each was offered x, which the history has as its last, and told of the entries ahead of all that are dated at or after a date, and all that it holds was judged at a date that isn't after `until`
+-- it was offered x, or x was settled where its chronicle is prompt
+pub record IsTakenIn (o : StoreState) (history : HistoryState) (x : Entry Sym) (until : ℕ) (ahead : List (Entry Sym)) (beyond : ℕ) (n : StoreState) : Type 0 where
+  pub plain : o.plan.chronicle.prompt ≡ false → IsOfferedUntil o history x until ahead beyond n
+  pub prompt : o.plan.chronicle.prompt ≡ true → IsSettledWith o history x n
+
+-- each was offered x, which the history has as its last, and told of the entries ahead of all that are dated at or after a date, and all that it holds was judged at a date that isn't after `until`; where its chronicle is prompt, x was settled
 abbrev pub AreOffered : List StoreState → HistoryState → Entry Sym → ℕ → List (Entry Sym) → ℕ → List StoreState → Type 0
-AreOffered olds history x until ahead beyond news = AllZip (λ o n. IsOfferedUntil o history x until ahead beyond n) olds news
+AreOffered olds history x until ahead beyond news = AllZip (λ o n. IsTakenIn o history x until ahead beyond n) olds news
+
+-- x came to its pool where its chronicle is prompt, and else nothing changed
+pub record IsGivenFresh (o : StoreState) (history : HistoryState) (x : Entry Sym) (n : StoreState) : Type 0 where
+  pub same : IsSameStore o n
+  pub plain : o.plan.chronicle.prompt ≡ false → n ≡ o
+  pub prompt : o.plan.chronicle.prompt ≡ true → IsOfferedPrompt o history x n
+
+-- each entry in turn came to the pools of the prompt chronicles
+abbrev pub AreGivenFresh : HistoryState → List (Entry Sym) → List StoreState → List StoreState → Type 0
+AreGivenFresh history [] olds news = news ≡ olds
+AreGivenFresh history (x ∷ xs) olds news = (next : List StoreState) × AllZip (λ o n. IsGivenFresh o history x n) olds next × AreGivenFresh history xs next news
+
+-- put in order, where it is wanted
+abbrev pub put_where : Bool → Entry Sym → List (Entry Sym) → List (Entry Sym)
+put_where wanted x xs = if wanted then put_in_order x xs else xs
 
 -- the date of the first entry, or h where that is the lesser or there is none
 abbrev pub date_after : ℕ → List (Entry Sym) → ℕ
@@ -78,8 +99,11 @@ AreAdvanced history h mark (o ∷ olds) news answer =
     (n : StoreState) × (rest : List StoreState) × (first : List Recognition) × (more : List Recognition)
     × (news ≡ n ∷ rest) × (answer ≡ first ++ more) × IsAdvanced o history h mark n first × AreAdvanced history h mark olds rest more
 
--- the settled entries were offered, and then each store was advanced
-pub record AreMarked (h : ℕ) (mark : Mark) (olds : List StoreState) (past : HistoryState) (held : List (Entry Sym)) (news : List StoreState) (now : HistoryState) (rest : List (Entry Sym)) (answer : List Recognition) : Type 0 where
+-- those accepted since the last mark came to the pools, the settled entries were offered, and then each store was advanced
+pub record AreMarked (h : ℕ) (mark : Mark) (olds : List StoreState) (past : HistoryState) (held fresh : List (Entry Sym)) (news : List StoreState) (now : HistoryState) (rest : List (Entry Sym)) (answer : List Recognition) : Type 0 where
+  pub pooled : List StoreState
+  pub given : AreGivenFresh past fresh olds pooled
+  pub same_pooled : AreSameStores olds pooled
   pub between : List StoreState
-  pub settled : AreSettled olds past held h between now rest
+  pub settled : AreSettled pooled past held h between now rest
   pub advanced : AreAdvanced now h mark between news answer

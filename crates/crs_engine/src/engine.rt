@@ -58,13 +58,14 @@ pub struct Engine {
 }
 
 impl Model for Engine {
-    ghost use Rattle.crs_engine.specs.Engines.{EngineState, IsEngine};
+    ghost use Rattle.std.specs.Prelude.{◌≡◌};
+    ghost use Rattle.crs_engine.specs.Engines.{EngineState, IsEngine, has_prompt};
 
     ghost Value = { EngineState };
 
-    ghost view = { λ e. record { plans = e.plans; stores = e.stores.items; history = e.history; waiting = e.buffer; delay = e.delay; last = e.last; horizon = e.horizon; accepted = e.accepted; limit = e.limit; focus = e.focus; stopped = e.stopped } };
+    ghost view = { λ e. record { plans = e.plans; stores = e.stores.items; history = e.history; waiting = e.buffer; fresh = e.fresh; delay = e.delay; last = e.last; horizon = e.horizon; accepted = e.accepted; marked = e.marked; limit = e.limit; focus = e.focus; stopped = e.stopped } };
 
-    ghost invariant = { λ e. IsEngine (record { plans = e.plans; stores = e.stores.items; history = e.history; waiting = e.buffer; delay = e.delay; last = e.last; horizon = e.horizon; accepted = e.accepted; limit = e.limit; focus = e.focus; stopped = e.stopped }) };
+    ghost invariant = { λ e. IsEngine (record { plans = e.plans; stores = e.stores.items; history = e.history; waiting = e.buffer; fresh = e.fresh; delay = e.delay; last = e.last; horizon = e.horizon; accepted = e.accepted; marked = e.marked; limit = e.limit; focus = e.focus; stopped = e.stopped }) × (e.prompt ≡ has_prompt e.plans) };
 }
 
 impl Engine {

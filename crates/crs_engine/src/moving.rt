@@ -6,9 +6,11 @@ ghost use Rattle.crs_base.specs.Entry.{Entry as LogEntry, IsInKeyOrder};
 ghost use Rattle.crs_base.specs.Seen.{entry_of};
 ghost use Rattle.crs_history.specs.Histories.{EndsWith, StandsFor};
 ghost use Rattle.crs_model.specs.declared.recognition.Recognition.{Recognition};
-ghost use Rattle.crs_engine.specs.Moves.{AreSameStores, AreOffered, AreOfferedAll, AreTaken, ArePut, AreSettledInPart, AreSettled, IsRestOf, AreAdvanced, AreMarked, date_after};
+ghost use Rattle.crs_engine.specs.Moves.{IsTakenIn, IsGivenFresh, AreGivenFresh, put_where, AreSameStores, AreOffered, AreOfferedAll, AreTaken, ArePut, AreSettledInPart, AreSettled, IsRestOf, AreAdvanced, AreMarked, date_after};
 ghost use Rattle.crs_buffer.specs.Entries.{IsNewKey};
 ghost use Rattle.crs_model.specs.Order.{put_in_order};
+ghost use Rattle.crs_store.specs.Stores.{IsSameStore};
+ghost use Rattle.std.specs.List.{AllZip};
 
 use crate::refused::NoMemory;
 use crs_base::{Entry, List, Steps};
@@ -26,6 +28,33 @@ const AHEAD: usize = 8;
 /// How many entries are taken out of the buffer before they are settled, at most: few enough that each
 /// is still at hand when it is offered.
 const PIECE: usize = 64;
+
+/// Offers the entry, which is the last of the history, to the store, or settles it there, where the
+/// chronicle is prompt.
+fn take_in<L: Ledger>(
+    store: &mut Store,
+    history: &History,
+    entry: &Rc<Entry>,
+    until: u64,
+    ahead: &[Rc<Entry>],
+    beyond: u64,
+    steps: &mut Steps<L>,
+) -> Result<(), NoMemory>
+    requires last { EndsWith (entry_of entry.now.value) history.now.entries }
+    requires date { entry.now.value.date < 2 ^ 40 }
+    requires later { entry.now.value.date ≤ until }
+    requires small { until ≤ 2 ^ 42 }
+    requires near { beyond ≤ 2 ^ 42 }
+    ensures same { IsSameStore store.old store.new }
+    ensures taken { OnOk result (IsTakenIn store.old history.now (entry_of entry.now.value) until (map (λ r. entry_of r.value) ahead.now) beyond store.new) }
+{
+    if store.is_prompt() {
+        store.settle(history, entry)?;
+    } else {
+        store.offer_until(history, entry, until, ahead, beyond, steps)?;
+    }
+    Ok(())
+}
 
 /// Offers the entry, which is the last of the history, to each store, and has it judge what it holds
 /// at `until`, which no later entry is before. Each is told of the entries that come next.
@@ -49,14 +78,27 @@ fn offer_all<L: Ledger>(
     match stores.split_first_mut() {
         None => Ok(()),
         Some((first, rest)) => {
-            if first.is_prompt() {
-                first.settle(history, entry)?;
-            } else {
-                first.offer_until(history, entry, until, ahead, beyond, steps)?;
-            }
+            take_in(first, history, entry, until, ahead, beyond, steps)?;
             offer_all(rest, history, entry, until, ahead, beyond, steps)
         }
     }
+}
+
+/// Offers the entry, which isn't settled yet, to the store of a prompt chronicle.
+fn offer_prompt_one<L: Ledger>(
+    store: &mut Store,
+    history: &History,
+    entry: &Rc<Entry>,
+    steps: &mut Steps<L>,
+) -> Result<(), NoMemory>
+    requires date { entry.now.value.date < 2 ^ 40 }
+    ensures same { IsSameStore store.old store.new }
+    ensures given { OnOk result (IsGivenFresh store.old history.now (entry_of entry.now.value) store.new) }
+{
+    if store.is_prompt() {
+        store.offer_prompt(history, entry, steps)?;
+    }
+    Ok(())
 }
 
 /// Offers the entry, which isn't settled yet, to each store of a prompt chronicle.
@@ -66,20 +108,21 @@ fn offer_prompt_all<L: Ledger>(
     entry: &Rc<Entry>,
     steps: &mut Steps<L>,
 ) -> Result<(), NoMemory>
+    requires date { entry.now.value.date < 2 ^ 40 }
+    ensures same { AreSameStores stores.old stores.new }
+    ensures given { OnOk result (AllZip (λ o n. IsGivenFresh o history.now (entry_of entry.now.value) n) stores.old stores.new) }
 {
     match stores.split_first_mut() {
         None => Ok(()),
         Some((first, rest)) => {
-            if first.is_prompt() {
-                first.offer_prompt(history, entry, steps)?;
-            }
+            offer_prompt_one(first, history, entry, steps)?;
             offer_prompt_all(rest, history, entry, steps)
         }
     }
 }
 
 /// It is after each date of an entry.
-const END: u64 = 1 << 42;
+const END: u64 = 4_398_046_511_104;
 
 /// Offers the entries that were accepted since the last mark to the stores of prompt chronicles, in
 /// key order.
@@ -89,6 +132,10 @@ fn offer_fresh<L: Ledger>(
     fresh: &mut Buffer,
     steps: &mut Steps<L>,
 ) -> Result<(), NoMemory>
+    requires small { AllByRecursion (λ x. x.date < 2 ^ 40) fresh.old }
+    ensures same { AreSameStores stores.old stores.new }
+    ensures none { OnOk result (fresh.new ≡ []) }
+    ensures given { OnOk result (AreGivenFresh history.now fresh.old stores.old stores.new) }
 {
     while let Some(entry) = fresh.release_before(END) {
         offer_prompt_all(stores, history, &entry, steps)?;
@@ -284,11 +331,13 @@ pub(crate) fn mark_all<L: Ledger>(
     requires order { IsInKeyOrder (history.old.entries ++ buffer.old) }
     requires due { AllByRecursion (λ x. history.old.floor ≤ℤ pos x.date) buffer.old }
     requires horizon { h ≤ 2 ^ 42 }
+    requires fresh { AllByRecursion (λ x. x.date < 2 ^ 40) fresh.old }
     ensures same { AreSameStores stores.old stores.new }
     ensures rest { IsRestOf buffer.old buffer.new }
     ensures order { IsInKeyOrder (history.new.entries ++ buffer.new) }
     ensures floor { history.new.floor ≡ history.old.floor }
-    ensures marked { IfOk result (AreMarked h mark stores.old history.old buffer.old stores.new history.new buffer.new) }
+    ensures none { OnOk result (fresh.new ≡ []) }
+    ensures marked { IfOk result (AreMarked h mark stores.old history.old buffer.old fresh.old stores.new history.new buffer.new) }
 {
     offer_fresh(stores, history, fresh, steps)?;
     settle(stores, history, buffer, due, h, steps)?;
@@ -318,6 +367,7 @@ pub(crate) fn hold(
     entry: Entry,
 ) -> Result<(), AllocError>
     ensures ok { IsNewKey (entry_of entry) buffer.old → OnOk result (buffer.new ≡ put_in_order (entry_of entry) buffer.old) }
+    ensures fresh { IsNewKey (entry_of entry) fresh.old → OnOk result (fresh.new ≡ put_where wanted (entry_of entry) fresh.old) }
     ensures sorted { OnOk result (IsInKeyOrder buffer.new) }
     ensures err { OnErr result (buffer.new ≡ buffer.old) }
 {

@@ -1,5 +1,5 @@
-ghost use Rattle.std.specs.Prelude.{◌≤◌, [], map, length, IfOk};
-ghost use Rattle.std.specs.List.{AllByRecursion};
+ghost use Rattle.std.specs.Prelude.{◌≡◌, ◌≤◌, [], map, length, IfOk};
+ghost use Rattle.std.specs.List.{AllByRecursion, list_any};
 ghost use Rattle.crs_model.specs.Plans.{IsProper};
 ghost use Rattle.crs_store.specs.Stores.{Stands};
 ghost use Rattle.crs_engine.specs.Engines.{AreStoresOf};
@@ -29,12 +29,10 @@ pub(crate) fn stores_of(
 
 /// Whether one of the plans is of a prompt chronicle.
 pub(crate) fn has_prompt(plans: &[Rc<Plan>]) -> bool
-    ensures { result ≡ list_any (λ r. r.value.chronicle.prompt) plans.now }
+    ensures { result ≡ list_any (λ p. p.chronicle.prompt) (map (λ r. r.value) plans.now) }
 {
-    for plan in plans {
-        if plan.chronicle.prompt {
-            return true;
-        }
+    match plans.split_first() {
+        None => false,
+        Some((first, rest)) => first.chronicle.prompt || has_prompt(rest),
     }
-    false
 }

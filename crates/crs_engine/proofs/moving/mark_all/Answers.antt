@@ -1,8 +1,11 @@
 use Rattle.crs_engine.proofs.Settling.{same_on}
 use Rattle.crs_engine.proofs.moving.mark_all.Goals as goal
 
+pub returns-in_err-settle-clause-same : goal.returns-in_err-settle-clause-same
+returns-in_err-settle-clause-same g c = same_on c.args.stores.now c.offer_fresh.new.stores c.settle.new.stores c.offer_fresh.ensures.same c.settle.ensures.same
+
 pub returns-in_err-answer-clause-same : goal.returns-in_err-answer-clause-same
-returns-in_err-answer-clause-same g c = same_on c.args.stores.now c.settle.new.stores c.advance.new.stores c.settle.ensures.same c.advance.ensures.same
+returns-in_err-answer-clause-same g c = same_on c.args.stores.now c.offer_fresh.new.stores c.advance.new.stores c.offer_fresh.ensures.same (same_on c.offer_fresh.new.stores c.settle.new.stores c.advance.new.stores c.settle.ensures.same c.advance.ensures.same)
 
 pub returns-clause-same : goal.returns-clause-same
-returns-clause-same g c = same_on c.args.stores.now c.settle.new.stores c.advance.new.stores c.settle.ensures.same c.advance.ensures.same
+returns-clause-same g c = same_on c.args.stores.now c.offer_fresh.new.stores c.advance.new.stores c.offer_fresh.ensures.same (same_on c.offer_fresh.new.stores c.settle.new.stores c.advance.new.stores c.settle.ensures.same c.advance.ensures.same)
