@@ -75,7 +75,7 @@ module _ {S : Type 0} where
   found_by z y ys (inl e) h rest = (y, inl refl, e)
   found_by z y ys (inr e) h rest = let r = rest (omega (arith, e, h)) in (r.0, inr r.1, r.2)
 
-  found : (z : Key) (ys : List (Entry S)) → 0 < ties z ys → (x : Entry S) × IsIn x ys × (said x ≡ z)
+  pub found : (z : Key) (ys : List (Entry S)) → 0 < ties z ys → (x : Entry S) × IsIn x ys × (said x ≡ z)
   found z [] h = absurd (omega arith)
   found z (y ∷ ys) h = found_by z y ys (tied_back z (said y) (key_cmp z (said y)) refl) h (found z ys)
 
@@ -85,7 +85,7 @@ module _ {S : Type 0} where
       absurd (let k : key_cmp (said y) (said x) ≡ Equal = ap (λ (w : Entry S). key_cmp (said y) (said w)) e ∙ key_itself (said y) in cc)
   not_above y x ys o (inr i) g = in_from_each (Rises y) ys o x i g
 
-  some_here : (x : Entry S) (xs : List (Entry S)) → 0 < ties (said x) (x ∷ xs)
+  pub some_here : (x : Entry S) (xs : List (Entry S)) → 0 < ties (said x) (x ∷ xs)
   some_here x xs = let e = tie_itself (said x) in omega (arith, e)
 
   first_below : (x y : Entry S) (xs ys : List (Entry S)) → AllByRecursion (Rises y) ys → ties (said x) (x ∷ xs) ≡ ties (said x) (y ∷ ys)
@@ -116,7 +116,7 @@ module _ {S : Type 0} where
       by true h = refl
       by false h = omega (arith, h)
 
-  ties_all : (z : Key) (sorted xs : List (Entry S)) → ties z (put_all sorted xs) ≡ ties z sorted + ties z xs
+  pub ties_all : (z : Key) (sorted xs : List (Entry S)) → ties z (put_all sorted xs) ≡ ties z sorted + ties z xs
   ties_all z sorted [] = omega arith
   ties_all z sorted (e ∷ xs) =
       let k = ties_put z e sorted in

@@ -14,6 +14,13 @@ use Rattle.crs_model.specs.Open.{IsNew}
 use Rattle.crs_model.proofs.Unique.{same_members}
 use Rattle.crs_model.proofs.Twins.{Twins, flip, turned, zip_turned, row_of, one_row, rows_cmp, recognised_on}
 
+-- what recognition reads at two marks: the pool and the entries then, and now
+pub record Reads (S : Type 0) : Type 0 where
+  pub was_pool : List (Entry S)
+  pub was : List (Entry S)
+  pub pool : List (Entry S)
+  pub now : List (Entry S)
+
 module _ {S : Type 0} where
   -- the same values, for entries that are twins
   pub record Paired (T : Entry S → Entry S → Type 0) (a b : Assignment S) : Type 0 where
@@ -26,31 +33,39 @@ module _ {S : Type 0} where
   paired_turned : (T : Entry S → Entry S → Type 0) (a b : Assignment S) → Paired T a b → Paired (flip T) b a
   paired_turned T a b p = record { entries = zip_turned T a.entries b.entries p.entries; values = sym p.values }
 
-  abbrev pub IsNewOver : Chronicle S → List (Entry S) → ℕ → List (Entry S) → ℕ → Assignment S → Type 0
-  IsNewOver c was g now h b = IsNew c was was g now now h b
+  -- all of it is paired
+  pub record AreTwins (T : Entry S → Entry S → Type 0) (r q : Reads S) : Type 0 where
+    pub was_pool : AllZip T r.was_pool q.was_pool
+    pub was : AllZip T r.was q.was
+    pub pool : AllZip T r.pool q.pool
+    pub now : AllZip T r.now q.now
+
+  twins_turned : (T : Entry S → Entry S → Type 0) (r q : Reads S) → AreTwins T r q → AreTwins (flip T) q r
+  twins_turned T r q z = record { was_pool = zip_turned T r.was_pool q.was_pool z.was_pool; was = zip_turned T r.was q.was z.was; pool = zip_turned T r.pool q.pool z.pool; now = zip_turned T r.now q.now z.now }
+
+  abbrev pub IsNewOver : Chronicle S → Reads S → ℕ → ℕ → Assignment S → Type 0
+  IsNewOver c r g h b = IsNew c r.was_pool r.was g r.pool r.now h b
 
   -- what is new of entries is new of their twins
-  new_on : (T : Entry S → Entry S → Type 0) → Twins T → (was was_other now now_other : List (Entry S)) → AllZip T was was_other
-      → AllZip T now now_other
-      → (c : Chronicle S) (g h : ℕ) (a b : Assignment S) → Paired T a b → IsNewOver c was g now h a
-      → IsNewOver c was_other g now_other h b
-  new_on T t was was_other now now_other z y c g h a b p n = (
-    recognised_on T t now now_other y c h a b p.entries p.values n.0,
-    λ r.
+  new_on : (T : Entry S → Entry S → Type 0) → Twins T → (r q : Reads S) → AreTwins T r q
+      → (c : Chronicle S) (g h : ℕ) (a b : Assignment S) → Paired T a b → IsNewOver c r g h a
+      → IsNewOver c q g h b
+  new_on T t r q z c g h a b p n = (
+    recognised_on T t r.now q.now z.now r.pool q.pool z.pool c h a b p.entries p.values n.0,
+    λ k.
         let back : AllZip (flip T) b.entries a.entries = zip_turned T a.entries b.entries p.entries in
-        n.1 (recognised_on (flip T) (turned T t) was_other was (zip_turned T was was_other z) c g b a back (sym p.values) r),
+        let turn = twins_turned T r q z in
+        n.1 (recognised_on (flip T) (turned T t) q.was r.was turn.was q.was_pool r.was_pool turn.was_pool c g b a back (sym p.values) k),
   )
 
-  module _ (T : Entry S → Entry S → Type 0) (t : Twins T) (was was_other now now_other : List (Entry S)) (z : AllZip T was was_other)
-      (y : AllZip T now now_other)
-      (c : Chronicle S) (g h : ℕ) where
+  module _ (T : Entry S → Entry S → Type 0) (t : Twins T) (r q : Reads S) (z : AreTwins T r q) (c : Chronicle S) (g h : ℕ) where
     -- the assignment that is paired with a new one
-    other : (a : Assignment S) → IsNewOver c was g now h a → (b : Assignment S) × Paired T a b
+    other : (a : Assignment S) → IsNewOver c r g h a → (b : Assignment S) × Paired T a b
     other a n =
-        let r = row_of T t now now_other a.entries y n.0.assignment.given in
-        (record { entries = r.0; values = a.values }, record { entries = r.1; values = refl })
+        let k = row_of T t r.pool q.pool a.entries z.pool n.0.assignment.given in
+        (record { entries = k.0; values = a.values }, record { entries = k.1; values = refl })
 
-    others : (xs : List (Assignment S)) → AllByRecursion (IsNewOver c was g now h) xs
+    others : (xs : List (Assignment S)) → AllByRecursion (IsNewOver c r g h) xs
         → (ys : List (Assignment S)) × AllZip (Paired T) xs ys
     others [] n = ([], tt)
     others (x ∷ xs) n =
@@ -58,12 +73,12 @@ module _ {S : Type 0} where
         let rest = others xs n.1 in
         (first.0 ∷ rest.0, (first.1, rest.1))
 
-    each_new : (xs ys : List (Assignment S)) → AllZip (Paired T) xs ys → AllByRecursion (IsNewOver c was g now h) xs
-        → AllByRecursion (IsNewOver c was_other g now_other h) ys
+    each_new : (xs ys : List (Assignment S)) → AllZip (Paired T) xs ys → AllByRecursion (IsNewOver c r g h) xs
+        → AllByRecursion (IsNewOver c q g h) ys
     each_new [] [] p n = tt
     each_new [] (b ∷ ys) p n = absurd p
     each_new (a ∷ xs) [] p n = absurd p
-    each_new (a ∷ xs) (b ∷ ys) p n = (new_on T t was was_other now now_other z y c g h a b p.0 n.0, each_new xs ys p.1 n.1)
+    each_new (a ∷ xs) (b ∷ ys) p n = (new_on T t r q z c g h a b p.0 n.0, each_new xs ys p.1 n.1)
 
     above : (a b : Assignment S) (xs ys : List (Assignment S)) → Paired T a b → AllZip (Paired T) xs ys
         → AllByRecursion (λ x. assignment_cmp a x ≡ Less) xs → AllByRecursion (λ x. assignment_cmp b x ≡ Less) ys
@@ -93,24 +108,22 @@ module _ {S : Type 0} where
     pair_in (x ∷ xs) (d ∷ ys) p a b (inr i) q = inr (pair_in xs ys p.1 a b i q)
 
   -- the lists of the new ones are paired
-  pub new_paired : (T : Entry S → Entry S → Type 0) → Twins T → (was was_other now now_other : List (Entry S)) → AllZip T was was_other
-      → AllZip T now now_other
-      → (c : Chronicle S) (g h : ℕ) (xs ys : List (Assignment S)) → Lists assignment_cmp (IsNewOver c was g now h) xs
-      → Lists assignment_cmp (IsNewOver c was_other g now_other h) ys
+  pub new_paired : (T : Entry S → Entry S → Type 0) → Twins T → (r q : Reads S) → AreTwins T r q
+      → (c : Chronicle S) (g h : ℕ) (xs ys : List (Assignment S)) → Lists assignment_cmp (IsNewOver c r g h) xs
+      → Lists assignment_cmp (IsNewOver c q g h) ys
       → AllZip (Paired T) xs ys
-  new_paired T t was was_other now now_other z y c g h xs ys l m =
-      let o = others T t was was_other now now_other z y c g h xs l.each in
-      let each = each_new T t was was_other now now_other z y c g h xs o.0 o.1 l.each in
-      let up = ascends T t was was_other now now_other z y c g h xs o.0 o.1 l.ascending in
+  new_paired T t r q z c g h xs ys l m =
+      let o = others T t r q z c g h xs l.each in
+      let each = each_new T t r q z c g h xs o.0 o.1 l.each in
+      let up = ascends T t r q z c g h xs o.0 o.1 l.ascending in
       let same : o.0 ≡ ys = same_members assignments_total o.0 ys up m.ascending
-      (λ b i. m.all b (in_from_each (IsNewOver c was_other g now_other h) o.0 each b i))
+      (λ b i. m.all b (in_from_each (IsNewOver c q g h) o.0 each b i))
       (λ b i.
-      let n = in_from_each (IsNewOver c was_other g now_other h) ys m.each b i in
+      let n = in_from_each (IsNewOver c q g h) ys m.each b i in
       let s = turned T t in
-      let u = zip_turned T was was_other z in
-      let v = zip_turned T now now_other y in
-      let back = other (flip T) s was_other was now_other now u v c g h b n in
-      let old = new_on (flip T) s was_other was now_other now u v c g h b back.0 back.1 n in
+      let u = twins_turned T r q z in
+      let back = other (flip T) s q r u c g h b n in
+      let old = new_on (flip T) s q r u c g h b back.0 back.1 n in
       let pair : Paired T back.0 b = paired_turned (flip T) b back.0 back.1 in
-      pair_in T t was was_other now now_other z y c g h xs o.0 o.1 back.0 b (l.all back.0 old) pair) in
+      pair_in T t r q z c g h xs o.0 o.1 back.0 b (l.all back.0 old) pair) in
       subst (λ (zs : List (Assignment S)). AllZip (Paired T) xs zs) same o.1

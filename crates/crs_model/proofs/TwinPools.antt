@@ -1,18 +1,33 @@
 -- Two lists of entries that say all as often, paired in key order.
 use Rattle.std.proofs.Common.{◌≡◌, ◌≢◌, ◌⊎◌, ℕ, Bool, true, false, cond, List, [], ◌∷◌, nat_lt, refl, sym, ap, subst, ◌∙◌, inl, inr, Less}
-use Rattle.std.proofs.Common.{Equal}
+use Rattle.std.proofs.Common.{Equal, Greater, Ordering, ◌<◌, ◌+◌, nat_cmp, arith, ltb-true, ltb-false}
+use Rattle.std.proofs.lemmas.Cmp.{ranked}
+use Rattle.std.specs.Ordering.{MatchOrdering, ordering_then}
 use Rattle.std.specs.List.{AllZip, AllByRecursion}
 use Rattle.std.specs.Ordering.{ordering_reverse}
 use Rattle.crs_base.specs.Words.{IsIn, Ordered}
-use Rattle.crs_base.specs.Entry.{Key, Entry, entry_cmp}
-use Rattle.crs_base.proofs.KeyOrder.{entry_total}
-use Rattle.crs_base.proofs.Words.{in_from_each}
+use Rattle.crs_base.specs.Entry.{Key, key_of, key_cmp, Entry, entry_cmp}
+use Rattle.crs_base.proofs.KeyOrder.{entry_total, both_tie}
+use Rattle.crs_base.proofs.Words.{in_from_each, in_filter, in_filter_back, ordered_filter}
+use Rattle.crs_model.proofs.Unique.{same_members}
 use Rattle.crs_model.specs.Matching.{AreDistinct}
 use Rattle.crs_model.specs.Open.{before}
-use Rattle.crs_model.specs.Order.{in_key_order, dated_before}
+use Rattle.crs_model.specs.Order.{in_key_order, dated_before, arrived}
 use Rattle.crs_model.proofs.Parted.{settled_is}
-use Rattle.crs_model.proofs.Ties.{Says, ties, ordered, ordered_members, same_in_order, key_itself}
+use Rattle.crs_model.proofs.Ties.{Says, said, tie, ties, found, some_here, ties_all, ordered, ordered_members, same_in_order, key_itself}
 use Rattle.crs_model.proofs.Twins.{Same, Twins}
+
+then_less : (a b c : Ordering) → a ≡ Equal → b ≡ Equal → ordering_then a (ordering_then b c) ≡ Less → c ≡ Less
+then_less Less b c p q h = absurd (cc)
+then_less Equal Less c p q h = absurd (cc)
+then_less Equal Equal c p q h = h
+then_less Equal Greater c p q h = absurd (cc)
+then_less Greater b c p q h = absurd (cc)
+
+ranked_less : (x y : ℕ) (o : Ordering) → MatchOrdering o (x < y) (x ≡ y) (y < x) → o ≡ Less → x < y
+ranked_less x y Less m h = m
+ranked_less x y Equal m h = absurd (cc)
+ranked_less x y Greater m h = absurd (cc)
 
 module _ {S : Type 0} where
   abbrev Below : Entry S → Entry S → Type 0
@@ -130,6 +145,55 @@ module _ {S : Type 0} where
       let same : nat_lt x.date h ≡ nat_lt y.date h = ap (λ n. nat_lt n h) (t.same x y z.0).date in
       (before_step (nat_lt x.date h) (nat_lt y.date h) T x y (before h xs) (before h ys) same z.0 (before_zip T t h xs ys z.1))
 
+  -- of two that say the same, the first in key order arrived before the other
+  arrives_first : (a b : Entry S) → Says a b → Below a b → a.arrival < b.arrival
+  arrives_first a b e h =
+      let here : key_cmp (key_of a) (record { date = a.date; text = a.text; arrival = b.arrival }) ≡ Less =
+      (λ i. key_cmp (key_of a) (record { date = (e i).date; text = (e i).text; arrival = b.arrival })) ∙ h in
+      let one = both_tie _ _ (key_itself (said a)) in
+      let two = both_tie _ _ one.1 in
+      ranked_less a.arrival b.arrival (nat_cmp a.arrival b.arrival) (ranked a.arrival b.arrival (nat_cmp a.arrival b.arrival) refl)
+      (then_less _ _ (nat_cmp a.arrival b.arrival) one.0 two.0 here)
+
+  module _ (n : ℕ) where
+    -- one that had arrived says what a later one says that had
+    never : (z : Key) (y : Entry S) (ys : List (Entry S)) → AllByRecursion (Below y) ys → said y ≡ z → nat_lt y.arrival n ≡ false → 0 < ties z (arrived n ys) → ⊥
+    never z y ys o e late some =
+        let f = found z (arrived n ys) some in
+        let k = in_filter_back (λ (x : Entry S). nat_lt x.arrival n) ys f.0 f.1 in
+        let l = arrives_first y f.0 (e ∙ sym f.2) (in_from_each (Below y) ys o f.0 k.0) in
+        let a = ltb-true f.0.arrival n k.1 in
+        let b = ltb-false y.arrival n late in
+        omega (arith, l, a, b)
+
+  -- as many of each have arrived, so those that have are paired
+  chosen : (T : Entry S → Entry S → Type 0) (m n : ℕ) (xs ys : List (Entry S)) → AllZip T xs ys → AllZip Says xs ys → Ordered Below xs → Ordered Below ys
+      → ((z : Key) → ties z (arrived m xs) ≡ ties z (arrived n ys)) → AllZip T (arrived m xs) (arrived n ys)
+  chosen T m n [] [] t s o p e = tt
+  chosen T m n [] (y ∷ ys) t s o p e = absurd t
+  chosen T m n (x ∷ xs) [] t s o p e = absurd t
+  chosen T m n (x ∷ xs) (y ∷ ys) t s o p e = by (nat_lt x.arrival m) (nat_lt y.arrival n) refl refl e (chosen T m n xs ys t.1 s.1 o.1 p.1)
+    where
+      by : (a b : Bool) → nat_lt x.arrival m ≡ a → nat_lt y.arrival n ≡ b
+          → ((z : Key) → ties z (cond a (x ∷ arrived m xs) (arrived m xs)) ≡ ties z (cond b (y ∷ arrived n ys) (arrived n ys)))
+          → (((z : Key) → ties z (arrived m xs) ≡ ties z (arrived n ys)) → AllZip T (arrived m xs) (arrived n ys))
+          → AllZip T (cond a (x ∷ arrived m xs) (arrived m xs)) (cond b (y ∷ arrived n ys) (arrived n ys))
+      by true true u v k rest = (t.0, rest (λ z. let q = k z in let w = ap (tie z) s.0 in omega (arith, q, w)))
+      by true false u v k rest = absurd (never n (said x) y ys p.0 (sym s.0) v (let q = k (said x) in let w = some_here x (arrived m xs) in omega (arith, q, w)))
+      by false true u v k rest = absurd (never m (said y) x xs o.0 s.0 u (let q = k (said y) in let w = some_here y (arrived n ys) in omega (arith, q, w)))
+      by false false u v k rest = rest k
+
+  -- those that had arrived, put in key order, are those of the key order that had
+  pub arrived_is : (m : ℕ) (all : List (Entry S)) → AreDistinct all → arrived m (in_key_order all) ≡ in_key_order (arrived m all)
+  arrived_is m all distinct = same_members entry_total (arrived m (in_key_order all)) (in_key_order (arrived m all))
+      (ordered_filter Below (λ (e : Entry S). nat_lt e.arrival m) (in_key_order all) (ordered all distinct))
+      (ordered (arrived m all) (ordered_filter (λ d e. d.arrival ≢ e.arrival) (λ (e : Entry S). nat_lt e.arrival m) all distinct))
+      (λ x i. let k = in_filter_back (λ (e : Entry S). nat_lt e.arrival m) (in_key_order all) x i in (ordered_members (arrived m all)).back x (in_filter (λ (e : Entry S). nat_lt e.arrival m) all x ((ordered_members all).there x k.0) k.1))
+      (λ x i. let k = in_filter_back (λ (e : Entry S). nat_lt e.arrival m) all x ((ordered_members (arrived m all)).there x i) in in_filter (λ (e : Entry S). nat_lt e.arrival m) (in_key_order all) x ((ordered_members all).back x k.0) k.1)
+
+  ties_arrived : (z : Key) (m : ℕ) (all : List (Entry S)) → AreDistinct all → ties z (arrived m (in_key_order all)) ≡ ties z (arrived m all)
+  ties_arrived z m all distinct = ap (ties z) (arrived_is m all distinct) ∙ (let k = ties_all z [] (arrived m all) in omega (arith, k))
+
   -- what two lists of entries have to be, so that their entries can be paired
   pub record AreAlike (xs ys : List (Entry S)) : Type 0 where
     pub distinct : AreDistinct xs
@@ -170,6 +234,7 @@ module _ {S : Type 0} where
     }
 
     pub pairing : (T : Entry S → Entry S → Type 0) × Twins T × ((h : ℕ) → AllZip T (dated_before h xs) (dated_before h ys))
+        × ((m n : ℕ) → ((z : Key) → ties z (arrived m xs) ≡ ties z (arrived n ys)) → AllZip T (in_key_order (arrived m xs)) (in_key_order (arrived n ys)))
     pairing = (
       Of,
       are_twins,
@@ -181,4 +246,11 @@ module _ {S : Type 0} where
           let b : before h (in_key_order ys) ≡ dated_before h ys =
           settled_is h ys (in_key_order ys) alike.other_distinct (ordered ys alike.other_distinct) (ordered_members ys) in
           subst (λ (us : List (Entry S)). AllZip Of us (dated_before h ys)) a (subst (AllZip Of (before h (in_key_order xs))) b z),
+      λ m n e.
+          let z : AllZip Of (arrived m (in_key_order xs)) (arrived n (in_key_order ys)) =
+          chosen Of m n (in_key_order xs) (in_key_order ys) (all_placed Says (in_key_order xs) (in_key_order ys) zipped) zipped
+          (ordered xs alike.distinct) (ordered ys alike.other_distinct)
+          (λ k. ties_arrived k m xs alike.distinct ∙ e k ∙ sym (ties_arrived k n ys alike.other_distinct)) in
+          subst (λ (us : List (Entry S)). AllZip Of us (in_key_order (arrived n ys))) (arrived_is m xs alike.distinct)
+          (subst (AllZip Of (arrived m (in_key_order xs))) (arrived_is n ys alike.other_distinct) z),
     )

@@ -261,12 +261,12 @@ module _ {S : Type 0} where
       }
 
       -- what is recognised of entries is recognised of their twins
-      pub recognised_on : (c : Chronicle S) (h : ℕ) (a b : Assignment S) → AllZip T a.entries b.entries → a.values ≡ b.values
-          → IsRecognised c xs xs h a → IsRecognised c ys ys h b
-      recognised_on c h a b p e r =
-          subst (λ (vs : List S). IsRecognised c ys ys h (record { entries = b.entries; values = vs })) e (record {
+      pub recognised_on : (pool other : List (Entry S)) → AllZip T pool other → (c : Chronicle S) (h : ℕ) (a b : Assignment S) → AllZip T a.entries b.entries → a.values ≡ b.values
+          → IsRecognised c pool xs h a → IsRecognised c other ys h b
+      recognised_on pool other y c h a b p e r =
+          subst (λ (vs : List S). IsRecognised c other ys h (record { entries = b.entries; values = vs })) e (record {
             assignment = record {
-              given = rows_in xs ys a.entries b.entries z p r.assignment.given;
+              given = rows_in pool other a.entries b.entries y p r.assignment.given;
               distinct = distinct_on a.entries b.entries p r.assignment.distinct;
               bound = r.assignment.bound;
               equal = patterns_on (slice_get a.values) c.events a.entries b.entries p r.assignment.equal;
