@@ -157,6 +157,46 @@ const QUIET: &str =
 const FREE: &str =
     "message a 0\nmessage b 0\nchronicle f {\nevent(a, t1)\nevent(b, t2)\npoint z\nt1 - z in [0, 3]\nt2 - z in [0, 3]\n}\n";
 
+/// Both events as soon as they are accepted.
+const PROMPT: &str =
+    "message a 0\nmessage b 0\nprompt chronicle p {\nevent(a, t1)\nevent(b, t2)\nt2 - t1 in [1, 5]\n}\n";
+
+/// The same of an event and what doesn't follow it.
+const PROMPT_QUIET: &str =
+    "message a 0\nmessage b 0\nprompt chronicle q {\nevent(a, t1)\nnoevent(b, (t1 + 1, t1 + 10))\n}\n";
+
+#[test]
+fn worked_logs_of_prompt_chronicles(rt: HostRuntime) -> Result<(), Fail> {
+    let alloc = rt.alloc();
+    let rows = [
+        (
+            PROMPT,
+            "run --summary m l",
+            "delay 2/10 a/12 b/clock 12/clock 15/|p at 12 t1=10 t2=12/summary entries 2 refused 0 recognitions 1 kept 2 peak 3/",
+        ),
+        (
+            PROMPT_QUIET,
+            "run m l",
+            "delay 2/3 a/clock 3/clock 14/clock 15/|q at 15 t1=3/",
+        ),
+        (
+            PROMPT,
+            "run m l",
+            "delay 5/12 b/clock 12/10 a/clock 13/|p at 13 t1=10 t2=12/",
+        ),
+        (
+            PROMPT,
+            "run --focus m l",
+            "delay 5/12 b/clock 12/10 a/clock 13/|p at 13 t1=10 t2=12/",
+        ),
+    ];
+    for (models, words, row) in rows {
+        row_ends_so(&rt, alloc, words, models, 1, Status::Done, row)?;
+        row_ends_so(&rt, alloc, words, models, 4096, Status::Done, row)?;
+    }
+    Ok(())
+}
+
 #[test]
 fn worked_logs_of_other_models(rt: HostRuntime) -> Result<(), Fail> {
     let alloc = rt.alloc();
