@@ -1,6 +1,6 @@
 -- What is written for the answer of a clock mark is the mark's text.
 use Rattle.std.proofs.Common.{◌≡◌, ℕ, ◌+◌, suc, List, [], ◌∷◌, ◌++◌, map, length, refl, sym, ap, subst, ◌∙◌, arith, append_assoc}
-use Rattle.std.proofs.Common.{length-append, inl, inr}
+use Rattle.std.proofs.Common.{length-append, inl, inr, Bool, true, false, cond}
 use Rattle.std.specs.Prelude.{Some, IsSomeAnd, slice_get, option_map, flat_map}
 use Rattle.std.specs.Option.{option_map_or}
 use Rattle.std.specs.List.{AllByRecursion}
@@ -20,7 +20,9 @@ use Rattle.crs_model.specs.declared.plan.Plans.{Plans}
 use Rattle.crs_model.specs.declared.recognition.Mark.{Mark}
 use Rattle.crs_model.specs.declared.recognition.Recognition.{Recognition}
 use Rattle.crs_model.specs.Models.{EventDef}
-use Rattle.crs_model.specs.Open.{IsNew, IsRecognised}
+use Rattle.crs_model.specs.Open.{IsNew, IsRecognised, pool_among}
+use Rattle.crs_log.specs.Recognitions.{View, ListsNew as ListsNewIn}
+use Rattle.crs_model.specs.Order.{Lists, assignment_cmp}
 use Rattle.crs_model.specs.Plans.{chronicle, IsProper}
 use Rattle.crs_model.specs.Seen.{assignment_of, event_of, given}
 use Rattle.crs_model.specs.Renaming.{text_in, AreKnown, renamed_assignment, renamed_entry, IsChronicleOf, IsEntryOf}
@@ -35,12 +37,29 @@ use Rattle.crs_top.specs.Session.{HasText, chronicle_in, entries_in, line_in, Ar
 use Rattle.crs_report.specs.Listeners.{notice_of}
 use Rattle.crs_top.specs.Notices.{AreMarkNotices, notice_at}
 use Rattle.crs_top.specs.Tallies.{AllNew}
-use Rattle.crs_top.specs.Texts.{IsMarkText}
+use Rattle.crs_top.specs.Texts.{IsMarkText, LogEntry}
 use Rattle.crs_top.specs.Written.{HasEntry}
 
 flat_map_append : {A : Type 0} (f : A → List ℕ) (xs ys : List A) → flat_map f (xs ++ ys) ≡ flat_map f xs ++ flat_map f ys
 flat_map_append f [] ys = refl
 flat_map_append f (x ∷ xs) ys = ap (λ (zs : List ℕ). f x ++ zs) (flat_map_append f xs ys) ∙ sym (append_assoc (f x) (flat_map f xs) (flat_map f ys))
+
+module _ (texts : List (List ℕ)) (p : Plan) (settled came : List (Entry Sym)) where
+  -- the entries of a pool are known
+  pub pool_known : AllByRecursion (IsEntryOf (HasText texts)) settled → AllByRecursion (IsEntryOf (HasText texts)) came → AllByRecursion (IsEntryOf (HasText texts)) (pool_among (chronicle p) settled came)
+  pool_known k l = by p.chronicle.prompt
+    where
+      by : (b : Bool) → AllByRecursion (IsEntryOf (HasText texts)) (cond b came settled)
+      by true = l
+      by false = k
+
+  -- with the symbols' texts it is the pool of what is settled and of what came
+  pub pool_renamed : entries_in texts (pool_among (chronicle p) settled came) ≡ pool_among (chronicle_in texts p) (entries_in texts settled) (entries_in texts came)
+  pool_renamed = by p.chronicle.prompt
+    where
+      by : (b : Bool) → entries_in texts (cond b came settled) ≡ cond b (entries_in texts came) (entries_in texts settled)
+      by true = refl
+      by false = refl
 
 module _ (texts : List (List ℕ)) (distinct : AreDistinct texts) where
   -- no two symbols of the table have one text
@@ -60,9 +79,9 @@ module _ (texts : List (List ℕ)) (distinct : AreDistinct texts) where
 
   module _ (p : Plan) (proper : IsProper p) (of : IsChronicleOf (HasText texts) (chronicle p)) where
     -- a recognition of known entries can be printed
-    printable : (now : List (Entry Sym)) (h : ℕ) (number : ℕ) (mark : Mark) (r : Recognition) → AllByRecursion (IsEntryOf (HasText texts)) now
-        → IsRecognitionOf (chronicle p) number mark r → IsRecognised (chronicle p) now now h (assignment_of r) → IsPrintable texts r (chronicle p)
-    printable now h number mark r known k rec = record {
+    printable : (pool now : List (Entry Sym)) (h : ℕ) (number : ℕ) (mark : Mark) (r : Recognition) → AllByRecursion (IsEntryOf (HasText texts)) pool
+        → IsRecognitionOf (chronicle p) number mark r → IsRecognised (chronicle p) pool now h (assignment_of r) → IsPrintable texts r (chronicle p)
+    printable pool now h number mark r known k rec = record {
       name = of.name;
       points = known_points (chronicle p).events of.points;
       variables = of.variables;
@@ -70,7 +89,7 @@ module _ (texts : List (List ℕ)) (distinct : AreDistinct texts) where
       entries = k.entries;
       each = ap length k.binding ∙ length-map (given r.binding) Some ∙ k.values;
       values = subst (AreBound texts) (sym k.binding)
-          (bound_by (given r.binding) (known_values (text_in texts) (HasText texts) apart (chronicle p) of proper.named (stars_of p proper) now (assignment_of r) known rec.assignment));
+          (bound_by (given r.binding) (known_values (text_in texts) (HasText texts) apart (chronicle p) of proper.named (stars_of p proper) pool (assignment_of r) known rec.assignment));
     }
 
     -- the lines of the recognitions of the chronicle are those of the assignments
@@ -101,18 +120,44 @@ module _ (texts : List (List ℕ)) (distinct : AreDistinct texts) where
   each_filled p proper number mark (r ∷ answer) each =
       (omega (arith, each.0.entries, length-map p.chronicle.events event_of, proper.events_some), each_filled p proper number mark answer each.1)
 
-  module _ (plans : Plans) (mark : Mark) (was now : List (Entry Sym)) (g h : ℕ)
-      (known : AllByRecursion (IsEntryOf (HasText texts)) now) (known_was : AllByRecursion (IsEntryOf (HasText texts)) was) where
+  module _ (plans : Plans) (mark : Mark) (was had now came : List (Entry Sym)) (g h : ℕ)
+      (known : AllByRecursion (IsEntryOf (HasText texts)) now) (known_was : AllByRecursion (IsEntryOf (HasText texts)) was)
+      (known_came : AllByRecursion (IsEntryOf (HasText texts)) came) (known_had : AllByRecursion (IsEntryOf (HasText texts)) had) where
+    -- what was the pool of a plan, and what is it now
+    abbrev pool_was : Plan → List (Entry Sym)
+    pool_was p = pool_among (chronicle p) was had
+
+    abbrev pool_now : Plan → List (Entry Sym)
+    pool_now p = pool_among (chronicle p) now came
+
+    abbrev view_was : View
+    view_was = record { settled = entries_in texts was; arrived = entries_in texts had; horizon = g }
+
+    abbrev view_now : View
+    view_now = record { settled = entries_in texts now; arrived = entries_in texts came; horizon = h }
+
+    -- the new ones of a plan are those of the chronicle with the symbols' texts
+    new_here : (p : Plan) → IsProper p → IsChronicleOf (HasText texts) (chronicle p) → (number : ℕ) (answer : List Recognition)
+        → ListsNew (chronicle p) number mark (pool_was p) was g (pool_now p) now h answer
+        → ListsNewIn (chronicle_in texts p) view_was view_now (map (renamed_assignment (text_in texts)) (map assignment_of answer))
+    new_here p proper of number answer l =
+        let raw = new_renamed (text_in texts) (HasText texts) apart (chronicle p) of proper.named (stars_of p proper) (pool_now p) now (pool_was p) was h g
+        (pool_known texts p now came known known_came) known (pool_known texts p was had known_was known_had) known_was (map assignment_of answer) l.listed in
+        subst (λ (t : List LogEntry). Lists assignment_cmp (IsNew (chronicle_in texts p) t (entries_in texts was) g (pool_among (chronicle_in texts p) (entries_in texts now) (entries_in texts came)) (entries_in texts now) h)
+        (map (renamed_assignment (text_in texts)) (map assignment_of answer))) (pool_renamed texts p was had)
+        (subst (λ (t : List LogEntry). Lists assignment_cmp (IsNew (chronicle_in texts p) (entries_in texts (pool_was p)) (entries_in texts was) g t (entries_in texts now) h)
+        (map (renamed_assignment (text_in texts)) (map assignment_of answer))) (pool_renamed texts p now came) raw)
+
     -- the plans from a number on
     abbrev StandFrom : List Plan → ℕ → Type 0
     StandFrom ps number = (k : ℕ) → chronicle_at plans (number + k) ≡ option_map chronicle (slice_get ps k)
 
     each_printable : (p : Plan) (number : ℕ) (answer : List Recognition) → IsProper p → IsChronicleOf (HasText texts) (chronicle p) → chronicle_at plans number ≡ Some (chronicle p)
-        → AllByRecursion (IsRecognitionOf (chronicle p) number mark) answer → ((r : Recognition) → IsIn r answer → IsRecognised (chronicle p) now now h (assignment_of r)) → ArePrintable plans texts answer
+        → AllByRecursion (IsRecognitionOf (chronicle p) number mark) answer → ((r : Recognition) → IsIn r answer → IsRecognised (chronicle p) (pool_now p) now h (assignment_of r)) → ArePrintable plans texts answer
     each_printable p number [] proper of at each rec = tt
     each_printable p number (r ∷ answer) proper of at each rec = (
       some_and (chronicle_at plans r.chronicle) (IsPrintable texts r) (chronicle p) (ap (chronicle_at plans) each.0.chronicle ∙ at)
-          (printable p proper of now h number mark r known each.0 (rec r (inl refl))),
+          (printable p proper of (pool_now p) now h number mark r (pool_known texts p now came known known_came) each.0 (rec r (inl refl))),
       each_printable p number answer proper of at each.1 (λ s i. rec s (inr i)),
     )
 
@@ -122,11 +167,11 @@ module _ (texts : List (List ℕ)) (distinct : AreDistinct texts) where
     next_from : (number : ℕ) (p : Plan) (ps : List Plan) → StandFrom (p ∷ ps) number → StandFrom ps (suc number)
     next_from number p ps at k = let e : number + suc k ≡ suc number + k = omega arith in subst (λ n. chronicle_at plans n ≡ option_map chronicle (slice_get ps k)) e (at (suc k))
 
-    recognised_of : (p : Plan) (number : ℕ) (answer : List Recognition) → ListsNew (chronicle p) number mark was was g now now h answer → (r : Recognition) → IsIn r answer → IsRecognised (chronicle p) now now h (assignment_of r)
-    recognised_of p number answer l r i = (in_from_each (IsNew (chronicle p) was was g now now h) (map assignment_of answer) l.listed.each (assignment_of r) (in_map assignment_of answer r i)).0
+    recognised_of : (p : Plan) (number : ℕ) (answer : List Recognition) → ListsNew (chronicle p) number mark (pool_was p) was g (pool_now p) now h answer → (r : Recognition) → IsIn r answer → IsRecognised (chronicle p) (pool_now p) now h (assignment_of r)
+    recognised_of p number answer l r i = (in_from_each (IsNew (chronicle p) (pool_was p) was g (pool_now p) now h) (map assignment_of answer) l.listed.each (assignment_of r) (in_map assignment_of answer r i)).0
 
     pub all_printable : (ps : List Plan) (number : ℕ) (answer : List Recognition) → StandFrom ps number → AllByRecursion IsProper ps → AllByRecursion (λ p. IsChronicleOf (HasText texts) (chronicle p)) ps
-        → ListsAllNew ps number mark was g now h answer → ArePrintable plans texts answer
+        → ListsAllNew ps number mark pool_was was g pool_now now h answer → ArePrintable plans texts answer
     all_printable [] number answer at proper of l = subst (ArePrintable plans texts) (sym l) tt
     all_printable (p ∷ ps) number answer at proper of l = subst (ArePrintable plans texts) (sym l.2)
         (all_append (λ r. IsSomeAnd (chronicle_at plans r.chronicle) (IsPrintable texts r)) l.0 l.1
@@ -134,14 +179,13 @@ module _ (texts : List (List ℕ)) (distinct : AreDistinct texts) where
         (all_printable ps (suc number) l.1 (next_from number p ps at) proper.1 of.1 l.4))
 
     pub answer_text : (ps : List Plan) (number : ℕ) (answer : List Recognition) → StandFrom ps number → AllByRecursion IsProper ps → AllByRecursion (λ p. IsChronicleOf (HasText texts) (chronicle p)) ps
-        → ListsAllNew ps number mark was g now h answer
-        → IsMarkText (map (chronicle_in texts) ps) mark (record { settled = entries_in texts was; horizon = g }) (record { settled = entries_in texts now; horizon = h }) (flat_map (line_in plans texts) answer)
+        → ListsAllNew ps number mark pool_was was g pool_now now h answer
+        → IsMarkText (map (chronicle_in texts) ps) mark view_was view_now (flat_map (line_in plans texts) answer)
     answer_text [] number answer at proper of l = ap (flat_map (line_in plans texts)) l
     answer_text (p ∷ ps) number answer at proper of l = (
       map (renamed_assignment (text_in texts)) (map assignment_of l.0),
       flat_map (line_in plans texts) l.1,
-      new_renamed (text_in texts) (HasText texts) apart (chronicle p) of.0 proper.0.named
-          (stars_of p proper.0) now now was was h g known known known_was known_was (map assignment_of l.0) l.3.listed,
+      new_here p proper.0 of.0 number l.0 l.3,
       answer_text ps (suc number) l.1 (next_from number p ps at) proper.1 of.1 l.4,
       ap (flat_map (line_in plans texts)) l.2 ∙ flat_map_append (line_in plans texts) l.0 l.1
           ∙ ap (λ (xs : List ℕ). xs ++ flat_map (line_in plans texts) l.1) (lines_are p proper.0 of.0 plans number mark l.0 (first_at number p ps at) l.3.each),
@@ -150,15 +194,14 @@ module _ (texts : List (List ℕ)) (distinct : AreDistinct texts) where
     -- as many assignments are new as recognitions are answered
     pub answer_new : (ps : List Plan) (number : ℕ) (answer : List Recognition) → AllByRecursion IsProper ps
         → AllByRecursion (λ p. IsChronicleOf (HasText texts) (chronicle p)) ps
-        → ListsAllNew ps number mark was g now h answer
-        → AllNew (map (chronicle_in texts) ps) (record { settled = entries_in texts was; horizon = g })
-        (record { settled = entries_in texts now; horizon = h }) (length answer)
+        → ListsAllNew ps number mark pool_was was g pool_now now h answer
+        → AllNew (map (chronicle_in texts) ps) view_was
+        view_now (length answer)
     answer_new [] number answer proper of l = ap length l
     answer_new (p ∷ ps) number answer proper of l = (
       map (renamed_assignment (text_in texts)) (map assignment_of l.0),
       length l.1,
-      new_renamed (text_in texts) (HasText texts) apart (chronicle p) of.0 proper.0.named
-          (stars_of p proper.0) now now was was h g known known known_was known_was (map assignment_of l.0) l.3.listed,
+      new_here p proper.0 of.0 number l.0 l.3,
       answer_new ps (suc number) l.1 proper.1 of.1 l.4,
       ap length l.2 ∙ length-append l.0 l.1
           ∙ ap (λ n. n + length l.1) (sym
@@ -168,15 +211,14 @@ module _ (texts : List (List ℕ)) (distinct : AreDistinct texts) where
     -- what listeners are told of the answer
     pub answer_notices : (ps : List Plan) (number : ℕ) (answer : List Recognition) → AllByRecursion IsProper ps
         → AllByRecursion (λ p. IsChronicleOf (HasText texts) (chronicle p)) ps
-        → ListsAllNew ps number mark was g now h answer
-        → AreMarkNotices number (map (chronicle_in texts) ps) (record { settled = entries_in texts was; horizon = g })
-        (record { settled = entries_in texts now; horizon = h }) (map notice_of answer)
+        → ListsAllNew ps number mark pool_was was g pool_now now h answer
+        → AreMarkNotices number (map (chronicle_in texts) ps) view_was
+        view_now (map notice_of answer)
     answer_notices [] number answer proper of l = ap (map notice_of) l
     answer_notices (p ∷ ps) number answer proper of l = (
       map (renamed_assignment (text_in texts)) (map assignment_of l.0),
       map notice_of l.1,
-      new_renamed (text_in texts) (HasText texts) apart (chronicle p) of.0 proper.0.named
-          (stars_of p proper.0) now now was was h g known known known_was known_was (map assignment_of l.0) l.3.listed,
+      new_here p proper.0 of.0 number l.0 l.3,
       answer_notices ps (suc number) l.1 proper.1 of.1 l.4,
       ap (map notice_of) l.2 ∙ map-append notice_of l.0 l.1
           ∙ ap (λ ns. ns ++ map notice_of l.1) (notices_are p number mark l.0 l.3.each),
@@ -184,7 +226,7 @@ module _ (texts : List (List ℕ)) (distinct : AreDistinct texts) where
 
     -- each recognition has an entry, since each chronicle has an event
     pub all_filled : (ps : List Plan) (number : ℕ) (answer : List Recognition) → AllByRecursion IsProper ps
-        → ListsAllNew ps number mark was g now h answer → AllByRecursion HasEntry answer
+        → ListsAllNew ps number mark pool_was was g pool_now now h answer → AllByRecursion HasEntry answer
     all_filled [] number answer proper l = subst (AllByRecursion HasEntry) (sym l) tt
     all_filled (p ∷ ps) number answer proper l = subst (AllByRecursion HasEntry) (sym l.2)
         (all_append HasEntry l.0 l.1 (each_filled p proper.0 number mark l.0 l.3.each) (all_filled ps (suc number) l.1 proper.1 l.4))

@@ -165,7 +165,7 @@ module _ (texts more : List (List ℕ)) where
       below = below_more accepted e n.below at;
     }
 
-filter_last : (p : LogEntry → Bool) (xs : List LogEntry) (x : LogEntry) → p x ≡ false → filter p (xs ++ x ∷ []) ≡ filter p xs
+pub filter_last : (p : LogEntry → Bool) (xs : List LogEntry) (x : LogEntry) → p x ≡ false → filter p (xs ++ x ∷ []) ≡ filter p xs
 filter_last p [] x e = λ i. cond (e i) (x ∷ []) []
 filter_last p (y ∷ xs) x e = λ i. cond (p y) (y ∷ filter_last p xs x e i) (filter_last p xs x e i)
 
@@ -174,9 +174,12 @@ pub view_stays : (f : Frame) (x : Session) (s : State) (r : Represents f x s) (e
     → view_of (with_entry s (entry_of_event (length s.accepted) e) e) ≡ view_of s
 view_stays f x s r e due =
     let late : nat_lt e.date s.horizon ≡ false = le-ltb e.date s.horizon (let h = r.horizon in omega arith) in
+    let later : nat_lt (length s.accepted) s.marked ≡ false = le-ltb (length s.accepted) s.marked (let a = r.entries.stands.counted in let b = r.marked in let c = r.count in omega arith) in
     λ i. record {
       settled = in_key_order
           (filter_last (λ y. nat_lt y.date s.horizon) s.accepted (entry_of_event (length s.accepted) e) late i);
+      arrived = in_key_order
+          (filter_last (λ y. nat_lt y.arrival s.marked) s.accepted (entry_of_event (length s.accepted) e) later i);
       horizon = s.horizon;
     }
 
@@ -206,6 +209,7 @@ accepted f x s r was_met room e due new table en a running texts limit seen know
       delay = r.delay ∙ sym a.same_delay;
       last = r.last ∙ sym a.same_clock;
       horizon = r.horizon ∙ sym a.same_horizon;
+      marked = r.marked ∙ sym a.same_marked;
       count = length-append s.accepted (entry_of_event (length s.accepted) e ∷ []) ∙ ap (λ n. n + 1) r.count ∙ sym a.one_more;
       most = a.same_limit ∙ r.most;
       few = omega (arith, length-append s.accepted (entry_of_event (length s.accepted) e ∷ []));

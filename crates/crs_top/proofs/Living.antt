@@ -1,5 +1,5 @@
 -- What an engine holds is what lives.
-use Rattle.std.proofs.Common.{◌≡◌, ◌<◌, ◌∙◌, ◌+◌, ℕ, arith, zero-add, Bool, List, [], ◌∷◌, map, length, refl, sym, ap, subst}
+use Rattle.std.proofs.Common.{◌≡◌, ◌<◌, ◌∙◌, ◌+◌, ℕ, arith, zero-add, Bool, List, [], ◌∷◌, ◌++◌, map, length, refl, sym, ap, subst}
 use Rattle.std.specs.Prelude.{sum, fold, slice_index_or, if◌then◌else◌}
 use Rattle.std.specs.List.{AllByRecursion, AllZip}
 use Rattle.std.proofs.lemmas.List.{length-map}
@@ -10,9 +10,9 @@ use Rattle.crs_base.proofs.Words.{in_from_each}
 use Rattle.crs_model.specs.declared.plan.Plan.{Plan}
 use Rattle.crs_model.specs.Models.{Chronicle, EventDef}
 use Rattle.crs_model.specs.Partial.{Partial}
-use Rattle.crs_model.specs.Levels.{level_in}
-use Rattle.crs_model.specs.Open.{IsLive, IsRecognisedWhole, StandsFor as Keeps, before}
-use Rattle.crs_model.specs.Order.{AreAll}
+use Rattle.crs_model.specs.Levels.{level_in, reads_levels}
+use Rattle.crs_model.specs.Open.{IsLive, IsRecognisedWhole, StandsFor as Keeps, before, pool_among}
+use Rattle.crs_model.specs.Order.{AreAll, arrived}
 use Rattle.crs_model.specs.Plans.{chronicle, IsProper}
 use Rattle.crs_model.specs.Renaming.{text_in, renamed_event, IsChronicleOf, IsEntryOf}
 use Rattle.crs_model.proofs.Marks.{before_all}
@@ -24,17 +24,17 @@ use Rattle.crs_log.specs.Recognitions.{View, view_of}
 use Rattle.crs_log.specs.Run.{State}
 use Rattle.crs_top.specs.Session.{HasText, chronicle_in, entries_in, HasModels, HasEntries}
 use Rattle.crs_top.specs.Tallies.{AreLive, AllLive}
-use Rattle.crs_top.specs.Texts.{Frame}
-use Rattle.crs_top.proofs.Answered.{apart, stars_of}
-use Rattle.crs_top.proofs.States.{settled_now, known_settled}
+use Rattle.crs_top.specs.Texts.{Frame, LogEntry}
+use Rattle.crs_top.proofs.Answered.{apart, stars_of, pool_known, pool_renamed}
+use Rattle.crs_top.proofs.States.{settled_now, arrived_now, known_settled, known_arrived}
 
 -- what is kept at the mark, and was recognised by then, lives
-kept_live : {S : Type 0} (c : Chronicle S) (level : ℕ → ℕ) (held : List (Partial S)) (settled : List (Entry S)) (h : ℕ)
-    → before h settled ≡ settled → Keeps c level held settled settled settled h h → AreAll (IsLive c level settled settled h) held
-kept_live c level held settled h is k = record {
+kept_live : {S : Type 0} (c : Chronicle S) (level : ℕ → ℕ) (held : List (Partial S)) (pool settled : List (Entry S)) (h : ℕ)
+    → before h settled ≡ settled → Keeps c level held pool pool settled h h → AreAll (IsLive c level pool settled h) held
+kept_live c level held pool settled h is k = record {
   distinct = k.distinct;
-  each = λ a i. let l = k.each a i in (l.0, subst (λ es. IsRecognisedWhole c settled es h a → ⊥) is l.1);
-  all = λ a l. k.all a (l.0, subst (λ es. IsRecognisedWhole c settled es h a → ⊥) (sym is) l.1);
+  each = λ a i. let l = k.each a i in (l.0, subst (λ es. IsRecognisedWhole c pool es h a → ⊥) is l.1);
+  all = λ a l. k.all a (l.0, subst (λ es. IsRecognisedWhole c pool es h a → ⊥) (sym is) l.1);
 }
 
 -- events keep their levels with other symbols
@@ -56,27 +56,33 @@ fold_from m (n ∷ ns) =
 sum_more : (n : ℕ) (ns : List ℕ) → sum (n ∷ ns) ≡ n + sum ns
 sum_more n ns = fold_from (0 + n) ns ∙ ap (λ k. k + sum ns) (zero-add n)
 
-module _ (texts : List (List ℕ)) (distinct : AreDistinct texts) (settled : List (Entry Sym)) (h : ℕ)
-    (known : AllByRecursion (IsEntryOf (HasText texts)) settled) (dated : AllByRecursion (λ x. x.date < h) settled) where
+module _ (texts : List (List ℕ)) (distinct : AreDistinct texts) (m : ℕ) (settled waiting : List (Entry Sym)) (h : ℕ)
+    (known : AllByRecursion (IsEntryOf (HasText texts)) settled) (known_came : AllByRecursion (IsEntryOf (HasText texts)) (arrived m (settled ++ waiting))) (dated : AllByRecursion (λ x. x.date < h) settled) where
+  abbrev came : List (Entry Sym)
+  came = arrived m (settled ++ waiting)
+
   abbrev now : View
-  now = record { settled = entries_in texts settled; horizon = h }
+  now = record { settled = entries_in texts settled; arrived = entries_in texts came; horizon = h }
 
   -- a store of the plan holds the live ones
   store_live : (focus : Bool) (p : Plan) (s : StoreState) → IsProper p → IsChronicleOf (HasText texts) (chronicle p)
-      → IsStoreAt focus settled h p s → AreLive focus (chronicle_in texts p) now (length s.held)
+      → IsStoreAt focus m settled waiting h p s → AreLive focus (chronicle_in texts p) now (length s.held)
   store_live focus p s proper of at =
       let c = chronicle p in
-      let one : Keeps c (level_in c.events s.focus) (parts s.held) settled settled settled h h =
+      let pool : List (Entry Sym) = pool_among c settled came in
+      let one : Keeps c (level_in c.events s.focus) (parts s.held) pool pool settled h h =
       subst (λ (q : Plan). Keeps (chronicle q) (level_in (chronicle q).events s.focus)
-      (parts s.held) settled settled settled h h) at.plan (at.stands).stands in
-      let two : Keeps c (level_in c.events focus) (parts s.held) settled settled settled h h =
-      subst (λ (b : Bool). Keeps c (level_in c.events b) (parts s.held) settled settled settled h h) at.focus_is one in
+      (parts s.held) pool pool settled h h) at.plan (at.stands).stands in
+      let two : Keeps c (level_in c.events (reads_levels c focus)) (parts s.held) pool pool settled h h =
+      subst (λ (b : Bool). Keeps c (level_in c.events b) (parts s.held) pool pool settled h h) at.focus_is one in
       let all = before_all h settled (λ e i. in_from_each (λ (x : Entry Sym). x.date < h) settled dated e i) in
-      let live = kept_live c (level_in c.events focus) (parts s.held) settled h all two in
+      let live = kept_live c (level_in c.events (reads_levels c focus)) (parts s.held) pool settled h all two in
       let there = live_renamed (text_in texts) (HasText texts) (apart texts distinct) c of proper.named (stars_of texts distinct p proper)
-      settled known (level_in c.events focus) settled known h (parts s.held) live in
-      let read = subst (λ (level : ℕ → ℕ). AreAll (IsLive (chronicle_in texts p) level now.settled now.settled h)
-      (map (renamed_partial (text_in texts)) (parts s.held))) (sym (same_levels (text_in texts) c.events focus)) there in (
+      pool (pool_known texts p settled came known known_came) (level_in c.events (reads_levels c focus)) settled known h (parts s.held) live in
+      let placed = subst (λ (t : List LogEntry). AreAll (IsLive (chronicle_in texts p) (level_in c.events (reads_levels c focus)) t now.settled h)
+      (map (renamed_partial (text_in texts)) (parts s.held))) (pool_renamed texts p settled came) there in
+      let read = subst (λ (level : ℕ → ℕ). AreAll (IsLive (chronicle_in texts p) level (pool_among (chronicle_in texts p) now.settled now.arrived) now.settled h)
+      (map (renamed_partial (text_in texts)) (parts s.held))) (sym (same_levels (text_in texts) c.events (reads_levels c focus))) placed in (
         map (renamed_partial (text_in texts)) (parts s.held),
         read,
         sym (length-map (parts s.held) (renamed_partial (text_in texts)) ∙ length-map s.held (λ i. i.partial)),
@@ -84,7 +90,7 @@ module _ (texts : List (List ℕ)) (distinct : AreDistinct texts) (settled : Lis
 
   -- the stores of all plans hold those of all chronicles
   pub stores_live : (focus : Bool) (ps : List Plan) (ss : List StoreState) → AllByRecursion IsProper ps
-      → AllByRecursion (λ p. IsChronicleOf (HasText texts) (chronicle p)) ps → AllZip (IsStoreAt focus settled h) ps ss
+      → AllByRecursion (λ p. IsChronicleOf (HasText texts) (chronicle p)) ps → AllZip (IsStoreAt focus m settled waiting h) ps ss
       → AllLive focus (map (chronicle_in texts) ps) now (sum (map (λ s. length s.held) ss))
   stores_live focus [] [] proper of at = refl
   stores_live focus [] (s ∷ ss) proper of at = absurd at
@@ -103,13 +109,14 @@ held_by e = sum (map (λ s. length s.held) e.stores)
 
 -- what the engine of a session holds lives in the state that it stands for
 pub held_live : (f : Frame) (e : EngineState) (table : Table) (s : State) → HasModels f e.plans table → HasEntries e table.texts s.accepted
-    → s.horizon ≡ e.horizon → AllLive e.focus f.models.chronicles (view_of s) (held_by e)
-held_live f e table s m n horizon =
+    → s.horizon ≡ e.horizon → s.marked ≡ e.marked → AllLive e.focus f.models.chronicles (view_of s) (held_by e)
+held_live f e table s m n horizon marked =
     let settled = settled_now e table.texts s.accepted n s.horizon horizon in
-    let there = stores_live table.texts m.distinct n.settled e.horizon (known_settled e table.texts s.accepted n) n.stands.settled_before
+    let came = arrived_now e table.texts s.accepted n s.marked e.marked marked in
+    let there = stores_live table.texts m.distinct e.marked n.settled n.waiting e.horizon (known_settled e table.texts s.accepted n) (known_arrived e table.texts s.accepted n e.marked) n.stands.settled_before
     e.focus (plans_of e.plans) e.stores m.proper m.chronicles_in n.stands.stores in
-    let view : record { settled = entries_in table.texts n.settled; horizon = e.horizon } ≡ view_of s =
-    (λ i. record { settled = settled i; horizon = sym horizon i }) in
+    let view : record { settled = entries_in table.texts n.settled; arrived = entries_in table.texts (arrived e.marked (n.settled ++ n.waiting)); horizon = e.horizon } ≡ view_of s =
+    (λ i. record { settled = settled i; arrived = came i; horizon = sym horizon i }) in
     subst (λ (v : View). AllLive e.focus f.models.chronicles v (held_by e)) view
-    (subst (λ (cs : List (Chronicle (List ℕ))). AllLive e.focus cs (record { settled = entries_in table.texts n.settled; horizon = e.horizon })
+    (subst (λ (cs : List (Chronicle (List ℕ))). AllLive e.focus cs (record { settled = entries_in table.texts n.settled; arrived = entries_in table.texts (arrived e.marked (n.settled ++ n.waiting)); horizon = e.horizon })
     (held_by e)) (sym m.chronicles) there)

@@ -200,9 +200,9 @@ module _ (c : Setting) (room : IsRoomy c) where
     clock_goes : Goes k base (after_item c s (Clock base))
     clock_goes =
         let met = is_met s in
-        let all : after_item c s (Clock base) ≡ (record met { last = base; horizon = base - s.delay }, Marked (AtClock base)) =
+        let all : after_item c s (Clock base) ≡ (record met { last = base; horizon = base - s.delay; marked = length s.accepted }, Marked (AtClock base)) =
         (λ i. cond (o.open_still i || (false && s.met)) (met, Refused Order) (after_ordered c met (Clock base)))
-        ∙ (λ i. cond (le-ltb base s.last o.last i) (met, Refused (Back base s.last)) (record met { last = base; horizon = base - s.delay }, Marked (AtClock base))) in
+        ∙ (λ i. cond (le-ltb base s.last o.last i) (met, Refused (Back base s.last)) (record met { last = base; horizon = base - s.delay; marked = length s.accepted }, Marked (AtClock base))) in
         subst (Goes k base) (sym all) (record {
           fine = refl;
           on = record {

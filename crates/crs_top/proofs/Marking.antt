@@ -63,7 +63,7 @@ still_running old true answer e h = elim (h.0 refl) [ inl k ↦ absurd (true≢f
     not_memory answer k = cc
 
 module _ (f : Frame) (x : Session) (s : State) (r : Represents f x s) (new : EngineState) (answer : List Recognition) (met : x.met ≡ true) (going : new.stopped ≡ false) where
-  reached_met : (t h : ℕ) (ended : Bool) → (ended ≡ false → h ≡ t - s.delay) → (ended ≡ false → t < 2 ^ 40) → IsReached (record s { last = t; horizon = h; ended = ended })
+  reached_met : (t h : ℕ) (ended : Bool) → (ended ≡ false → h ≡ t - s.delay) → (ended ≡ false → t < 2 ^ 40) → IsReached (record s { last = t; horizon = h; ended = ended; marked = length s.accepted })
   reached_met t h ended a b = record { fresh = λ q. absurd (true≢false (sym (r.met ∙ met) ∙ q)); open_horizon = a; open_last = b }
 
   -- the new horizon isn't before the old one
@@ -78,12 +78,12 @@ module _ (f : Frame) (x : Session) (s : State) (r : Represents f x s) (new : Eng
   -- what is held after the mark lives then
   mark_live : (mark : Mark) (t h : ℕ) (ended : Bool) → HasMoved x.engine new t h → x.engine.horizon ≤ h
       → AfterMark x.engine new mark r.entries.settled r.entries.waiting answer
-      → AllLive new.focus f.models.chronicles (view_of (record s { last = t; horizon = h; ended = ended })) (held_by new)
+      → AllLive new.focus f.models.chronicles (view_of (record s { last = t; horizon = h; ended = ended; marked = length s.accepted })) (held_by new)
   mark_live mark t h ended m rises after =
       let moved = moved_forward x.engine new t h m rises in
-      held_live f new x.symbols (record s { last = t; horizon = h; ended = ended })
-      (models_then f x s r new mark answer h m.same_plans moved rises after)
-      (entries_then f x s r new mark answer h m.same_plans moved rises after) (sym moved)
+      held_live f new x.symbols (record s { last = t; horizon = h; ended = ended; marked = length s.accepted })
+      (models_then f x s r new mark answer h m.same_plans moved rises m.marked after)
+      (entries_then f x s r new mark answer h m.same_plans moved rises m.marked after) (sym moved) (r.count ∙ sym m.marked)
 
   abbrev counts_then : Counts
   counts_then = with_mark x.counts (length answer) (kept_of new)
@@ -92,28 +92,28 @@ module _ (f : Frame) (x : Session) (s : State) (r : Represents f x s) (new : Eng
   mark_brings : (mark : Mark) (t h : ℕ) (here there : Bool) (n : ℕ) (out more : Written) → there ≡ here → HasMoved x.engine new t h
       → x.engine.horizon ≤ h
       → AfterMark x.engine new mark r.entries.settled r.entries.waiting answer
-      → IsReached (record s { last = t; horizon = h; ended = there })
+      → IsReached (record s { last = t; horizon = h; ended = there; marked = length s.accepted })
       → more ≡ with_answer out (flat_map (line_in new.plans x.symbols.texts) answer) answer
       → Brings f x.engine.focus x.counts (record x { engine = new; ended = here; counts = counts_then }) n (view_of s)
-      (record s { last = t; horizon = h; ended = there }, Marked mark) out more
+      (record s { last = t; horizon = h; ended = there; marked = length s.accepted }, Marked mark) out more
   mark_brings mark t h here there n out more same m rises after reached written =
       let moved = moved_forward x.engine new t h m rises in
       let live = mark_live mark t h there m rises after in
       record {
-        state = marked f x s r new mark answer h m.same_plans moved rises after t here there counts_then same m going reached
+        state = marked f x s r new mark answer h m.same_plans moved rises m.marked after t here there counts_then same m going reached
             (held_by new, live, peak_after x.counts.peak (held_by new));
         same_focus = m.same_focus;
         text = flat_map (line_in new.plans x.symbols.texts) answer;
-        says = mark_text f x s r new mark answer h m.same_plans moved rises after;
+        says = mark_text f x s r new mark answer h m.same_plans moved rises m.marked after;
         written = ap (λ (w : Written). w.text) written;
         found = answer;
-        notices = mark_notices f x s r new mark answer h m.same_plans moved rises after;
-        filled = answer_filled f x s r new mark answer h m.same_plans moved rises after;
+        notices = mark_notices f x s r new mark answer h m.same_plans moved rises m.marked after;
+        filled = answer_filled f x s r new mark answer h m.same_plans moved rises m.marked after;
         added = ap (λ (w : Written). w.found) written;
         tally = record (passed (held_by new)) { recognitions = length answer };
         tallied = (
-          (refl, mark_new f x s r new mark answer h m.same_plans moved rises after),
-          subst (λ (b : Bool). AllLive b f.models.chronicles (view_of (record s { last = t; horizon = h; ended = there })) (held_by new)) m.same_focus live,
+          (refl, mark_new f x s r new mark answer h m.same_plans moved rises m.marked after),
+          subst (λ (b : Bool). AllLive b f.models.chronicles (view_of (record s { last = t; horizon = h; ended = there; marked = length s.accepted })) (held_by new)) m.same_focus live,
         );
         counted = counted_mark x.counts (length answer) (held_by new);
       }
@@ -125,7 +125,7 @@ module _ (f : Frame) (x : Session) (s : State) (r : Represents f x s) (new : Eng
       (after_ordered (setting_of f) s (items.Clock t)) out more
   clock_brings t n out more open_ small fine m after written =
       let m' : HasMoved x.engine new t (t - s.delay) = subst (λ (d : ℕ). HasMoved x.engine new t (t - d)) (sym r.delay) m in
-      let now : State = record s { last = t; horizon = t - s.delay } in
+      let now : State = record s { last = t; horizon = t - s.delay; marked = length s.accepted } in
       let is : (now, Marked (Clock t)) ≡ after_ordered (setting_of f) s (items.Clock t) =
       (λ i. cond (sym (ap (nat_lt t) r.last ∙ fine) i) (s, run.Refused (run.Back t s.last)) (now, Marked (Clock t))) in
       subst (λ (a : State × Outcome). Brings f x.engine.focus x.counts (record x { engine = new; counts = counts_then }) n (view_of s) a out more) is
@@ -158,4 +158,4 @@ back_brings result x e y t n a b out more running refused same written counted =
     (λ f s r.
     let is : nat_lt t s.last ≡ true = ap (nat_lt t) r.last ∙ k.0 in
     λ i. cond (is i) (s, run.Refused (run.Back (sym k.1 i) ((r.last ∙ sym k.2) i)))
-    (record s { last = t; horizon = horizon_at s t }, Marked (Clock t)))
+    (record s { last = t; horizon = horizon_at s t; marked = length s.accepted }, Marked (Clock t)))

@@ -1,9 +1,9 @@
 -- What is written for a log without refused lines, part by part.
-use Rattle.std.proofs.Common.{◌≡◌, ◌≢◌, ℕ, ◌+◌, ◌-◌, ◌<◌, Bool, true, false, cond, List, [], ◌∷◌, ◌++◌, length, refl, sym, ap, subst, ◌∙◌}
+use Rattle.std.proofs.Common.{◌≡◌, ◌≢◌, ℕ, ◌+◌, ◌-◌, ◌<◌, ◌≤◌, Bool, true, false, cond, List, [], ◌∷◌, ◌++◌, length, refl, sym, ap, subst, ◌∙◌}
 use Rattle.std.proofs.Common.{arith, true≢false, Option, Some, None, inl, inr, length-append}
 use Rattle.std.specs.Prelude.{nat_lt, nat_le}
 use Rattle.std.specs.List.{AllByRecursion, list_any, sum_by}
-use Rattle.std.proofs.lemmas.Bool.{or_parts}
+use Rattle.std.proofs.lemmas.Bool.{or_parts, le-ltb}
 use Rattle.std.proofs.lemmas.List.Sums.{sum_by-cons}
 use Rattle.crs_base.specs.Entry.{Key}
 use Rattle.crs_base.specs.Lines.{Line, bytes_of, is_long}
@@ -12,7 +12,8 @@ use Rattle.crs_model.specs.declared.recognition.Mark.{Mark}
 use Rattle.crs_model.specs.declared.recognition.Mark.TheVariants.{Clock as AtClock, Finish as AtEnd}
 use Rattle.crs_model.specs.Models.{Chronicle}
 use Rattle.crs_model.specs.Matching.{AreDistinct}
-use Rattle.crs_model.specs.Order.{dated_before}
+use Rattle.crs_model.specs.Order.{dated_before, arrived, in_key_order}
+use Rattle.crs_top.proofs.Grown.{filter_last}
 use Rattle.crs_model.proofs.Ties.{tie, said, ties, ties_last}
 use Rattle.crs_log.specs.Items.{Item, Delay, Clock, Finish, Happens, Event}
 use Rattle.crs_log.specs.ItemOf.{What, Empty, Is, Faulty, what_of, what_is, item_of}
@@ -36,8 +37,9 @@ pub record AreAccepted (xs : List LogEntry) : Type 0 where
   pub below : AllByRecursion (λ x. x.arrival < length xs) xs
   pub read : AllByRecursion IsRead xs
 
-abbrev pub view : ℕ → List LogEntry → View
-view h xs = record { settled = dated_before h xs; horizon = h }
+-- what recognition reads at a horizon, where so many had been accepted by the last mark
+abbrev pub view : ℕ → ℕ → List LogEntry → View
+view k h xs = record { settled = dated_before h xs; arrived = in_key_order (arrived k xs); horizon = h }
 
 abbrev pub taken : Verdict → ℕ → ℕ
 taken Other n = 0
@@ -54,27 +56,29 @@ module _ (c : Setting) (cs : List (Chronicle (List ℕ))) where
   pub record Follow (es : List Event) (xs ys : List LogEntry) : Type 0 where
     pub accepted : AreAccepted xs → AreAccepted ys
     pub ties : (z : Key) → ties z ys ≡ ties z xs + sum_by (weight z) es
+    pub longer : length xs ≤ length ys
+    pub early : (k : ℕ) → k ≤ length xs → arrived k ys ≡ arrived k xs
 
-  -- what is written at a mark, where the horizon rises from g to h, and behind it
-  abbrev pub IsMarkedText : Mark → ℕ → ℕ → List LogEntry → (List ℕ → Type 0) → List ℕ → Type 0
-  IsMarkedText mark g h xs Rest text =
-      (first : List ℕ) × (rest : List ℕ) × IsMarkText cs mark (view g xs) (view h xs) first × Rest rest × (text ≡ first ++ rest)
+  -- what is written at a mark, where the horizon rises from g to h and k had been accepted by the last mark, and behind it
+  abbrev pub IsMarkedText : Mark → ℕ → ℕ → ℕ → List LogEntry → (List ℕ → Type 0) → List ℕ → Type 0
+  IsMarkedText mark g h k xs Rest text =
+      (first : List ℕ) × (rest : List ℕ) × IsMarkText cs mark (view k g xs) (view (length xs) h xs) first × Rest rest × (text ≡ first ++ rest)
 
-  -- what is written for the item behind the events, and for the rest, by its delay and horizon
-  abbrev pub IsEndText : Option Item → ℕ → ℕ → List LogEntry → (ℕ → ℕ → List ℕ → Type 0) → List ℕ → Type 0
-  IsEndText None d h xs Rest text = text ≡ []
-  IsEndText (Some (Delay n)) d h xs Rest text = Rest n h text
-  IsEndText (Some (Clock t)) d h xs Rest text = IsMarkedText (AtClock t) h (t - d) xs (Rest d (t - d)) text
-  IsEndText (Some Finish) d h xs Rest text = IsMarkedText AtEnd h end_date xs (Rest d end_date) text
-  IsEndText (Some (Happens e)) d h xs Rest text = ⊥
+  -- what is written for the item behind the events, and for the rest, by its delay, its horizon, and how many had been accepted by the last mark
+  abbrev pub IsEndText : Option Item → ℕ → ℕ → ℕ → List LogEntry → (ℕ → ℕ → ℕ → List ℕ → Type 0) → List ℕ → Type 0
+  IsEndText None d h k xs Rest text = text ≡ []
+  IsEndText (Some (Delay n)) d h k xs Rest text = Rest n h k text
+  IsEndText (Some (Clock t)) d h k xs Rest text = IsMarkedText (AtClock t) h (t - d) k xs (Rest d (t - d) (length xs)) text
+  IsEndText (Some Finish) d h k xs Rest text = IsMarkedText AtEnd h end_date k xs (Rest d end_date (length xs)) text
+  IsEndText (Some (Happens e)) d h k xs Rest text = ⊥
 
-  abbrev pub IsPartsText : List Part → ℕ → ℕ → List LogEntry → List ℕ → Type 0
-  IsPartsText [] d h xs text = text ≡ []
-  IsPartsText (p ∷ ps) d h xs text =
-      (ys : List LogEntry) × Follow p.events xs ys × IsEndText p.ending d h ys (λ d h t. IsPartsText ps d h ys t) text
+  abbrev pub IsPartsText : List Part → ℕ → ℕ → ℕ → List LogEntry → List ℕ → Type 0
+  IsPartsText [] d h k xs text = text ≡ []
+  IsPartsText (p ∷ ps) d h k xs text =
+      (ys : List LogEntry) × Follow p.events xs ys × IsEndText p.ending d h k ys (λ d h k t. IsPartsText ps d h k ys t) text
 
   same_follow : (xs : List LogEntry) → Follow [] xs xs
-  same_follow xs = record { accepted = λ a. a; ties = λ z. omega arith }
+  same_follow xs = record { accepted = λ a. a; ties = λ z. omega arith; longer = omega arith; early = λ k l. refl }
 
   follow_on : (e : Event) (es : List Event) (xs ys zs : List LogEntry) → Follow (e ∷ []) xs ys → Follow es ys zs → Follow (e ∷ es) xs zs
   follow_on e es xs ys zs a b = record {
@@ -86,15 +90,17 @@ module _ (c : Setting) (cs : List (Chronicle (List ℕ))) where
         let first : sum_by (weight z) (e ∷ []) ≡ weight z e + sum_by (weight z) [] = sum_by-cons (weight z) e [] in
         let none : sum_by (weight z) [] ≡ 0 = refl in
         omega (arith, one, two, more, first, none);
+    longer = let l = a.longer in let m = b.longer in omega arith;
+    early = λ k l. b.early k (let m = a.longer in omega arith) ∙ a.early k l;
   }
 
-  led : (e : Event) (ps : List Part) (d h : ℕ) (xs ys : List LogEntry) (text : List ℕ) → Follow (e ∷ []) xs ys
-      → IsPartsText ps d h ys text → IsPartsText (led_by e ps) d h xs text
-  led e [] d h xs ys text f k = (ys, f, k)
-  led e (p ∷ ps) d h xs ys text f k = (k.0, follow_on e p.events xs ys k.0 f k.1, k.2)
+  led : (e : Event) (ps : List Part) (d h k : ℕ) (xs ys : List LogEntry) (text : List ℕ) → Follow (e ∷ []) xs ys
+      → IsPartsText ps d h k ys text → IsPartsText (led_by e ps) d h k xs text
+  led e [] d h k xs ys text f t = (ys, f, t)
+  led e (p ∷ ps) d h k xs ys text f t = (t.0, follow_on e p.events xs ys t.0 f t.1, t.2)
 
   abbrev IsToldFrom : State → List Item → List ℕ → Type 0
-  IsToldFrom s items text = IsPartsText (parts_of items) s.delay s.horizon s.accepted text
+  IsToldFrom s items text = IsPartsText (parts_of items) s.delay s.horizon s.marked s.accepted text
 
   -- from what is told behind a line to what is told of it too
   abbrev Steps : ℕ → State → List Item → What → State × Outcome → Type 0
@@ -118,7 +124,7 @@ module _ (c : Setting) (cs : List (Chronicle (List ℕ))) where
       omega (arith, one, same, none)
 
   passed : (e : Event) (xs : List LogEntry) → known_of c.names e ≡ Other → Follow (e ∷ []) xs xs
-  passed e xs k = record { accepted = λ a. a; ties = λ z. let w = weight_by z e Other k in omega (arith, w) }
+  passed e xs k = record { accepted = λ a. a; ties = λ z. let w = weight_by z e Other k in omega (arith, w); longer = omega arith; early = λ k l. refl }
 
   one_more : (e : Event) (xs : List LogEntry) → IsOfSymbols e → AreAccepted xs → AreAccepted (xs ++ entry_of_event (length xs) e ∷ [])
   one_more e xs s a =
@@ -154,6 +160,8 @@ module _ (c : Setting) (cs : List (Chronicle (List ℕ))) where
         let l : ties z (xs ++ entry_of_event (length xs) e ∷ []) ≡ ties z xs + tie z (said (entry_of_event 0 e)) =
         ties_last z xs (entry_of_event (length xs) e) in
         omega (arith, w, l);
+    longer = (let l = length-append xs (entry_of_event (length xs) e ∷ []) in omega (arith, l));
+    early = λ k l. filter_last (λ y. nat_lt y.arrival k) xs (entry_of_event (length xs) e) (le-ltb (length xs) k l);
   }
 
   module _ (n : ℕ) (s : State) (items : List Item) where
@@ -183,13 +191,13 @@ module _ (c : Setting) (cs : List (Chronicle (List ℕ))) where
         (cond (has_place e) (with_entry s (new e) e, Accepted (new e)) (s, Refused (run.Values c.symbols)))
         (provided (Is (Happens e)) (has_place e) (run.Values c.symbols) (with_entry s (new e) e, Accepted (new e))
         (λ r first rest text o t x.
-        led e (parts_of items) s.delay s.horizon s.accepted (s.accepted ++ new e ∷ []) text (added e s.accepted place k v)
+        led e (parts_of items) s.delay s.horizon s.marked s.accepted (s.accepted ++ new e ∷ []) text (added e s.accepted place k v)
         (nothing_first (with_entry s (new e) e) items first rest text o x t)))
 
     steps_verdict : (e : Event) (v : Verdict) → IsOfSymbols e → known_of c.names e ≡ v
         → Steps n s items (Is (Happens e)) (after_verdict c s e v)
     steps_verdict e Other k v = λ r first rest text o t x.
-        led e (parts_of items) s.delay s.horizon s.accepted s.accepted text (passed e s.accepted v)
+        led e (parts_of items) s.delay s.horizon s.marked s.accepted s.accepted text (passed e s.accepted v)
         (nothing_first s items first rest text o x t)
     steps_verdict e BadArity k v = never (Is (Happens e)) s run.Arity
     steps_verdict e BadValue k v = never (Is (Happens e)) s run.Value
@@ -200,7 +208,7 @@ module _ (c : Setting) (cs : List (Chronicle (List ℕ))) where
     steps_ordered (Delay d) k = λ r first rest text o t x.
         (s.accepted, same_follow s.accepted, nothing_first (record s { delay = d }) items first rest text o x t)
     steps_ordered (Clock t) k =
-        unless (Is (Clock t)) (nat_lt t s.last) s (run.Back t s.last) (record s { last = t; horizon = t - s.delay }, Marked (AtClock t))
+        unless (Is (Clock t)) (nat_lt t s.last) s (run.Back t s.last) (record s { last = t; horizon = t - s.delay; marked = length s.accepted }, Marked (AtClock t))
         (λ r first rest text o u x. (s.accepted, same_follow s.accepted, (first, rest, o, u, x)))
     steps_ordered Finish k = λ r first rest text o t x. (s.accepted, same_follow s.accepted, (first, rest, o, t, x))
     steps_ordered (Happens e) k =
@@ -229,7 +237,7 @@ module _ (c : Setting) (cs : List (Chronicle (List ℕ))) where
   -- what is written for lines of which none is refused is written for their parts
   pub parted_text : (n : ℕ) (s : State) (ls : List Line) (text : List ℕ) → list_any is_refused (outcomes c s ls) ≡ false
       → IsTextFrom c cs n s ls text
-      → IsPartsText (parts_of (items_of ls)) s.delay s.horizon s.accepted text
+      → IsPartsText (parts_of (items_of ls)) s.delay s.horizon s.marked s.accepted text
   parted_text n s [] text r t = t
   parted_text n s (l ∷ ls) text r t =
       let fine = or_parts (is_refused (after_line c s l).1) (list_any is_refused (outcomes c (after_line c s l).0 ls)) r in

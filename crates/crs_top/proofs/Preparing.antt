@@ -127,9 +127,9 @@ module _ (symbols entries : ℕ) (text : List ℕ) (m : CodeModels) (table : Tab
 
   -- the session at the start
   pub represented : (e : EngineState) (peak : ℕ) → peak ≡ kept_of e → e.plans ≡ plans → e.delay ≡ 0 → e.last ≡ 0 → e.horizon ≡ 0
-      → e.accepted ≡ 0 → e.limit ≡ entries → e.stopped ≡ false → StandsFor e [] []
+      → e.accepted ≡ 0 → e.marked ≡ 0 → e.limit ≡ entries → e.stopped ≡ false → StandsFor e [] []
       → Represents frame (record { engine = e; symbols = table; entries = entries; met = false; ended = false; counts = record { refused = 0; recognitions = 0; peak = peak } }) (at_start table.texts)
-  represented e peak is_kept p delay last horizon count most running stands = record {
+  represented e peak is_kept p delay last horizon count at_none most running stands = record {
     models = has_models_by e p;
     entries = no_entries e stands;
     reached = record { fresh = λ _. (refl, refl, refl); open_horizon = λ _. omega arith; open_last = λ _. omega arith };
@@ -138,6 +138,7 @@ module _ (symbols entries : ℕ) (text : List ℕ) (m : CodeModels) (table : Tab
     delay = sym delay;
     last = sym last;
     horizon = sym horizon;
+    marked = sym at_none;
     count = sym count;
     most = most;
     few = omega arith;
@@ -146,7 +147,7 @@ module _ (symbols entries : ℕ) (text : List ℕ) (m : CodeModels) (table : Tab
     ended = refl;
     peaked = (
       held_by e,
-      held_live frame e table (at_start table.texts) (has_models_by e p) (no_entries e stands) (sym horizon),
+      held_live frame e table (at_start table.texts) (has_models_by e p) (no_entries e stands) (sym horizon) (sym at_none),
       subst (λ k. kept_of e ≤ k) (sym is_kept) (let k : kept_of e ≤ kept_of e = omega arith in k),
     );
   }

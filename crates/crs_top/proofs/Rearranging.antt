@@ -1,7 +1,7 @@
 -- Logs that are rearranged have one text.
-use Rattle.std.proofs.Common.{◌≡◌, ℕ, ◌+◌, List, [], ◌∷◌, ◌++◌, refl, sym, ap, subst, ◌∙◌, arith, Option, Some, None}
+use Rattle.std.proofs.Common.{◌≡◌, ℕ, ◌+◌, ◌<◌, ◌≤◌, List, [], ◌∷◌, ◌++◌, length, refl, sym, ap, subst, ◌∙◌, arith, Option, Some, None, Bool, true, false, cond, lt-ltb}
 use Rattle.std.specs.Prelude.{flat_map, zip, decimal, codes, ◌-◌}
-use Rattle.std.specs.List.{AllZip, sum_by}
+use Rattle.std.specs.List.{AllZip, AllByRecursion, sum_by}
 use Rattle.std.proofs.lemmas.List.Sorted.{sum_by-IsPermutation}
 use Rattle.crs_base.specs.Entry.{Key, canonical}
 use Rattle.crs_base.proofs.Words.{in_from_each}
@@ -9,10 +9,12 @@ use Rattle.crs_model.specs.declared.recognition.Mark.{Mark}
 use Rattle.crs_model.specs.declared.recognition.Mark.TheVariants.{Clock as AtClock, Finish as AtEnd}
 use Rattle.crs_model.specs.Models.{Chronicle, EventDef}
 use Rattle.crs_model.specs.Matching.{Assignment}
-use Rattle.crs_model.specs.Order.{dated_before}
+use Rattle.crs_model.specs.Order.{dated_before, arrived, in_key_order}
+use Rattle.crs_model.specs.Open.{pool_among}
+use Rattle.crs_log.specs.Recognitions.{pool_of}
 use Rattle.crs_model.proofs.Ties.{ties, Says}
 use Rattle.crs_model.proofs.Twins.{Same, Twins}
-use Rattle.crs_model.proofs.TwinLists.{Paired, new_paired}
+use Rattle.crs_model.proofs.TwinLists.{Paired, Reads, new_paired}
 use Rattle.crs_model.proofs.TwinPools.{AreAlike, pairing}
 use Rattle.crs_log.specs.Items.{Item, Delay, Clock, Finish, Happens, Event}
 use Rattle.crs_log.specs.Run.{Setting, at_start, end_date}
@@ -59,16 +61,30 @@ lines_same T t c mark [] (y ∷ ys) z = absurd z
 lines_same T t c mark (x ∷ xs) [] z = absurd z
 lines_same T t c mark (x ∷ xs) (y ∷ ys) z = λ i. line_same T t c mark x y z.0 i ++ lines_same T t c mark xs ys z.1 i
 
+-- what a chronicle's recognition reads at two marks
+abbrev reads : Chronicle (List ℕ) → ℕ → ℕ → ℕ → ℕ → List LogEntry → Reads (List ℕ)
+reads c k m g h xs = record { was_pool = pool_of c (view k g xs); was = dated_before g xs; pool = pool_of c (view m h xs); now = dated_before h xs }
+
+pool_paired : (T : LogEntry → LogEntry → Type 0) (c : Chronicle (List ℕ)) (xs came ys other : List LogEntry) → AllZip T xs ys → AllZip T came other → AllZip T (pool_among c xs came) (pool_among c ys other)
+pool_paired T c xs came ys other z y = by c.prompt
+  where
+    by : (b : Bool) → AllZip T (cond b came xs) (cond b other ys)
+    by true = y
+    by false = z
+
 -- what is written at a mark
 one_mark : (T : LogEntry → LogEntry → Type 0) → Twins T → (xs ys : List LogEntry)
     → ((h : ℕ) → AllZip T (dated_before h xs) (dated_before h ys))
-    → (cs : List (Chronicle (List ℕ))) (mark : Mark) (g h : ℕ) (a b : List ℕ) → IsMarkText cs mark (view g xs) (view h xs) a
-    → IsMarkText cs mark (view g ys) (view h ys) b → a ≡ b
-one_mark T t xs ys z [] mark g h a b p q = p ∙ sym q
-one_mark T t xs ys z (c ∷ cs) mark g h a b p q =
+    → (k l m n : ℕ) → AllZip T (in_key_order (arrived k xs)) (in_key_order (arrived l ys)) → AllZip T (in_key_order (arrived m xs)) (in_key_order (arrived n ys))
+    → (cs : List (Chronicle (List ℕ))) (mark : Mark) (g h : ℕ) (a b : List ℕ) → IsMarkText cs mark (view k g xs) (view m h xs) a
+    → IsMarkText cs mark (view l g ys) (view n h ys) b → a ≡ b
+one_mark T t xs ys z k l m n had came [] mark g h a b p q = p ∙ sym q
+one_mark T t xs ys z k l m n had came (c ∷ cs) mark g h a b p q =
     let new =
-    new_paired T t (dated_before g xs) (dated_before g ys) (dated_before h xs) (dated_before h ys) (z g) (z h) c g h p.0 q.0 p.2 q.2 in
-    let rest : p.1 ≡ q.1 = one_mark T t xs ys z cs mark g h p.1 q.1 p.3 q.3 in
+    new_paired T t (reads c k m g h xs) (reads c l n g h ys)
+    (record { was_pool = pool_paired T c (dated_before g xs) (in_key_order (arrived k xs)) (dated_before g ys) (in_key_order (arrived l ys)) (z g) had; was = z g; pool = pool_paired T c (dated_before h xs) (in_key_order (arrived m xs)) (dated_before h ys) (in_key_order (arrived n ys)) (z h) came; now = z h })
+    c g h p.0 q.0 p.2 q.2 in
+    let rest : p.1 ≡ q.1 = one_mark T t xs ys z k l m n had came cs mark g h p.1 q.1 p.3 q.3 in
     p.4 ∙ (λ i. lines_same T t c mark p.0 q.0 new i ++ rest i) ∙ sym q.4
 
 module _ (c : Setting) (cs : List (Chronicle (List ℕ))) where
@@ -86,9 +102,32 @@ module _ (c : Setting) (cs : List (Chronicle (List ℕ))) where
     same = λ x y i j s. same_read x y (in_from_each IsRead xs m.left.read x i) (in_from_each IsRead ys m.right.read y j) s;
   }
 
-  marks : (xs ys : List LogEntry) → Match xs ys → (mark : Mark) (g h : ℕ) (a b : List ℕ) → IsMarkText cs mark (view g xs) (view h xs) a
-      → IsMarkText cs mark (view g ys) (view h ys) b → a ≡ b
-  marks xs ys m mark g h a b p q = let k = pairing xs ys (alike xs ys m) in one_mark k.0 k.1 xs ys k.2 cs mark g h a b p q
+  -- as many of each had been accepted by the last mark
+  record MarkAlike (k l : ℕ) (xs ys : List LogEntry) : Type 0 where
+    left : k ≤ length xs
+    right : l ≤ length ys
+    early : (z : Key) → ties z (arrived k xs) ≡ ties z (arrived l ys)
+
+  all_arrived : (xs : List LogEntry) → AreAccepted xs → arrived (length xs) xs ≡ xs
+  all_arrived xs a = arrived_all (length xs) xs a.below
+    where
+      arrived_all : (n : ℕ) (es : List LogEntry) → AllByRecursion (λ x. x.arrival < n) es → arrived n es ≡ es
+      arrived_all n [] h = refl
+      arrived_all n (x ∷ es) h = ap (λ (b : Bool). cond b (x ∷ arrived n es) (arrived n es)) (lt-ltb x.arrival n h.0) ∙ ap (λ (t : List LogEntry). x ∷ t) (arrived_all n es h.1)
+
+  -- so have they been at a mark
+  mark_now : (xs ys : List LogEntry) → Match xs ys → MarkAlike (length xs) (length ys) xs ys
+  mark_now xs ys m = record {
+    left = omega arith;
+    right = omega arith;
+    early = λ z. ap (ties z) (all_arrived xs m.left) ∙ m.ties z ∙ sym (ap (ties z) (all_arrived ys m.right));
+  }
+
+  marks : (xs ys : List LogEntry) → Match xs ys → (k l : ℕ) → MarkAlike k l xs ys → (mark : Mark) (g h : ℕ) (a b : List ℕ) → IsMarkText cs mark (view k g xs) (view (length xs) h xs) a
+      → IsMarkText cs mark (view l g ys) (view (length ys) h ys) b → a ≡ b
+  marks xs ys m k l e mark g h a b p q =
+      let w = pairing xs ys (alike xs ys m) in
+      one_mark w.0 w.1 xs ys w.2 k l (length xs) (length ys) (w.3 k l e.early) (w.3 (length xs) (length ys) (mark_now xs ys m).early) cs mark g h a b p q
 
   followed : (es fs : List Event) (xs ys us vs : List LogEntry) → ((z : Key) → sum_by (weight c cs z) fs ≡ sum_by (weight c cs z) es)
       → Match xs ys → Follow c cs es xs us → Follow c cs fs ys vs → Match us vs
@@ -103,37 +142,45 @@ module _ (c : Setting) (cs : List (Chronicle (List ℕ))) where
         omega (arith, a, b, s, p);
   }
 
-  marked : (xs ys : List LogEntry) → Match xs ys → (mark : Mark) (g h : ℕ) (R Q : List ℕ → Type 0) → ((a b : List ℕ) → R a → Q b → a ≡ b)
-      → (a b : List ℕ) → IsMarkedText c cs mark g h xs R a → IsMarkedText c cs mark g h ys Q b → a ≡ b
-  marked xs ys m mark g h R Q rest a b p q =
-      let one : p.0 ≡ q.0 = marks xs ys m mark g h p.0 q.0 p.2 q.2 in
+  -- what follows leaves what had been accepted by the last mark
+  still_alike : (es fs : List Event) (xs ys us vs : List LogEntry) (k l : ℕ) → MarkAlike k l xs ys → Follow c cs es xs us → Follow c cs fs ys vs → MarkAlike k l us vs
+  still_alike es fs xs ys us vs k l e f g = record {
+    left = let a = e.left in let b = f.longer in omega arith;
+    right = let a = e.right in let b = g.longer in omega arith;
+    early = λ z. ap (ties z) (f.early k e.left) ∙ e.early z ∙ sym (ap (ties z) (g.early l e.right));
+  }
+
+  marked : (xs ys : List LogEntry) → Match xs ys → (k l : ℕ) → MarkAlike k l xs ys → (mark : Mark) (g h : ℕ) (R Q : List ℕ → Type 0) → ((a b : List ℕ) → R a → Q b → a ≡ b)
+      → (a b : List ℕ) → IsMarkedText c cs mark g h k xs R a → IsMarkedText c cs mark g h l ys Q b → a ≡ b
+  marked xs ys m k l e mark g h R Q rest a b p q =
+      let one : p.0 ≡ q.0 = marks xs ys m k l e mark g h p.0 q.0 p.2 q.2 in
       let two : p.1 ≡ q.1 = rest p.1 q.1 p.3 q.3 in
       p.4 ∙ (λ i. one i ++ two i) ∙ sym q.4
 
-  ends : (o : Option Item) (d h : ℕ) (xs ys : List LogEntry) → Match xs ys → (R Q : ℕ → ℕ → List ℕ → Type 0)
-      → ((d h : ℕ) (a b : List ℕ) → R d h a → Q d h b → a ≡ b)
-      → (a b : List ℕ) → IsEndText c cs o d h xs R a → IsEndText c cs o d h ys Q b → a ≡ b
-  ends None d h xs ys m R Q rest a b p q = p ∙ sym q
-  ends (Some (Delay n)) d h xs ys m R Q rest a b p q = rest n h a b p q
-  ends (Some (Clock t)) d h xs ys m R Q rest a b p q =
-      marked xs ys m (AtClock t) h (t - d) (R d (t - d)) (Q d (t - d)) (rest d (t - d)) a b p q
-  ends (Some Finish) d h xs ys m R Q rest a b p q =
-      marked xs ys m AtEnd h end_date (R d end_date) (Q d end_date) (rest d end_date) a b p q
-  ends (Some (Happens e)) d h xs ys m R Q rest a b p q = absurd p
+  ends : (o : Option Item) (d h k l : ℕ) (xs ys : List LogEntry) → Match xs ys → MarkAlike k l xs ys → (R Q : ℕ → ℕ → ℕ → List ℕ → Type 0)
+      → ((d h k l : ℕ) → MarkAlike k l xs ys → (a b : List ℕ) → R d h k a → Q d h l b → a ≡ b)
+      → (a b : List ℕ) → IsEndText c cs o d h k xs R a → IsEndText c cs o d h l ys Q b → a ≡ b
+  ends None d h k l xs ys m e R Q rest a b p q = p ∙ sym q
+  ends (Some (Delay n)) d h k l xs ys m e R Q rest a b p q = rest n h k l e a b p q
+  ends (Some (Clock t)) d h k l xs ys m e R Q rest a b p q =
+      marked xs ys m k l e (AtClock t) h (t - d) (R d (t - d) (length xs)) (Q d (t - d) (length ys)) (rest d (t - d) (length xs) (length ys) (mark_now xs ys m)) a b p q
+  ends (Some Finish) d h k l xs ys m e R Q rest a b p q =
+      marked xs ys m k l e AtEnd h end_date (R d end_date (length xs)) (Q d end_date (length ys)) (rest d end_date (length xs) (length ys) (mark_now xs ys m)) a b p q
+  ends (Some (Happens e)) d h k l xs ys m u R Q rest a b p q = absurd p
 
   -- parts that are rearranged have one text
-  one_text : (ps qs : List Part) → AllZip IsRearranged ps qs → (d h : ℕ) (xs ys : List LogEntry) → Match xs ys → (a b : List ℕ)
-      → IsPartsText c cs ps d h xs a → IsPartsText c cs qs d h ys b → a ≡ b
-  one_text [] [] z d h xs ys m a b p q = p ∙ sym q
-  one_text [] (r ∷ qs) z d h xs ys m a b p q = absurd z
-  one_text (r ∷ ps) [] z d h xs ys m a b p q = absurd z
-  one_text (r ∷ ps) (s ∷ qs) z d h xs ys m a b p q =
+  one_text : (ps qs : List Part) → AllZip IsRearranged ps qs → (d h k l : ℕ) (xs ys : List LogEntry) → Match xs ys → MarkAlike k l xs ys → (a b : List ℕ)
+      → IsPartsText c cs ps d h k xs a → IsPartsText c cs qs d h l ys b → a ≡ b
+  one_text [] [] z d h k l xs ys m e a b p q = p ∙ sym q
+  one_text [] (r ∷ qs) z d h k l xs ys m e a b p q = absurd z
+  one_text (r ∷ ps) [] z d h k l xs ys m e a b p q = absurd z
+  one_text (r ∷ ps) (s ∷ qs) z d h k l xs ys m e a b p q =
       let n : Match p.0 q.0 =
       followed r.events s.events xs ys p.0 q.0 (λ k. sum_by-IsPermutation (weight c cs k) r.events s.events z.0.events) m p.1 q.1 in
-      let other : IsEndText c cs r.ending d h q.0 (λ d h t. IsPartsText c cs qs d h q.0 t) b =
-      subst (λ (o : Option Item). IsEndText c cs o d h q.0 (λ d h t. IsPartsText c cs qs d h q.0 t) b) (sym z.0.ending) q.2 in
-      ends r.ending d h p.0 q.0 n (λ d h t. IsPartsText c cs ps d h p.0 t) (λ d h t. IsPartsText c cs qs d h q.0 t)
-      (λ d h a b u v. one_text ps qs z.1 d h p.0 q.0 n a b u v) a b p.2 other
+      let other : IsEndText c cs r.ending d h l q.0 (λ d h k t. IsPartsText c cs qs d h k q.0 t) b =
+      subst (λ (o : Option Item). IsEndText c cs o d h l q.0 (λ d h k t. IsPartsText c cs qs d h k q.0 t) b) (sym z.0.ending) q.2 in
+      ends r.ending d h k l p.0 q.0 n (still_alike r.events s.events xs ys p.0 q.0 k l e p.1 q.1) (λ d h k t. IsPartsText c cs ps d h k p.0 t) (λ d h k t. IsPartsText c cs qs d h k q.0 t)
+      (λ d h k l e a b u v. one_text ps qs z.1 d h k l p.0 q.0 n e a b u v) a b p.2 other
 
 pub rearranged_logs_have_one_text : RearrangedLogsHaveOneText
 rearranged_logs_have_one_text f xs ys a b r s z p q =
@@ -141,5 +188,5 @@ rearranged_logs_have_one_text f xs ys a b r s z p q =
     let cs : List (Chronicle (List ℕ)) = f.models.chronicles in
     let none : AreAccepted [] = record { distinct = tt; below = tt; read = tt } in
     let start : Match c cs [] [] = record { left = none; right = none; ties = λ z. refl } in
-    one_text c cs (parts_of (items_of xs)) (parts_of (items_of ys)) z 0 0 [] [] start a b
+    one_text c cs (parts_of (items_of xs)) (parts_of (items_of ys)) z 0 0 0 0 [] [] start (record { left = omega arith; right = omega arith; early = λ z. refl }) a b
     (parted_text c cs 1 (at_start f.texts) xs a r p) (parted_text c cs 1 (at_start f.texts) ys b s q)

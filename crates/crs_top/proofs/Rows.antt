@@ -1,6 +1,6 @@
 -- A log worked by hand, down to its settled entries, its recognitions and its text.
 use Rattle.std.proofs.lemmas.Int.{ints}
-use Rattle.std.proofs.Common.{lit<, get_or, ◌≡◌, ◌∙◌, ap, refl, inl, inr, ℕ, ℤ, pos, negsuc, zero, suc, ◌+ℤ◌, ◌≤ℤ◌, List, [], ◌∷◌, ◌++◌, length, None, Some, arith}
+use Rattle.std.proofs.Common.{lit<, false, get_or, ◌≡◌, ◌∙◌, ap, refl, inl, inr, ℕ, ℤ, pos, negsuc, zero, suc, ◌+ℤ◌, ◌≤ℤ◌, List, [], ◌∷◌, ◌++◌, length, None, Some, arith}
 use Rattle.std.specs.Prelude.{codes, slice_get}
 use Rattle.std.specs.Fmt.{digits}
 use Rattle.std.specs.List.{AllByRecursion, AllZip}
@@ -140,14 +140,14 @@ only look (x ∷ (y ∷ (z ∷ zs))) h g = absurd h.1.1
 same : (es : List LogEntry) (vs : List (List ℕ)) (fs : List LogEntry) (ws : List (List ℕ)) → es ≡ fs → vs ≡ ws → ◌≡◌ {A = Assignment (List ℕ)} (record { entries = es; values = vs }) (record { entries = fs; values = ws })
 same es vs fs ws e f = cc
 
-new : ListsNew model (record { settled = []; horizon = 0 }) (record { settled = both; horizon = 13 }) (assignment ∷ [])
+new : ListsNew model (record { settled = []; arrived = []; horizon = 0 }) (record { settled = both; arrived = both; horizon = 13 }) (assignment ∷ [])
 new = record {
   ascending = (tt, tt);
   each = ((recognised, λ r. r.assignment.given.0), tt);
   all = λ a h. inl (same a.entries a.values both [] (only (slice_get a.values) a.entries h.0.assignment.equal h.0.assignment.given) (no_values a.values h.0.assignment.bound));
 }
 
-text_of_a_mark : IsMarkText (model ∷ []) (Clock 13) (record { settled = []; horizon = 0 }) (record { settled = both; horizon = 13 }) (codes "c at 13 t1=10 t2=12" ++ lf)
+text_of_a_mark : IsMarkText (model ∷ []) (Clock 13) (record { settled = []; arrived = []; horizon = 0 }) (record { settled = both; arrived = both; horizon = 13 }) (codes "c at 13 t1=10 t2=12" ++ lf)
 unfolding digits
 text_of_a_mark = (assignment ∷ [], [], new, refl, refl)
 

@@ -1,6 +1,6 @@
 -- What a session stands for after each kind of item.
-use Rattle.std.proofs.Common.{◌≡◌, ◌≤◌, ℕ, ◌+◌, zero, suc, Bool, true, false, List, [], ◌∷◌, ◌++◌, map, length, refl, sym, ap, subst, ◌∙◌}
-use Rattle.std.proofs.Common.{arith, append-nil, true≢false, zero-add, Less}
+use Rattle.std.proofs.Common.{◌≡◌, ◌≢◌, ◌≤◌, ℕ, ◌+◌, zero, suc, Bool, true, false, List, [], ◌∷◌, ◌++◌, map, length, refl, sym, ap, subst, ◌∙◌}
+use Rattle.std.proofs.Common.{arith, append-nil, true≢false, zero-add, Less, cond, nat_lt}
 use Rattle.std.specs.Prelude.{slice_get, option_map, flat_map}
 use Rattle.std.specs.List.{AllByRecursion}
 use Rattle.std.specs.declared.rc.Rc.{Rc}
@@ -10,13 +10,16 @@ use Rattle.crs_model.specs.Seen.{chronicle_of}
 use Rattle.crs_base.specs.declared.symbols.Sym.{Sym}
 use Rattle.crs_base.specs.Entry.{Entry, entry_cmp}
 use Rattle.crs_base.specs.Words.{IsIn, Ordered}
-use Rattle.crs_base.proofs.Words.{each_from_in, in_from_each, in_map, in_map_back, ordered_map, in_append_left}
+use Rattle.crs_base.proofs.Words.{each_from_in, in_from_each, in_map, in_map_back, ordered_map, ordered_filter, in_filter, in_filter_back, in_append_left}
 use Rattle.crs_model.specs.declared.plan.Plan.{Plan}
 use Rattle.crs_model.specs.declared.plan.Plans.{Plans}
 use Rattle.crs_model.specs.declared.recognition.Mark.{Mark}
 use Rattle.crs_model.specs.declared.recognition.Recognition.{Recognition}
 use Rattle.crs_model.specs.Open.{before}
-use Rattle.crs_model.specs.Order.{dated_before, HaveSameMembers}
+use Rattle.crs_model.specs.Order.{dated_before, arrived, in_key_order, HaveSameMembers}
+use Rattle.crs_model.proofs.Ties.{ordered, ordered_members}
+use Rattle.crs_model.proofs.Unique.{same_members}
+use Rattle.crs_base.proofs.KeyOrder.{entry_total}
 use Rattle.crs_model.specs.Plans.{chronicle}
 use Rattle.crs_model.specs.Renaming.{text_in, renamed_entry, IsEntryOf}
 use Rattle.crs_model.proofs.Parted.{before_more, before_all, parted_members, settled_is, before_renamed}
@@ -47,6 +50,7 @@ noted f x s r = record {
   delay = r.delay;
   last = r.last;
   horizon = r.horizon;
+  marked = r.marked;
   count = r.count;
   most = r.most;
   few = r.few;
@@ -67,6 +71,7 @@ met f x s r = record {
   delay = r.delay;
   last = r.last;
   horizon = r.horizon;
+  marked = r.marked;
   count = r.count;
   most = r.most;
   few = r.few;
@@ -77,7 +82,7 @@ met f x s r = record {
 }
 
 stands_delayed : (e : EngineState) (d : ℕ) (settled waiting : List (Entry Sym)) → StandsFor e settled waiting → StandsFor (record e { delay = d }) settled waiting
-stands_delayed e d settled waiting h = record { settled_before = h.settled_before; waiting_after = h.waiting_after; in_order = h.in_order; numbered = h.numbered; held = h.held; history = h.history; far_back = h.far_back; stores = h.stores }
+stands_delayed e d settled waiting h = record { settled_before = h.settled_before; waiting_after = h.waiting_after; in_order = h.in_order; numbered = h.numbered; held = h.held; counted = h.counted; arrived_settled = h.arrived_settled; fresh_is = h.fresh_is; history = h.history; far_back = h.far_back; stores = h.stores }
 
 -- the delay is set, where nothing was accepted and no clock was taken
 pub delayed : (f : Frame) (x : Session) (s : State) (d : ℕ) → IsUnused x.engine → Represents f x s → Represents f (record x { engine = record x.engine { delay = d } }) (record s { delay = d })
@@ -98,6 +103,7 @@ delayed f x s d u r = record {
   delay = refl;
   last = r.last;
   horizon = r.horizon;
+  marked = r.marked;
   count = r.count;
   most = r.most;
   few = r.few;
@@ -132,6 +138,28 @@ module _ (e : EngineState) (texts : List (List ℕ)) (accepted : List LogEntry) 
   known_in : (es : List (Entry Sym)) → ((x : Entry Sym) → IsIn x es → IsIn x (n.settled ++ n.waiting)) → AllByRecursion (IsEntryOf (HasText texts)) es
   known_in es h = each_from_in (IsEntryOf (HasText texts)) es (λ x i. in_from_each (IsEntryOf (HasText texts)) (n.settled ++ n.waiting) n.known x (h x i))
 
+  arrived_renamed : (m : ℕ) (xs : List (Entry Sym)) → entries_in texts (arrived m xs) ≡ arrived m (entries_in texts xs)
+  arrived_renamed m [] = refl
+  arrived_renamed m (x ∷ xs) = by (nat_lt x.arrival m) (arrived_renamed m xs)
+    where
+      by : (b : Bool) → entries_in texts (arrived m xs) ≡ arrived m (entries_in texts xs) → entries_in texts (cond b (x ∷ arrived m xs) (arrived m xs)) ≡ cond b (renamed_entry (text_in texts) x ∷ arrived m (entries_in texts xs)) (arrived m (entries_in texts xs))
+      by true e = ap (λ (zs : List LogEntry). renamed_entry (text_in texts) x ∷ zs) e
+      by false e = e
+
+  -- what had arrived when so many were accepted
+  pub arrived_now : (m k : ℕ) → m ≡ k → entries_in texts (arrived k (n.settled ++ n.waiting)) ≡ in_key_order (arrived m accepted)
+  arrived_now m k q =
+      let all : List LogEntry = entries_in texts (n.settled ++ n.waiting) in
+      ap (λ (j : ℕ). entries_in texts (arrived j (n.settled ++ n.waiting))) (sym q) ∙ arrived_renamed m (n.settled ++ n.waiting)
+      ∙ same_members entry_total (arrived m all) (in_key_order (arrived m accepted))
+      (ordered_filter (λ a b. entry_cmp a b ≡ Less) (λ (e : LogEntry). nat_lt e.arrival m) all ascending)
+      (ordered (arrived m accepted) (ordered_filter (λ d e. d.arrival ≢ e.arrival) (λ (e : LogEntry). nat_lt e.arrival m) accepted n.distinct))
+      (λ x i. let f = in_filter_back (λ (e : LogEntry). nat_lt e.arrival m) all x i in (ordered_members (arrived m accepted)).back x (in_filter (λ (e : LogEntry). nat_lt e.arrival m) accepted x (n.members.there x f.0) f.1))
+      (λ x i. let f = in_filter_back (λ (e : LogEntry). nat_lt e.arrival m) accepted x ((ordered_members (arrived m accepted)).there x i) in in_filter (λ (e : LogEntry). nat_lt e.arrival m) all x (n.members.back x f.0) f.1)
+
+  pub known_arrived : (m : ℕ) → AllByRecursion (IsEntryOf (HasText texts)) (arrived m (n.settled ++ n.waiting))
+  known_arrived m = known_in (arrived m (n.settled ++ n.waiting)) (λ x i. (in_filter_back (λ (e : Entry Sym). nat_lt e.arrival m) (n.settled ++ n.waiting) x i).0)
+
   pub known_settled : AllByRecursion (IsEntryOf (HasText texts)) n.settled
   known_settled = known_in n.settled (λ x i. in_append_left n.settled n.waiting x i)
 
@@ -165,82 +193,109 @@ stand_from : (plans : Plans) (k : ℕ) → chronicle_at plans (0 + k) ≡ option
 stand_from plans k = ap (chronicle_at plans) (zero-add k) ∙ at_place plans.plans k
 
 module _ (f : Frame) (x : Session) (s : State) (r : Represents f x s) (new : EngineState) (mark : Mark) (answer : List Recognition) (h : ℕ)
-    (kept : new.plans ≡ x.engine.plans) (horizon : new.horizon ≡ h) (rises : x.engine.horizon ≤ h)
+    (kept : new.plans ≡ x.engine.plans) (horizon : new.horizon ≡ h) (rises : x.engine.horizon ≤ h) (told : new.marked ≡ x.engine.accepted)
     (after : AfterMark x.engine new mark r.entries.settled r.entries.waiting answer) where
   abbrev now : List (Entry Sym)
   now = r.entries.settled ++ before new.horizon r.entries.waiting
 
+  -- what had arrived, and what has arrived by now
+  abbrev had : List (Entry Sym)
+  had = arrived x.engine.marked (r.entries.settled ++ r.entries.waiting)
+
+  abbrev came : List (Entry Sym)
+  came = arrived new.marked (now ++ since new.horizon r.entries.waiting)
+
+  pub entries_then : HasEntries new x.symbols.texts s.accepted
+  entries_then = parted x.engine x.symbols.texts s.accepted r.entries new h horizon after.stands
+
+  count_then : length s.accepted ≡ new.marked
+  count_then = r.count ∙ sym told
+
+  known_now : AllByRecursion (IsEntryOf (HasText x.symbols.texts)) now
+  known_now = known_then x.engine x.symbols.texts s.accepted r.entries new.horizon
+
+  known_was : AllByRecursion (IsEntryOf (HasText x.symbols.texts)) r.entries.settled
+  known_was = known_settled x.engine x.symbols.texts s.accepted r.entries
+
+  known_came : AllByRecursion (IsEntryOf (HasText x.symbols.texts)) came
+  unfolding entries_then parted
+  known_came = known_arrived new x.symbols.texts s.accepted entries_then new.marked
+
+  -- it is what was accepted by the mark
+  came_is : entries_in x.symbols.texts came ≡ in_key_order (arrived (length s.accepted) s.accepted)
+  unfolding entries_then parted
+  came_is = arrived_now new x.symbols.texts s.accepted entries_then (length s.accepted) new.marked count_then
+
+  known_had : AllByRecursion (IsEntryOf (HasText x.symbols.texts)) had
+  known_had = known_arrived x.engine x.symbols.texts s.accepted r.entries x.engine.marked
+
   -- what is answered can be printed
   pub answer_printable : ArePrintable new.plans x.symbols.texts answer
   answer_printable = subst (λ (p : Plans). ArePrintable p x.symbols.texts answer) (sym kept)
-      (all_printable x.symbols.texts r.models.distinct x.engine.plans mark r.entries.settled now x.engine.horizon new.horizon
-      (known_then x.engine x.symbols.texts s.accepted r.entries new.horizon) (known_settled x.engine x.symbols.texts s.accepted r.entries)
+      (all_printable x.symbols.texts r.models.distinct x.engine.plans mark r.entries.settled had now came x.engine.horizon new.horizon known_now known_was known_came known_had
       (plans_of x.engine.plans) 0 answer (stand_from x.engine.plans) r.models.proper r.models.chronicles_in after.answers)
 
-  abbrev view : List LogEntry → ℕ → View
-  view settled horizon = record { settled = settled; horizon = horizon }
+  abbrev view : List LogEntry → List LogEntry → ℕ → View
+  view settled came horizon = record { settled = settled; arrived = came; horizon = horizon }
+
+  -- what recognition reads after the mark
+  abbrev view_then : View
+  view_then = view (dated_before h s.accepted) (in_key_order (arrived (length s.accepted) s.accepted)) h
 
   -- what holds with the symbols' texts holds of the frame's chronicles, and of the states' views
   with_views : (P : List (Chronicle (List ℕ)) → View → View → Type 0)
       → P (map (chronicle_in x.symbols.texts) (plans_of x.engine.plans))
-      (view (entries_in x.symbols.texts r.entries.settled) x.engine.horizon)
-      (view (entries_in x.symbols.texts now) new.horizon)
-      → P f.models.chronicles (view_of s) (view (dated_before h s.accepted) h)
+      (view (entries_in x.symbols.texts r.entries.settled) (entries_in x.symbols.texts had) x.engine.horizon)
+      (view (entries_in x.symbols.texts now) (entries_in x.symbols.texts came) new.horizon)
+      → P f.models.chronicles (view_of s) view_then
   with_views P raw =
-      let was : view (entries_in x.symbols.texts r.entries.settled) x.engine.horizon ≡ view_of s =
-      (λ i. view (settled_now x.engine x.symbols.texts s.accepted r.entries s.horizon r.horizon i) (sym r.horizon i)) in
+      let was : view (entries_in x.symbols.texts r.entries.settled) (entries_in x.symbols.texts had) x.engine.horizon ≡ view_of s =
+      (λ i. view (settled_now x.engine x.symbols.texts s.accepted r.entries s.horizon r.horizon i) (arrived_now x.engine x.symbols.texts s.accepted r.entries s.marked x.engine.marked r.marked i) (sym r.horizon i)) in
       let entries : entries_in x.symbols.texts now ≡ dated_before h s.accepted =
       ap (λ (k : ℕ). entries_in x.symbols.texts (r.entries.settled ++ before k r.entries.waiting)) horizon
       ∙ settled_then x.engine x.symbols.texts s.accepted r.entries h rises in
-      let then : view (entries_in x.symbols.texts now) new.horizon ≡ view (dated_before h s.accepted) h =
-      (λ i. view (entries i) (horizon i)) in
-      let a = subst (λ (cs : List (Chronicle (List ℕ))). P cs (view (entries_in x.symbols.texts r.entries.settled) x.engine.horizon)
-      (view (entries_in x.symbols.texts now) new.horizon)) (sym r.models.chronicles) raw in
-      let b = subst (λ (v : View). P f.models.chronicles v (view (entries_in x.symbols.texts now) new.horizon)) was a in
+      let then : view (entries_in x.symbols.texts now) (entries_in x.symbols.texts came) new.horizon ≡ view_then =
+      (λ i. view (entries i) (came_is i) (horizon i)) in
+      let a = subst (λ (cs : List (Chronicle (List ℕ))). P cs (view (entries_in x.symbols.texts r.entries.settled) (entries_in x.symbols.texts had) x.engine.horizon)
+      (view (entries_in x.symbols.texts now) (entries_in x.symbols.texts came) new.horizon)) (sym r.models.chronicles) raw in
+      let b = subst (λ (v : View). P f.models.chronicles v (view (entries_in x.symbols.texts now) (entries_in x.symbols.texts came) new.horizon)) was a in
       subst (λ (v : View). P f.models.chronicles (view_of s) v) then b
 
   -- its lines are the text of the mark
-  pub mark_text : IsMarkText f.models.chronicles mark (view_of s) (view (dated_before h s.accepted) h) (flat_map (line_in new.plans x.symbols.texts) answer)
+  pub mark_text : IsMarkText f.models.chronicles mark (view_of s) view_then (flat_map (line_in new.plans x.symbols.texts) answer)
   mark_text =
-      let raw = answer_text x.symbols.texts r.models.distinct x.engine.plans mark r.entries.settled now x.engine.horizon new.horizon
-      (known_then x.engine x.symbols.texts s.accepted r.entries new.horizon) (known_settled x.engine x.symbols.texts s.accepted r.entries)
+      let raw = answer_text x.symbols.texts r.models.distinct x.engine.plans mark r.entries.settled had now came x.engine.horizon new.horizon known_now known_was known_came known_had
       (plans_of x.engine.plans) 0 answer (stand_from x.engine.plans) r.models.proper r.models.chronicles_in after.answers in
       let text = flat_map (line_in x.engine.plans x.symbols.texts) answer in
       let c = with_views (λ cs was then. IsMarkText cs mark was then text) raw in
-      subst (λ (p : Plans). IsMarkText f.models.chronicles mark (view_of s) (view (dated_before h s.accepted) h) (flat_map (line_in p x.symbols.texts) answer)) (sym kept) c
+      subst (λ (p : Plans). IsMarkText f.models.chronicles mark (view_of s) view_then (flat_map (line_in p x.symbols.texts) answer)) (sym kept) c
 
   -- as many assignments are new as recognitions are answered
-  pub mark_new : AllNew f.models.chronicles (view_of s) (view (dated_before h s.accepted) h) (length answer)
+  pub mark_new : AllNew f.models.chronicles (view_of s) view_then (length answer)
   mark_new = with_views (λ cs was then. AllNew cs was then (length answer))
-      (answer_new x.symbols.texts r.models.distinct x.engine.plans mark r.entries.settled now x.engine.horizon new.horizon
-      (known_then x.engine x.symbols.texts s.accepted r.entries new.horizon) (known_settled x.engine x.symbols.texts s.accepted r.entries)
+      (answer_new x.symbols.texts r.models.distinct x.engine.plans mark r.entries.settled had now came x.engine.horizon new.horizon known_now known_was known_came known_had
       (plans_of x.engine.plans) 0 answer r.models.proper r.models.chronicles_in after.answers)
 
   -- what listeners are told of it, in which each recognition has an entry
-  pub mark_notices : AreMarkNotices 0 f.models.chronicles (view_of s) (view (dated_before h s.accepted) h) (map notice_of answer)
+  pub mark_notices : AreMarkNotices 0 f.models.chronicles (view_of s) view_then (map notice_of answer)
   mark_notices = with_views (λ cs was then. AreMarkNotices 0 cs was then (map notice_of answer))
-      (answer_notices x.symbols.texts r.models.distinct x.engine.plans mark r.entries.settled now x.engine.horizon new.horizon
-      (known_then x.engine x.symbols.texts s.accepted r.entries new.horizon) (known_settled x.engine x.symbols.texts s.accepted r.entries)
+      (answer_notices x.symbols.texts r.models.distinct x.engine.plans mark r.entries.settled had now came x.engine.horizon new.horizon known_now known_was known_came known_had
       (plans_of x.engine.plans) 0 answer r.models.proper r.models.chronicles_in after.answers)
 
   pub answer_filled : AllByRecursion HasEntry answer
   answer_filled =
-      all_filled x.symbols.texts r.models.distinct x.engine.plans mark r.entries.settled now x.engine.horizon new.horizon
-      (known_then x.engine x.symbols.texts s.accepted r.entries new.horizon) (known_settled x.engine x.symbols.texts s.accepted r.entries)
+      all_filled x.symbols.texts r.models.distinct x.engine.plans mark r.entries.settled had now came x.engine.horizon new.horizon known_now known_was known_came known_had
       (plans_of x.engine.plans) 0 answer r.models.proper after.answers
 
   -- the models and the entries after the mark
   pub models_then : HasModels f new.plans x.symbols
   models_then = subst (λ (p : Plans). HasModels f p x.symbols) (sym kept) r.models
 
-  pub entries_then : HasEntries new x.symbols.texts s.accepted
-  entries_then = parted x.engine x.symbols.texts s.accepted r.entries new h horizon after.stands
-
   -- the session stands for the state after the mark
   pub marked : (t : ℕ) (here there : Bool) (counts : Counts) → there ≡ here → HasMoved x.engine new t h → new.stopped ≡ false
-      → IsReached (record s { last = t; horizon = h; ended = there })
-      → IsPeaked new.focus f.models.chronicles (view (dated_before h s.accepted) h) counts.peak
-      → Represents f (record x { engine = new; ended = here; counts = counts }) (record s { last = t; horizon = h; ended = there })
+      → IsReached (record s { last = t; horizon = h; ended = there; marked = length s.accepted })
+      → IsPeaked new.focus f.models.chronicles view_then counts.peak
+      → Represents f (record x { engine = new; ended = here; counts = counts }) (record s { last = t; horizon = h; ended = there; marked = length s.accepted })
   marked t here there counts same m running reached peaked = record {
     models = models_then;
     entries = entries_then;
@@ -250,6 +305,7 @@ module _ (f : Frame) (x : Session) (s : State) (r : Represents f x s) (new : Eng
     delay = r.delay ∙ sym m.same_delay;
     last = sym m.clock;
     horizon = sym horizon;
+    marked = count_then;
     count = r.count ∙ sym m.same_count;
     most = m.same_limit ∙ r.most;
     few = r.few;

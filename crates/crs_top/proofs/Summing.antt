@@ -102,7 +102,7 @@ pub record HasBegun (f : Frame) (focus : Bool) (start : Counts) : Type 0 where
 pub begun_by : (f : Frame) (x : Session) → Represents f x (at_start f.texts) → IsUncounted x → HasBegun f x.engine.focus x.counts
 begun_by f x r u = record {
   first = held_by x.engine;
-  at_first = held_live f x.engine x.symbols (at_start f.texts) r.models r.entries r.horizon;
+  at_first = held_live f x.engine x.symbols (at_start f.texts) r.models r.entries r.horizon r.marked;
   counts = record { refused = u.refused; recognitions = u.recognitions; peak = u.peak };
 }
 
@@ -140,7 +140,7 @@ module _ (f : Frame) (log : List ℕ) (focus : Bool) (start : Counts) (begun : H
     at_first = begun.at_first;
     last = held_by y.engine;
     at_last = subst (λ (b : Bool). AllLive b f.models.chronicles (view_of (last_of f log)) (held_by y.engine)) takes.same_focus
-        (held_live f y.engine y.symbols (last_of f log) state_of.models state_of.entries state_of.horizon);
+        (held_live f y.engine y.symbols (last_of f log) state_of.models state_of.entries state_of.horizon state_of.marked);
     entries = ap capped (sym state_of.count);
     refused = counts_of.refused ∙ ap capped (zero-add takes.tally.refused);
     recognitions = counts_of.recognitions ∙ ap capped (zero-add takes.tally.recognitions);

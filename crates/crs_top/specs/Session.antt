@@ -78,6 +78,7 @@ pub record Represents (f : Frame) (x : Session) (s : State) : Type 0 where
   pub delay : s.delay ≡ x.engine.delay
   pub last : s.last ≡ x.engine.last
   pub horizon : s.horizon ≡ x.engine.horizon
+  pub marked : s.marked ≡ x.engine.marked
   pub count : length s.accepted ≡ x.engine.accepted
   pub most : x.engine.limit ≡ f.entries
   pub few : length s.accepted ≤ f.entries

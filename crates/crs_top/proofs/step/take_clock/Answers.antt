@@ -29,7 +29,7 @@ push_answer-requires g c =
     let m : HasMoved x.engine new c.args.t (c.args.t - s.delay) = subst (λ (d : ℕ). HasMoved x.engine new c.args.t (c.args.t - d)) (sym r.delay) c.in-Ok.ensures.moved in
     let fine = clock_fine x.engine c.args.t c.in-Ok.answer r.running c.in-Ok.ensures.refused in
     let rises = clock_rises f x s r new c.in-Ok.answer c.requires.met (still_running x.engine.stopped new.stopped c.in-Ok.answer r.running c.in-Ok.ensures.raised) c.args.t c.requires.open fine in
-    let p = answer_printable f x s r new _ c.in-Ok.answer (c.args.t - s.delay) m.same_plans (moved_forward x.engine new c.args.t (c.args.t - s.delay) m rises) rises
+    let p = answer_printable f x s r new _ c.in-Ok.answer (c.args.t - s.delay) m.same_plans (moved_forward x.engine new c.args.t (c.args.t - s.delay) m rises) rises m.marked
     (c.in-Ok.ensures.marked r.entries.settled r.entries.waiting r.entries.stands) in
     let y = c.count_mark.new.self in
     let q = subst (λ (z : Session). ArePrintable z.engine.plans z.symbols.texts c.in-Ok.answer) (sym c.count_mark.ensures) p in

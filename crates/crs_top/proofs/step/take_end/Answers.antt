@@ -25,7 +25,7 @@ push_answer-requires g c =
     let new = c.finish.new.self in
     let m = c.in-Ok.ensures.moved in
     let rises = end_rises f x s r new c.in-Ok.answer c.requires.met (still_running x.engine.stopped new.stopped c.in-Ok.answer r.running c.in-Ok.ensures.raised) c.requires.open in
-    let p = answer_printable f x s r new _ c.in-Ok.answer (2 ^ 42) m.same_plans (moved_forward x.engine new (2 ^ 42) (2 ^ 42) m rises) rises
+    let p = answer_printable f x s r new _ c.in-Ok.answer (2 ^ 42) m.same_plans (moved_forward x.engine new (2 ^ 42) (2 ^ 42) m rises) rises m.marked
     (c.in-Ok.ensures.marked r.entries.settled r.entries.waiting r.entries.stands) in
     let y = c.count_mark.new.self in
     let q = subst (λ (z : Session). ArePrintable z.engine.plans z.symbols.texts c.in-Ok.answer) (sym c.count_mark.ensures) p in
