@@ -51,6 +51,7 @@ impl Buffer {
 
     /// Puts an entry in at its place. No two entries of a log have equal keys, since their arrival
     /// numbers differ.
+    #[inline(always)]
     pub fn put(&mut self, entry: Rc<Entry>) -> Result<(), AllocError>
         ensures ok { IsNewKey (entry_of entry.value) self.old → OnOk result (self.new ≡ put_in_order (entry_of entry.value) self.old) }
         ensures err { OnErr result (self.new ≡ self.old) }

@@ -226,6 +226,7 @@ fn forks_of_event<L: Ledger>(
 
 /// Fills `out` with what comes of all instances where one of their awaited events is bound to the
 /// entry, judged at the date `until`.
+#[inline(always)]
 pub(crate) fn forks<L: Ledger>(
     alloc: Global,
     plan: &Plan,

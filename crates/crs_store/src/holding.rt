@@ -186,6 +186,7 @@ fn hold_hopeful(
 
 /// Adds the instances, which were judged at `h`, but for those that the entries ahead leave no hope
 /// where levels aren't read.
+#[inline(always)]
 pub(crate) fn hold_all(
     holding: &mut Holding,
     plan: &Plan,
@@ -246,6 +247,7 @@ fn settle_places(
 
 /// Takes in an entry: what it touches and what is due before its date is judged anew at its date,
 /// and what can't be recognised any more goes.
+#[inline(always)]
 pub(crate) fn follow(
     holding: &mut Holding,
     plan: &Plan,
