@@ -103,7 +103,6 @@ new_engine plans stores focus limit of proper reach limited past none ws e fs f 
       few = omega arith;
       limited = limited;
       not_late = omega arith;
-      behind = λ l. omega arith;
       in_order = subst (λ (t : List (Entry Sym)). IsInKeyOrder (t ++ ws)) (sym (ap (λ (h : HistoryState). h.entries) none)) (subst IsInKeyOrder (sym e) tt);
       reach = reach;
       small = small;

@@ -66,7 +66,6 @@ still_engine seen now is floor order dated least = record {
   few = is.few;
   limited = is.limited;
   not_late = is.not_late;
-  behind = is.behind;
   in_order = order seen.waiting is.in_order;
   reach = is.reach;
   small = is.small;

@@ -1,11 +1,11 @@
 -- What an engine stands for after a mark, and its answer.
-use Rattle.std.proofs.Common.{◌≡◌, ◌≢◌, ℕ, zero, suc, ◌<◌, ◌≤◌, ◌-◌, ◌^◌, List, [], ◌∷◌, ◌++◌, length, map, refl, sym, ap, subst, ◌∙◌, inl, inr, arith, append_assoc, append-nil, length-append, take, drop, Bool, true, not, nat_lt}
+use Rattle.std.proofs.Common.{◌≡◌, ◌≢◌, max, ℕ, zero, suc, ◌<◌, ◌≤◌, ◌-◌, ◌^◌, List, [], ◌∷◌, ◌++◌, length, map, refl, sym, ap, subst, ◌∙◌, inl, inr, arith, append_assoc, append-nil, length-append, take, drop, Bool, true, not, nat_lt}
 use Rattle.std.specs.List.{AllByRecursion, AllZip, list_any}
 use Rattle.std.proofs.lemmas.Bool.{true≢false, or_parts}
 use Rattle.std.specs.declared.cmp.Ordering.TheVariants.{Less}
 use Rattle.std.proofs.lemmas.List.{take_all}
 use Rattle.crs_history.proofs.FarBack.{far_later}
-use Rattle.std.proofs.Math.Nat.{max-eq_right}
+use Rattle.std.proofs.Math.Nat.{le-max_left, max-eq_right}
 use Rattle.crs_base.specs.declared.symbols.Sym.{Sym}
 use Rattle.crs_base.specs.Words.{IsIn, Ordered}
 use Rattle.crs_base.specs.Entry.{Entry, entry_cmp, IsInKeyOrder}
@@ -482,17 +482,16 @@ written_back olds news n e same =
 pub rest_waiting : (n : ℕ) (held rest : List (Entry Sym)) → AllByRecursion (IsWaiting n) held → IsRestOf held rest → AllByRecursion (IsWaiting n) rest
 rest_waiting n held rest h r = all_right (IsWaiting n) r.0 rest (subst (AllByRecursion (IsWaiting n)) r.1 h)
 
-pub engine_on : (seen : EngineState) (news : List StoreState) (now : HistoryState) (rest fresh : List (Entry Sym)) (t h m : ℕ) (stopped : Bool) → IsEngine seen → AreSameStores seen.stores news → IsRestOf seen.waiting rest → h ≤ 2 ^ 42 → (t < 2 ^ 40 → h ≤ t - seen.delay) →
+pub engine_on : (seen : EngineState) (news : List StoreState) (now : HistoryState) (rest fresh : List (Entry Sym)) (t h m : ℕ) (stopped : Bool) → IsEngine seen → AreSameStores seen.stores news → IsRestOf seen.waiting rest → h ≤ 2 ^ 42 →
     IsInKeyOrder (now.entries ++ rest) → now.floor ≡ seen.history.floor → (stopped ≡ false → AllByRecursion (λ x. x.date < h) now.entries) →
     seen.horizon ≤ h → AllByRecursion (λ x. h ≤ x.date) rest → (stopped ≡ false → fresh ≡ []) →
     IsEngine (record { plans = seen.plans; stores = news; history = now; waiting = rest; fresh = fresh; delay = seen.delay; last = t; horizon = h; accepted = seen.accepted; marked = m; limit = seen.limit; focus = seen.focus; stopped = stopped })
-engine_on seen news now rest fresh t h m stopped is same r low behind order floor settled later due none = record {
+engine_on seen news now rest fresh t h m stopped is same r low order floor settled later due none = record {
   stores = stores_same seen.focus (plans_of seen.plans) 0 seen.stores news is.stores same;
   waiting = rest_waiting seen.accepted seen.waiting rest is.waiting r;
   few = is.few;
   limited = is.limited;
   not_late = low;
-  behind = behind;
   in_order = order;
   reach = is.reach;
   small = is.small;
@@ -557,3 +556,16 @@ delayed seen old d view s w stands =
 -- the horizon moves where that is forward
 pub moved_forward : (old new : EngineState) (t h : ℕ) → HasMoved old new t h → old.horizon ≤ h → new.horizon ≡ h
 moved_forward old new t h m l = m.moved ∙ max-eq_right l
+
+-- a horizon that was there already stays
+pub moved_to : (old new : EngineState) (t h : ℕ) → HasMoved old new t h → HasMoved old new t (max old.horizon h)
+moved_to old new t h m = record {
+  same_plans = m.same_plans;
+  same_focus = m.same_focus;
+  same_limit = m.same_limit;
+  same_delay = m.same_delay;
+  same_count = m.same_count;
+  clock = m.clock;
+  moved = m.moved ∙ sym (max-eq_right (le-max_left old.horizon h));
+  marked = m.marked;
+}

@@ -127,7 +127,6 @@ pub record IsEngine (e : EngineState) : Type 0 where
   pub few : e.accepted ≤ e.limit
   pub limited : e.limit < 2 ^ 32
   pub not_late : e.horizon ≤ 2 ^ 42
-  pub behind : e.last < 2 ^ 40 → e.horizon ≤ e.last - e.delay
   pub in_order : IsInKeyOrder (e.history.entries ++ e.waiting)
   pub reach : IsReachOfAll (reaches_of e.plans) e.plans.reach
   pub small : IsSmallSpan e.plans.reach

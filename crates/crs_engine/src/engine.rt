@@ -141,11 +141,9 @@ impl Engine {
         &self.history
     }
 
-    /// How many ticks the horizon lags behind the clock.
+    /// How many ticks the horizon lags behind the clock, from the next clock on.
     pub fn set_delay(&mut self, d: u64)
         requires small { d < 2 ^ 40 }
-        requires none { self.old.accepted ≡ 0 }
-        requires no_clock { self.old.last ≡ 0 }
         ensures value { self.new ≡ record self.old { delay = d } }
         ensures stands { (settled : Items (LogEntry Sym)) (waiting : Items (LogEntry Sym)) → StandsFor self.old settled waiting → StandsFor self.new settled waiting }
     {
@@ -208,7 +206,8 @@ impl Engine {
         }
     }
 
-    /// Moves the clock on, and answers what is newly recognised, with this clock as the mark.
+    /// Moves the clock on, and answers what is newly recognised, with this clock as the mark. The
+    /// horizon is the delay before it, and stays where that would be earlier than it was.
     pub fn clock<L: Ledger>(
         &mut self,
         t: u64,
@@ -228,7 +227,7 @@ impl Engine {
         if t < self.last {
             return Err(Refused::Back { t, last: self.last });
         }
-        let h = t.saturating_sub(self.delay);
+        let h = self.horizon.max(t.saturating_sub(self.delay));
         self.mark(t, h, Mark::Clock(t), steps)
     }
 
@@ -260,7 +259,6 @@ impl Engine {
         requires running { self.old.stopped ≡ false }
         requires forward { self.old.horizon ≤ h }
         requires small { h ≤ 2 ^ 42 }
-        requires behind { t < 2 ^ 40 → h ≤ t - self.old.delay }
         ensures refused { (r : Refused) → result ≡ Err r → r ≡ Memory }
         ensures raised { IsTrue self.new.stopped ↔ (result ≡ Err Memory) }
         ensures moved { OnOk result (HasMoved self.old self.new t h) }
@@ -294,7 +292,6 @@ impl Engine {
         requires running { self.old.stopped ≡ false }
         requires forward { self.old.horizon ≤ h }
         requires small { h ≤ 2 ^ 42 }
-        requires behind { t < 2 ^ 40 → h ≤ t - self.old.delay }
         ensures refused { (r : Refused) → result ≡ Err r → r ≡ Memory }
         ensures raised { IsTrue self.new.stopped ↔ (result ≡ Err Memory) }
         ensures moved { OnOk result (HasMoved self.old self.new t h) }

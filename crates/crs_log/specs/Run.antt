@@ -1,5 +1,5 @@
 -- A run is a fold over the lines of a log.
-use Rattle.std.specs.Prelude.{ℕ, ◌+◌, ◌-◌, Bool, true, false, ◌&&◌, ◌||◌, nat_lt, nat_le, cond, List, [], ◌∷◌, ◌++◌, length}
+use Rattle.std.specs.Prelude.{ℕ, ◌+◌, ◌-◌, max, Bool, true, false, nat_lt, nat_le, cond, List, [], ◌∷◌, ◌++◌, length}
 use Rattle.crs_base.specs.Entry.{Entry}
 use Rattle.crs_base.specs.Lines.{Line, bytes_of, is_long}
 use Rattle.crs_base.specs.Symbols.{with_texts}
@@ -26,12 +26,11 @@ pub record State : Type 0 where
   pub horizon : ℕ
   pub accepted : List (Entry (List ℕ))
   pub marked : ℕ
-  pub met : Bool
   pub ended : Bool
 
 -- the known texts are those of the models
 abbrev pub at_start : List (List ℕ) → State
-at_start texts = record { texts = texts; delay = 0; last = 0; horizon = 0; accepted = []; marked = 0; met = false; ended = false }
+at_start texts = record { texts = texts; delay = 0; last = 0; horizon = 0; accepted = []; marked = 0; ended = false }
 
 pub data Fault : Type 0 where
   TooLong : Fault
@@ -55,19 +54,9 @@ pub data Outcome : Type 0 where
 abbrev pub end_date : ℕ
 end_date = 4398046511104
 
-abbrev pub is_delay : Item → Bool
-is_delay (Delay d) = true
-is_delay (Clock t) = false
-is_delay Finish = false
-is_delay (Happens e) = false
-
--- the item is a delay that isn't the first item, or stands behind the end
-abbrev pub is_out_of_order : State → Item → Bool
-is_out_of_order s item = s.ended || (is_delay item && s.met)
-
--- the horizon after `clock t`
-abbrev pub horizon_at : State → ℕ → ℕ
-horizon_at s t = t - s.delay
+-- the horizon after `clock t`, where it was h before: it never falls
+abbrev pub horizon_at : ℕ → ℕ → ℕ → ℕ
+horizon_at delay h t = max h (t - delay)
 
 abbrev pub with_entry : State → (Entry (List ℕ)) → Event → State
 with_entry s entry e = record s { texts = with_texts s.texts (texts_of e); accepted = s.accepted ++ entry ∷ [] }
@@ -88,18 +77,15 @@ after_verdict c s e BadArity = (s, Refused Arity)
 after_verdict c s e BadValue = (s, Refused Value)
 after_verdict c s e (Named place) = after_named c s e
 
--- an item that stands in order
+-- an item that doesn't stand behind the end
 abbrev pub after_ordered : Setting → State → Item → State × Outcome
 after_ordered c s (Delay d) = (record s { delay = d }, Passed)
-after_ordered c s (Clock t) = cond (nat_lt t s.last) (s, Refused (Back t s.last)) (record s { last = t; horizon = horizon_at s t; marked = length s.accepted }, Marked (AtClock t))
+after_ordered c s (Clock t) = cond (nat_lt t s.last) (s, Refused (Back t s.last)) (record s { last = t; horizon = horizon_at s.delay s.horizon t; marked = length s.accepted }, Marked (AtClock t))
 after_ordered c s Finish = (record s { last = end_date; horizon = end_date; ended = true; marked = length s.accepted }, Marked AtEnd)
 after_ordered c s (Happens e) = cond (nat_lt e.date s.horizon) (s, Refused (Late e.date s.horizon)) (after_verdict c s e (known_of c.names e))
 
-abbrev pub is_met : State → State
-is_met s = record s { met = true }
-
 abbrev pub after_item : Setting → State → Item → State × Outcome
-after_item c s item = cond (is_out_of_order s item) (is_met s, Refused Order) (after_ordered c (is_met s) item)
+after_item c s item = cond s.ended (s, Refused Order) (after_ordered c s item)
 
 -- what a line is, that isn't long
 abbrev pub after_what : Setting → State → What → State × Outcome

@@ -123,11 +123,14 @@ fn worked_logs(rt: HostRuntime) -> Result<(), Fail> {
 delay 2/12 b/10 a/clock 14/clock 15/|c at 15 t1=10 t2=12/
 1 a/3 b/end/|c at end t1=1 t2=3/
 1 a/2 a/4 b/clock 5/6 b/clock 7/|c at 5 t1=1 t2=4/c at 5 t1=2 t2=4/c at 7 t1=1 t2=6/c at 7 t1=2 t2=6/
+delay 2/10 a/clock 13/delay 9/12 b/clock 14/delay 0/clock 14/|c at 14 t1=10 t2=12/
 ";
     let refusals =
         "delay 2/10 a/12 b/clock 14/clock 15/12 b/13 b/clock 16/|c at 15 t1=10 t2=12/line 6 late 12 13/c at 16 t1=10 t2=13/
 clock 20/clock 19/clock 20/|line 2 back 19 20/
-1 a/delay 2/end/2 a/|line 2 order/line 4 order/
+1 a/delay 2/end/2 a/|line 4 order/
+end/delay 2/clock 3/end/|line 2 order/line 3 order/line 4 order/
+delay 2/10 a/clock 13/delay 9/10 b/|line 5 late 10 11/
 delay 1/10 a/11 b[x]/11 b/clock 13/|line 3 arity/c at 13 t1=10 t2=11/
 ";
     for piece in [1, 4096] {

@@ -142,19 +142,19 @@ module _ (f : Frame) (x : Session) (s : State) (r : Represents f x s) (e : Event
       λ i. cond (room_is i) (cond (big i) (with_entry s (entry_of_event (length s.accepted) e) e, Accepted (entry_of_event (length s.accepted) e)) (s, Refused (run.Values (lim i)))) (s, Refused (run.Full f.entries))
 
   -- the event is accepted
-  pub accept_brings : x.met ≡ true → x.engine.horizon ≤ e.date → (n : ℕ) (new : EngineState) (table : Table) (en : CodeEntry) (out : Written)
+  pub accept_brings : x.engine.horizon ≤ e.date → (n : ℕ) (new : EngineState) (table : Table) (en : CodeEntry) (out : Written)
       → HasAccepted x.engine new → new.stopped ≡ false → table.texts ≡ with_texts x.symbols.texts (texts_of e) → table.limit ≡ x.symbols.limit
       → length x.symbols.texts + length (new_texts x.symbols.texts (texts_of e)) ≤ x.symbols.limit
       → entry_seen table.texts en ≡ entry_of_event x.engine.accepted e → IsEntryIn table.texts en
       → StandsFor new r.entries.settled (put_in_order (entry_of en) r.entries.waiting)
       → Brings f x.engine.focus x.counts (record x { engine = new; symbols = table }) n (view_of s) (after_named (setting_of f) s e) out out
-  accept_brings was_met due n new table en out a running texts limit fits seen known st =
+  accept_brings due n new table en out a running texts limit fits seen known st =
       let small : nat_le (length s.texts + length (new_texts s.texts (texts_of e))) f.symbols ≡ true = grind (arith, new_is, r.models.limit) in
       let taken : State × Outcome = (with_entry s (entry_of_event (length s.accepted) e) e, Accepted (entry_of_event (length s.accepted) e)) in
       let is : taken ≡ after_named (setting_of f) s e =
       (λ i. cond (sym room_is i) (cond (sym small i) taken (s, Refused (run.Values f.symbols))) (s, Refused (run.Full f.entries))) in
       subst (λ (b : State × Outcome). Brings f x.engine.focus x.counts (record x { engine = new; symbols = table }) n (view_of s) b out out) is (record {
-        state = accepted f x s r was_met has_room e due new table en a running texts limit seen known st;
+        state = accepted f x s r has_room e due new table en a running texts limit seen known st;
         same_focus = a.same_focus;
         text = [];
         says = refl;

@@ -1,6 +1,6 @@
 -- What a session stands for once an entry is accepted.
 use Rattle.std.proofs.Common.{◌≡◌, ◌≢◌, ◌<◌, ◌≤◌, nat_lt, filter, ℕ, ◌+◌, zero, suc, Bool, true, false, cond, List, [], ◌∷◌, ◌++◌, map}
-use Rattle.std.proofs.Common.{length, refl, sym, ap, subst, ◌∙◌, arith, append-nil, append_assoc, inl, inr, true≢false, get_or}
+use Rattle.std.proofs.Common.{length, refl, sym, ap, subst, ◌∙◌, arith, append-nil, append_assoc, inl, inr, get_or}
 use Rattle.std.proofs.Common.{length-append}
 use Rattle.std.specs.Prelude.{Some, None}
 use Rattle.std.specs.List.{AllByRecursion}
@@ -184,13 +184,13 @@ view_stays f x s r e due =
     }
 
 -- what a session stands for once the entry of an event is accepted
-pub accepted : (f : Frame) (x : Session) (s : State) (r : Represents f x s) → x.met ≡ true → length s.accepted < f.entries → (e : Event)
+pub accepted : (f : Frame) (x : Session) (s : State) (r : Represents f x s) → length s.accepted < f.entries → (e : Event)
     → x.engine.horizon ≤ e.date → (new : EngineState) (table : Table) (en : CodeEntry)
     → HasAccepted x.engine new → new.stopped ≡ false → table.texts ≡ with_texts x.symbols.texts (texts_of e) → table.limit ≡ x.symbols.limit
     → entry_seen table.texts en ≡ entry_of_event x.engine.accepted e → IsEntryIn table.texts en
     → StandsFor new r.entries.settled (put_in_order (entry_of en) r.entries.waiting)
     → Represents f (record x { engine = new; symbols = table }) (with_entry s (entry_of_event (length s.accepted) e) e)
-accepted f x s r was_met room e due new table en a running texts limit seen known st =
+accepted f x s r room e due new table en a running texts limit seen known st =
     let g = texts_grow x.symbols.texts (texts_of e) in
     let now : table.texts ≡ x.symbols.texts ++ g.0 = texts ∙ g.1 in
     let is : entry_seen (x.symbols.texts ++ g.0) en ≡ entry_of_event (length s.accepted) e = ap (λ (t : List (List ℕ)). entry_seen t en) (sym now) ∙ seen ∙ ap (λ n. entry_of_event n e) (sym r.count) in
@@ -203,7 +203,7 @@ accepted f x s r was_met room e due new table en a running texts limit seen know
     record {
       models = subst (λ (p : Plans). HasModels f p table) (sym a.same_plans) (subst (HasModels f x.engine.plans) table_is models);
       entries = subst (λ (t : List (List ℕ)). HasEntries new t (s.accepted ++ entry_of_event (length s.accepted) e ∷ [])) (sym now) entries;
-      reached = record { fresh = λ q. absurd (true≢false (sym (r.met ∙ was_met) ∙ q)); open_horizon = r.reached.open_horizon; open_last = r.reached.open_last };
+      reached = r.reached;
       running = running;
       texts = ap (λ (t : List (List ℕ)). with_texts t (texts_of e)) r.texts ∙ sym texts;
       delay = r.delay ∙ sym a.same_delay;
@@ -214,7 +214,6 @@ accepted f x s r was_met room e due new table en a running texts limit seen know
       most = a.same_limit ∙ r.most;
       few = omega (arith, length-append s.accepted (entry_of_event (length s.accepted) e ∷ []));
       most_here = r.most_here;
-      met = r.met;
       ended = r.ended;
       peaked = subst (λ (b : Bool). IsPeaked b f.models.chronicles (view_of (with_entry s (entry_of_event (length s.accepted) e) e)) x.counts.peak)
           (sym a.same_focus)

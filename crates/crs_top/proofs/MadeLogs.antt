@@ -1,11 +1,12 @@
 -- At the limits of the program no line of a made log is refused.
-use Rattle.std.proofs.Common.{◌≡◌, ◌∙◌, ap, sym, refl, subst, ℕ, zero, suc, ◌+◌, ◌-◌, ◌*◌, ◌%◌, ◌<◌, ◌≤◌, ◌^◌, ◌==◌, ◌&&◌, ◌||◌, Bool, true, false}
+use Rattle.std.proofs.Common.{◌≡◌, ◌∙◌, ap, sym, refl, subst, ℕ, zero, suc, ◌+◌, ◌-◌, ◌*◌, ◌%◌, ◌<◌, ◌≤◌, ◌^◌, ◌==◌, ◌||◌, Bool, true, false}
 use Rattle.std.proofs.Common.{cond, List, [], ◌∷◌, ◌++◌, length, Some, None, Ok, Err, Result, arith, append_assoc, length-append, lt-ltb}
 use Rattle.std.specs.Prelude.{codes, decimal}
 use Rattle.std.specs.Fmt.{digits}
 use Rattle.std.specs.List.{list_any}
 use Rattle.std.specs.Option.{option_and_then}
 use Rattle.std.proofs.lemmas.Bool.{le-leb, le-ltb}
+use Rattle.std.proofs.Math.Nat.{max-le}
 use Rattle.crs_base.specs.Lines.{lines_of}
 use Rattle.crs_base.specs.Symbols.{is_known, with_texts}
 use Rattle.crs_base.specs.Tokens.{Token, Word, Mark}
@@ -20,7 +21,7 @@ use Rattle.crs_log.proofs.ItemLaw.{item_again}
 use Rattle.crs_log.specs.ItemOf.{Empty, what_of, what_is}
 use Rattle.crs_log.specs.Items.{Event, Item, Clock, Finish, Happens, IsStatement, log_number_of, in_dates}
 use Rattle.crs_log.specs.Known.{Named, known_of, new_texts, entry_of_event}
-use Rattle.crs_log.specs.Run.{Setting, State, Outcome, Accepted, Marked, Refused, TooLong, Order, Back, Late, Full, Values, at_start, with_entry, after_line, after_item, after_what, after_ordered, after_verdict, is_met, outcomes}
+use Rattle.crs_log.specs.Run.{Setting, State, Outcome, Accepted, Marked, Refused, TooLong, Order, Back, Late, Full, Values, at_start, with_entry, after_line, after_item, after_what, after_ordered, after_verdict, horizon_at, outcomes}
 use Rattle.crs_model.specs.declared.recognition.Mark.TheVariants.{Clock as AtClock}
 use Rattle.crs_model.specs.Models.{Models, Name, Message}
 use Rattle.crs_parse.specs.Faults.{Fault}
@@ -170,7 +171,6 @@ module _ (c : Setting) (room : IsRoomy c) where
   module _ (k base : ℕ) (s : State) (o : IsOn k base s) (few : k < 1000001) where
     entry_goes : (date kind unit : ℕ) → base - 8 ≤ date → kind < 8 → Goes (k + 1) base (after_item c s (Happens (made_event date kind unit)))
     entry_goes date kind unit due low =
-        let met = is_met s in
         let e = made_event date kind unit in
         let unit_text = 117 ∷ decimal unit in
         let entry = entry_of_event (length s.accepted) e in
@@ -179,12 +179,12 @@ module _ (c : Setting) (room : IsRoomy c) where
         let late : s.horizon ≤ date = omega (arith, o.horizon, due) in
         let full : length s.accepted < c.entries = omega (arith, o.accepted, room.entries, few) in
         let fits : length s.texts + length (new_texts s.texts (unit_text ∷ [])) ≤ c.symbols = omega (arith, new, o.texts, room.symbols, few) in
-        let all : after_item c s (Happens e) ≡ (with_entry met entry e, Accepted entry) =
-        (λ i. cond (o.open_still i || (false && s.met)) (met, Refused Order) (after_ordered c met (Happens e)))
-        ∙ (λ i. cond (le-ltb date s.horizon late i) (met, Refused (Late date s.horizon)) (after_verdict c met e (known i)))
+        let all : after_item c s (Happens e) ≡ (with_entry s entry e, Accepted entry) =
+        (λ i. cond (o.open_still i) (s, Refused Order) (after_ordered c s (Happens e)))
+        ∙ (λ i. cond (le-ltb date s.horizon late i) (s, Refused (Late date s.horizon)) (after_verdict c s e (known i)))
         ∙ (λ i. cond (lt-ltb (length s.accepted) c.entries full i)
-        (cond (le-leb (length s.texts + length (new_texts s.texts (unit_text ∷ []))) c.symbols fits i) (with_entry met entry e, Accepted entry) (met, Refused (Values c.symbols)))
-        (met, Refused (Full c.entries))) in
+        (cond (le-leb (length s.texts + length (new_texts s.texts (unit_text ∷ []))) c.symbols fits i) (with_entry s entry e, Accepted entry) (s, Refused (Values c.symbols)))
+        (s, Refused (Full c.entries))) in
         subst (Goes (k + 1) base) (sym all) (record {
           fine = refl;
           on = record {
@@ -199,17 +199,17 @@ module _ (c : Setting) (room : IsRoomy c) where
 
     clock_goes : Goes k base (after_item c s (Clock base))
     clock_goes =
-        let met = is_met s in
-        let all : after_item c s (Clock base) ≡ (record met { last = base; horizon = base - s.delay; marked = length s.accepted }, Marked (AtClock base)) =
-        (λ i. cond (o.open_still i || (false && s.met)) (met, Refused Order) (after_ordered c met (Clock base)))
-        ∙ (λ i. cond (le-ltb base s.last o.last i) (met, Refused (Back base s.last)) (record met { last = base; horizon = base - s.delay; marked = length s.accepted }, Marked (AtClock base))) in
+        let now : State = record s { last = base; horizon = horizon_at s.delay s.horizon base; marked = length s.accepted } in
+        let all : after_item c s (Clock base) ≡ (now, Marked (AtClock base)) =
+        (λ i. cond (o.open_still i) (s, Refused Order) (after_ordered c s (Clock base)))
+        ∙ (λ i. cond (le-ltb base s.last o.last i) (s, Refused (Back base s.last)) (now, Marked (AtClock base))) in
         subst (Goes k base) (sym all) (record {
           fine = refl;
           on = record {
             open_still = o.open_still;
             delay = o.delay;
             last = omega arith;
-            horizon = omega (arith, o.delay);
+            horizon = max-le o.horizon (let low : base - s.delay ≤ base - 8 = omega (arith, o.delay) in low);
             accepted = o.accepted;
             texts = o.texts;
           };
@@ -236,7 +236,7 @@ module _ (c : Setting) (room : IsRoomy c) where
 
   end_fine : (s : State) (k base : ℕ) → IsOn k base s → AreFine s (codes "end\n")
   end_fine s k base o =
-      ap (λ b. list_any is_refused ((cond (b || (false && s.met)) (is_met s, Refused Order) (after_ordered c (is_met s) Finish)).1 ∷ [])) o.open_still
+      ap (λ b. list_any is_refused ((cond b (s, Refused Order) (after_ordered c s Finish)).1 ∷ [])) o.open_still
 
 -- ---- the made log
 
@@ -277,6 +277,6 @@ none_refused f seed lines few a =
     let symbols = a.symbols_are in
     let entries = a.entries_are in
     let room : IsRoomy (setting_of f) = record { names = names; symbols = omega (arith, symbols); entries = omega (arith, entries) } in
-    made_fine (setting_of f) room lines 0 (first_state seed) (record (is_met (at_start f.texts)) { delay = 8 }) (stages_none 64)
+    made_fine (setting_of f) room lines 0 (first_state seed) (record (at_start f.texts) { delay = 8 }) (stages_none 64)
     (record { open_still = refl; delay = refl; last = omega arith; horizon = omega arith; accepted = omega arith; texts = omega (arith, texts) })
     (omega (arith, few)) (omega arith)

@@ -1,6 +1,7 @@
 -- What an accepted `clock` and an accepted `end` bring.
 use Rattle.std.proofs.Common.{◌≡◌, ◌<◌, ◌≤◌, ◌^◌, ◌-◌, ℕ, Bool, true, false, cond, List, length, nat_lt, refl, sym, ap, subst, ◌∙◌}
-use Rattle.std.proofs.Common.{arith, Ok, Err, true≢false}
+use Rattle.std.proofs.Common.{arith, Ok, Err, true≢false, le_refl}
+use Rattle.std.proofs.Math.Nat.{le-max_left, max-le}
 use Rattle.std.specs.Prelude.{Some, None, IsSome, OnOk, Result, flat_map, IsTrue, ◌↔◌, ◌⊎◌}
 use Rattle.std.proofs.Common.{inl, inr}
 use Rattle.crs_model.specs.declared.recognition.Recognition.{Recognition}
@@ -8,18 +9,17 @@ use Rattle.crs_model.specs.declared.recognition.Mark.{Mark}
 use Rattle.crs_model.specs.declared.recognition.Mark.TheVariants.{Clock, Finish}
 use Rattle.crs_engine.specs.Engines.{EngineState, HasMoved, kept_of}
 use Rattle.crs_engine.specs.Marks.{AfterMark}
-use Rattle.crs_engine.proofs.Marking.{moved_forward}
+use Rattle.crs_engine.proofs.Marking.{moved_forward, moved_to}
 use Rattle.crs_engine.specs.Refusals.{clock_refusal, IsRefusedAs}
 use Rattle.crs_engine.specs.declared.refused.Refused.{Refused}
 use Rattle.crs_engine.specs.declared.refused.Refused.TheVariants.{Stopped, Back, Memory}
-use Rattle.std.proofs.lemmas.Bool.{ltb-false}
 use Rattle.std.specs.Prelude.{if◌then◌else◌}
 use Rattle.crs_log.specs.Items as items
 use Rattle.crs_log.specs.Run as run
 use Rattle.crs_log.specs.Run.{State, Outcome, Marked, after_ordered, horizon_at, end_date}
 use Rattle.crs_log.specs.Recognitions.{view_of}
 use Rattle.crs_top.specs.declared.session.Session.{Session}
-use Rattle.crs_top.specs.Session.{IsReached, Represents, Brings, BringsAll, line_in}
+use Rattle.crs_top.specs.Session.{Represents, Brings, BringsAll, line_in}
 use Rattle.crs_top.specs.declared.session.Counts.{Counts}
 use Rattle.crs_top.specs.Tallies.{AllLive, with_mark, with_refused}
 use Rattle.crs_top.specs.Texts.{Frame, setting_of, fault_of}
@@ -62,18 +62,22 @@ still_running old true answer e h = elim (h.0 refl) [ inl k ↦ absurd (true≢f
     not_memory : {A : Type 0} (answer : A) → Ok answer ≡ Err Memory → ⊥
     not_memory answer k = cc
 
-module _ (f : Frame) (x : Session) (s : State) (r : Represents f x s) (new : EngineState) (answer : List Recognition) (met : x.met ≡ true) (going : new.stopped ≡ false) where
-  reached_met : (t h : ℕ) (ended : Bool) → (ended ≡ false → h ≡ t - s.delay) → (ended ≡ false → t < 2 ^ 40) → IsReached (record s { last = t; horizon = h; ended = ended; marked = length s.accepted })
-  reached_met t h ended a b = record { fresh = λ q. absurd (true≢false (sym (r.met ∙ met) ∙ q)); open_horizon = a; open_last = b }
+module _ (f : Frame) (x : Session) (s : State) (r : Represents f x s) where
+  -- the horizon is that of the run
+  pub clock_moved : (new : EngineState) (t : ℕ) → HasMoved x.engine new t (t - x.engine.delay)
+      → HasMoved x.engine new t (horizon_at s.delay s.horizon t)
+  clock_moved new t m =
+      subst (λ (d : ℕ). HasMoved x.engine new t (horizon_at d s.horizon t)) (sym r.delay)
+      (subst (λ (h : ℕ). HasMoved x.engine new t (horizon_at x.engine.delay h t)) (sym r.horizon) (moved_to x.engine new t (t - x.engine.delay) m))
 
   -- the new horizon isn't before the old one
-  pub clock_rises : (t : ℕ) → x.ended ≡ false → nat_lt t x.engine.last ≡ false → x.engine.horizon ≤ t - s.delay
-  clock_rises t open_ fine = let h = r.reached.open_horizon (r.ended ∙ open_) in let l : x.engine.last ≤ t = ltb-false t x.engine.last fine in omega (arith, r.horizon, r.last)
+  pub clock_rises : (t : ℕ) → x.engine.horizon ≤ horizon_at s.delay s.horizon t
+  clock_rises t = subst (λ (h : ℕ). h ≤ horizon_at s.delay s.horizon t) r.horizon (le-max_left s.horizon (t - s.delay))
 
-  pub end_rises : x.ended ≡ false → x.engine.horizon ≤ 2 ^ 42
-  end_rises open_ = let h = r.reached.open_horizon (r.ended ∙ open_) in let l = r.reached.open_last (r.ended ∙ open_) in omega (arith, r.horizon)
+  pub end_rises : x.engine.horizon ≤ 2 ^ 42
+  end_rises = subst (λ (h : ℕ). h ≤ 2 ^ 42) r.horizon r.reached
 
-module _ (f : Frame) (x : Session) (s : State) (r : Represents f x s) (new : EngineState) (answer : List Recognition) (met : x.met ≡ true)
+module _ (f : Frame) (x : Session) (s : State) (r : Represents f x s) (new : EngineState) (answer : List Recognition)
     (going : new.stopped ≡ false) where
   -- what is held after the mark lives then
   mark_live : (mark : Mark) (t h : ℕ) (ended : Bool) → HasMoved x.engine new t h → x.engine.horizon ≤ h
@@ -92,7 +96,7 @@ module _ (f : Frame) (x : Session) (s : State) (r : Represents f x s) (new : Eng
   mark_brings : (mark : Mark) (t h : ℕ) (here there : Bool) (n : ℕ) (out more : Written) → there ≡ here → HasMoved x.engine new t h
       → x.engine.horizon ≤ h
       → AfterMark x.engine new mark r.entries.settled r.entries.waiting answer
-      → IsReached (record s { last = t; horizon = h; ended = there; marked = length s.accepted })
+      → h ≤ end_date
       → more ≡ with_answer out (flat_map (line_in new.plans x.symbols.texts) answer) answer
       → Brings f x.engine.focus x.counts (record x { engine = new; ended = here; counts = counts_then }) n (view_of s)
       (record s { last = t; horizon = h; ended = there; marked = length s.accepted }, Marked mark) out more
@@ -119,28 +123,26 @@ module _ (f : Frame) (x : Session) (s : State) (r : Represents f x s) (new : Eng
       }
 
   -- a clock brings its mark
-  pub clock_brings : (t n : ℕ) (out more : Written) → x.ended ≡ false → t < 2 ^ 40 → nat_lt t x.engine.last ≡ false → HasMoved x.engine new t (t - x.engine.delay)
+  pub clock_brings : (t n : ℕ) (out more : Written) → t < 2 ^ 40 → nat_lt t x.engine.last ≡ false → HasMoved x.engine new t (t - x.engine.delay)
       → AfterMark x.engine new (Clock t) r.entries.settled r.entries.waiting answer → more ≡ with_answer out (flat_map (line_in new.plans x.symbols.texts) answer) answer
       → Brings f x.engine.focus x.counts (record x { engine = new; counts = counts_then }) n (view_of s)
       (after_ordered (setting_of f) s (items.Clock t)) out more
-  clock_brings t n out more open_ small fine m after written =
-      let m' : HasMoved x.engine new t (t - s.delay) = subst (λ (d : ℕ). HasMoved x.engine new t (t - d)) (sym r.delay) m in
-      let now : State = record s { last = t; horizon = t - s.delay; marked = length s.accepted } in
+  clock_brings t n out more small fine m after written =
+      let h : ℕ = horizon_at s.delay s.horizon t in
+      let now : State = record s { last = t; horizon = h; marked = length s.accepted } in
       let is : (now, Marked (Clock t)) ≡ after_ordered (setting_of f) s (items.Clock t) =
       (λ i. cond (sym (ap (nat_lt t) r.last ∙ fine) i) (s, run.Refused (run.Back t s.last)) (now, Marked (Clock t))) in
       subst (λ (a : State × Outcome). Brings f x.engine.focus x.counts (record x { engine = new; counts = counts_then }) n (view_of s) a out more) is
-      (mark_brings (Clock t) t (t - s.delay) x.ended s.ended n out more r.ended m'
-      (clock_rises f x s r new answer met going t open_ fine) after
-      (reached_met f x s r new answer met going t (t - s.delay) s.ended (λ q. refl) (λ q. small)) written)
+      (mark_brings (Clock t) t h x.ended s.ended n out more r.ended (clock_moved f x s r new t m) (clock_rises f x s r t) after
+      (max-le r.reached (let low : t - s.delay ≤ end_date = omega (arith, small) in low)) written)
 
   -- an end brings its mark
-  pub end_brings : (n : ℕ) (out more : Written) → x.ended ≡ false → HasMoved x.engine new (2 ^ 42) (2 ^ 42)
+  pub end_brings : (n : ℕ) (out more : Written) → HasMoved x.engine new (2 ^ 42) (2 ^ 42)
       → AfterMark x.engine new Finish r.entries.settled r.entries.waiting answer → more ≡ with_answer out (flat_map (line_in new.plans x.symbols.texts) answer) answer
       → Brings f x.engine.focus x.counts (record x { engine = new; ended = true; counts = counts_then }) n (view_of s)
       (after_ordered (setting_of f) s items.Finish) out more
-  end_brings n out more open_ m after written =
-      mark_brings Finish (2 ^ 42) (2 ^ 42) true true n out more refl m (end_rises f x s r new answer met going open_) after
-      (reached_met f x s r new answer met going (2 ^ 42) (2 ^ 42) true (λ q. absurd (true≢false q)) (λ q. absurd (true≢false q))) written
+  end_brings n out more m after written =
+      mark_brings Finish (2 ^ 42) (2 ^ 42) true true n out more refl m (end_rises f x s r) after (le_refl end_date) written
 
 -- a clock before the last is refused
 pub back_brings : {A E : Type 0} (result : Result A E) (x : Session) (e : EngineState) (y : Session) (t n a b : ℕ) (out more : Written)
@@ -158,4 +160,4 @@ back_brings result x e y t n a b out more running refused same written counted =
     (λ f s r.
     let is : nat_lt t s.last ≡ true = ap (nat_lt t) r.last ∙ k.0 in
     λ i. cond (is i) (s, run.Refused (run.Back (sym k.1 i) ((r.last ∙ sym k.2) i)))
-    (record s { last = t; horizon = horizon_at s t; marked = length s.accepted }, Marked (Clock t)))
+    (record s { last = t; horizon = horizon_at s.delay s.horizon t; marked = length s.accepted }, Marked (Clock t)))

@@ -9,7 +9,7 @@ use Rattle.crs_base.specs.Entry.{Key}
 use Rattle.crs_base.specs.Lines.{Line, bytes_of, is_long}
 use Rattle.crs_base.proofs.Words.{each_from_in, in_from_each, in_append, ordered_append}
 use Rattle.crs_model.specs.declared.recognition.Mark.{Mark}
-use Rattle.crs_model.specs.declared.recognition.Mark.TheVariants.{Clock as AtClock, Finish as AtEnd}
+use Rattle.crs_model.specs.declared.recognition.Mark.TheVariants as marks
 use Rattle.crs_model.specs.Models.{Chronicle}
 use Rattle.crs_model.specs.Matching.{AreDistinct}
 use Rattle.crs_model.specs.Order.{dated_before, arrived, in_key_order}
@@ -20,12 +20,12 @@ use Rattle.crs_log.specs.ItemOf.{What, Empty, Is, Faulty, what_of, what_is, item
 use Rattle.crs_base.specs.Lines.{is_passed_over}
 use Rattle.crs_log.specs.Known.{Verdict, Other, Named, BadArity, BadValue, known_of, entry_of_event, texts_of, new_texts}
 use Rattle.crs_log.specs.Run as run
-use Rattle.crs_log.specs.Run.{Setting, State, Outcome, Passed, Refused, Accepted, Marked, is_met, is_out_of_order, after_line, after_what}
-use Rattle.crs_log.specs.Run.{after_item, after_ordered, after_verdict, after_named, outcomes, end_date, with_entry}
+use Rattle.crs_log.specs.Run.{Setting, State, Outcome, Refused, Accepted, Marked, horizon_at, after_line, after_what}
+use Rattle.crs_log.specs.Run.{after_ordered, after_verdict, after_named, outcomes, end_date, with_entry}
 use Rattle.crs_log.specs.Recognitions.{View}
 use Rattle.crs_log.proofs.Canonicals.{IsOfSymbols, read_of_symbols}
 use Rattle.crs_top.specs.Texts.{LogEntry, IsMarkText, IsLineText, IsTextFrom, is_refused}
-use Rattle.crs_top.specs.Rearranged.{Part, items_in, items_of, led_by, parts_of}
+use Rattle.crs_top.specs.Rearranged.{Part, Ending, AtClock, AtEnd, items_in, items_of, led_by, parts_of}
 
 -- the entry is that of an event that was read
 abbrev pub IsRead : LogEntry → Type 0
@@ -64,18 +64,16 @@ module _ (c : Setting) (cs : List (Chronicle (List ℕ))) where
   IsMarkedText mark g h k xs Rest text =
       (first : List ℕ) × (rest : List ℕ) × IsMarkText cs mark (view k g xs) (view (length xs) h xs) first × Rest rest × (text ≡ first ++ rest)
 
-  -- what is written for the item behind the events, and for the rest, by its delay, its horizon, and how many had been accepted by the last mark
-  abbrev pub IsEndText : Option Item → ℕ → ℕ → ℕ → List LogEntry → (ℕ → ℕ → ℕ → List ℕ → Type 0) → List ℕ → Type 0
-  IsEndText None d h k xs Rest text = text ≡ []
-  IsEndText (Some (Delay n)) d h k xs Rest text = Rest n h k text
-  IsEndText (Some (Clock t)) d h k xs Rest text = IsMarkedText (AtClock t) h (t - d) k xs (Rest d (t - d) (length xs)) text
-  IsEndText (Some Finish) d h k xs Rest text = IsMarkedText AtEnd h end_date k xs (Rest d end_date (length xs)) text
-  IsEndText (Some (Happens e)) d h k xs Rest text = ⊥
+  -- what is written for the mark behind the events, and for the rest, by its horizon, and how many had been accepted by the last mark
+  abbrev pub IsEndText : Option Ending → ℕ → ℕ → List LogEntry → (ℕ → ℕ → List ℕ → Type 0) → List ℕ → Type 0
+  IsEndText None h k xs Rest text = text ≡ []
+  IsEndText (Some (AtClock d t)) h k xs Rest text = IsMarkedText (marks.Clock t) h (horizon_at d h t) k xs (Rest (horizon_at d h t) (length xs)) text
+  IsEndText (Some AtEnd) h k xs Rest text = IsMarkedText marks.Finish h end_date k xs (Rest end_date (length xs)) text
 
-  abbrev pub IsPartsText : List Part → ℕ → ℕ → ℕ → List LogEntry → List ℕ → Type 0
-  IsPartsText [] d h k xs text = text ≡ []
-  IsPartsText (p ∷ ps) d h k xs text =
-      (ys : List LogEntry) × Follow p.events xs ys × IsEndText p.ending d h k ys (λ d h k t. IsPartsText ps d h k ys t) text
+  abbrev pub IsPartsText : List Part → ℕ → ℕ → List LogEntry → List ℕ → Type 0
+  IsPartsText [] h k xs text = text ≡ []
+  IsPartsText (p ∷ ps) h k xs text =
+      (ys : List LogEntry) × Follow p.events xs ys × IsEndText p.ending h k ys (λ h k t. IsPartsText ps h k ys t) text
 
   same_follow : (xs : List LogEntry) → Follow [] xs xs
   same_follow xs = record { accepted = λ a. a; ties = λ z. omega arith; longer = omega arith; early = λ k l. refl }
@@ -94,13 +92,13 @@ module _ (c : Setting) (cs : List (Chronicle (List ℕ))) where
     early = λ k l. b.early k (let m = a.longer in omega arith) ∙ a.early k l;
   }
 
-  led : (e : Event) (ps : List Part) (d h k : ℕ) (xs ys : List LogEntry) (text : List ℕ) → Follow (e ∷ []) xs ys
-      → IsPartsText ps d h k ys text → IsPartsText (led_by e ps) d h k xs text
-  led e [] d h k xs ys text f t = (ys, f, t)
-  led e (p ∷ ps) d h k xs ys text f t = (t.0, follow_on e p.events xs ys t.0 f t.1, t.2)
+  led : (e : Event) (ps : List Part) (h k : ℕ) (xs ys : List LogEntry) (text : List ℕ) → Follow (e ∷ []) xs ys
+      → IsPartsText ps h k ys text → IsPartsText (led_by e ps) h k xs text
+  led e [] h k xs ys text f t = (ys, f, t)
+  led e (p ∷ ps) h k xs ys text f t = (t.0, follow_on e p.events xs ys t.0 f t.1, t.2)
 
   abbrev IsToldFrom : State → List Item → List ℕ → Type 0
-  IsToldFrom s items text = IsPartsText (parts_of items) s.delay s.horizon s.marked s.accepted text
+  IsToldFrom s items text = IsPartsText (parts_of s.delay items) s.horizon s.marked s.accepted text
 
   -- from what is told behind a line to what is told of it too
   abbrev Steps : ℕ → State → List Item → What → State × Outcome → Type 0
@@ -191,13 +189,13 @@ module _ (c : Setting) (cs : List (Chronicle (List ℕ))) where
         (cond (has_place e) (with_entry s (new e) e, Accepted (new e)) (s, Refused (run.Values c.symbols)))
         (provided (Is (Happens e)) (has_place e) (run.Values c.symbols) (with_entry s (new e) e, Accepted (new e))
         (λ r first rest text o t x.
-        led e (parts_of items) s.delay s.horizon s.marked s.accepted (s.accepted ++ new e ∷ []) text (added e s.accepted place k v)
+        led e (parts_of s.delay items) s.horizon s.marked s.accepted (s.accepted ++ new e ∷ []) text (added e s.accepted place k v)
         (nothing_first (with_entry s (new e) e) items first rest text o x t)))
 
     steps_verdict : (e : Event) (v : Verdict) → IsOfSymbols e → known_of c.names e ≡ v
         → Steps n s items (Is (Happens e)) (after_verdict c s e v)
     steps_verdict e Other k v = λ r first rest text o t x.
-        led e (parts_of items) s.delay s.horizon s.marked s.accepted s.accepted text (passed e s.accepted v)
+        led e (parts_of s.delay items) s.horizon s.marked s.accepted s.accepted text (passed e s.accepted v)
         (nothing_first s items first rest text o x t)
     steps_verdict e BadArity k v = never (Is (Happens e)) s run.Arity
     steps_verdict e BadValue k v = never (Is (Happens e)) s run.Value
@@ -206,9 +204,9 @@ module _ (c : Setting) (cs : List (Chronicle (List ℕ))) where
     steps_ordered : (item : Item) → ((e : Event) → Is item ≡ Is (Happens e) → IsOfSymbols e)
         → Steps n s items (Is item) (after_ordered c s item)
     steps_ordered (Delay d) k = λ r first rest text o t x.
-        (s.accepted, same_follow s.accepted, nothing_first (record s { delay = d }) items first rest text o x t)
+        nothing_first (record s { delay = d }) items first rest text o x t
     steps_ordered (Clock t) k =
-        unless (Is (Clock t)) (nat_lt t s.last) s (run.Back t s.last) (record s { last = t; horizon = t - s.delay; marked = length s.accepted }, Marked (AtClock t))
+        unless (Is (Clock t)) (nat_lt t s.last) s (run.Back t s.last) (record s { last = t; horizon = horizon_at s.delay s.horizon t; marked = length s.accepted }, Marked (marks.Clock t))
         (λ r first rest text o u x. (s.accepted, same_follow s.accepted, (first, rest, o, u, x)))
     steps_ordered Finish k = λ r first rest text o t x. (s.accepted, same_follow s.accepted, (first, rest, o, t, x))
     steps_ordered (Happens e) k =
@@ -220,8 +218,7 @@ module _ (c : Setting) (cs : List (Chronicle (List ℕ))) where
   steps_what n s items Empty k = λ r first rest text o t x. nothing_first s items first rest text o x t
   steps_what n s items Faulty k = never n s items Faulty s run.Form
   steps_what n s items (Is item) k =
-      unless n s items (Is item) (is_out_of_order s item) (is_met s) run.Order (after_ordered c (is_met s) item)
-      (steps_ordered n (is_met s) items item k)
+      unless n s items (Is item) s.ended s run.Order (after_ordered c s item) (steps_ordered n s items item k)
 
   item_read : (line : List ℕ) (o : Option Item) → item_of line ≡ o → (e : Event) → what_is o ≡ Is (Happens e) → IsOfSymbols e
   item_read line None k e h = cc
@@ -237,7 +234,7 @@ module _ (c : Setting) (cs : List (Chronicle (List ℕ))) where
   -- what is written for lines of which none is refused is written for their parts
   pub parted_text : (n : ℕ) (s : State) (ls : List Line) (text : List ℕ) → list_any is_refused (outcomes c s ls) ≡ false
       → IsTextFrom c cs n s ls text
-      → IsPartsText (parts_of (items_of ls)) s.delay s.horizon s.marked s.accepted text
+      → IsPartsText (parts_of s.delay (items_of ls)) s.horizon s.marked s.accepted text
   parted_text n s [] text r t = t
   parted_text n s (l ∷ ls) text r t =
       let fine = or_parts (is_refused (after_line c s l).1) (list_any is_refused (outcomes c (after_line c s l).0 ls)) r in

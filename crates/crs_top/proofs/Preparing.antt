@@ -128,11 +128,11 @@ module _ (symbols entries : ℕ) (text : List ℕ) (m : CodeModels) (table : Tab
   -- the session at the start
   pub represented : (e : EngineState) (peak : ℕ) → peak ≡ kept_of e → e.plans ≡ plans → e.delay ≡ 0 → e.last ≡ 0 → e.horizon ≡ 0
       → e.accepted ≡ 0 → e.marked ≡ 0 → e.limit ≡ entries → e.stopped ≡ false → StandsFor e [] []
-      → Represents frame (record { engine = e; symbols = table; entries = entries; met = false; ended = false; counts = record { refused = 0; recognitions = 0; peak = peak } }) (at_start table.texts)
+      → Represents frame (record { engine = e; symbols = table; entries = entries; ended = false; counts = record { refused = 0; recognitions = 0; peak = peak } }) (at_start table.texts)
   represented e peak is_kept p delay last horizon count at_none most running stands = record {
     models = has_models_by e p;
     entries = no_entries e stands;
-    reached = record { fresh = λ _. (refl, refl, refl); open_horizon = λ _. omega arith; open_last = λ _. omega arith };
+    reached = omega arith;
     running = running;
     texts = refl;
     delay = sym delay;
@@ -143,7 +143,6 @@ module _ (symbols entries : ℕ) (text : List ℕ) (m : CodeModels) (table : Tab
     most = most;
     few = omega arith;
     most_here = refl;
-    met = refl;
     ended = refl;
     peaked = (
       held_by e,

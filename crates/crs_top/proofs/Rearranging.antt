@@ -6,7 +6,7 @@ use Rattle.std.proofs.lemmas.List.Sorted.{sum_by-IsPermutation}
 use Rattle.crs_base.specs.Entry.{Key, canonical}
 use Rattle.crs_base.proofs.Words.{in_from_each}
 use Rattle.crs_model.specs.declared.recognition.Mark.{Mark}
-use Rattle.crs_model.specs.declared.recognition.Mark.TheVariants.{Clock as AtClock, Finish as AtEnd}
+use Rattle.crs_model.specs.declared.recognition.Mark.TheVariants as mark
 use Rattle.crs_model.specs.Models.{Chronicle, EventDef}
 use Rattle.crs_model.specs.Matching.{Assignment}
 use Rattle.crs_model.specs.Order.{dated_before, arrived, in_key_order}
@@ -16,12 +16,12 @@ use Rattle.crs_model.proofs.Ties.{ties, Says}
 use Rattle.crs_model.proofs.Twins.{Same, Twins}
 use Rattle.crs_model.proofs.TwinLists.{Paired, Reads, new_paired}
 use Rattle.crs_model.proofs.TwinPools.{AreAlike, pairing}
-use Rattle.crs_log.specs.Items.{Item, Delay, Clock, Finish, Happens, Event}
-use Rattle.crs_log.specs.Run.{Setting, at_start, end_date}
+use Rattle.crs_log.specs.Items.{Event}
+use Rattle.crs_log.specs.Run.{Setting, at_start, end_date, horizon_at}
 use Rattle.crs_log.proofs.Canonicals.{same_event}
 use Rattle.crs_report.specs.Lines.{recognition_line, point_text, value_text, mark_text}
 use Rattle.crs_top.specs.Texts.{LogEntry, IsMarkText, setting_of}
-use Rattle.crs_top.specs.Rearranged.{Part, IsRearranged, parts_of, items_of, RearrangedLogsHaveOneText}
+use Rattle.crs_top.specs.Rearranged.{Part, Ending, AtClock, AtEnd, IsRearranged, parts_of, items_of, RearrangedLogsHaveOneText}
 use Rattle.crs_top.proofs.Parting.{IsRead, AreAccepted, view, weight, Follow, IsMarkedText, IsEndText, IsPartsText, parted_text}
 
 -- entries that were read, and say the same, are the same but for their arrival numbers
@@ -157,30 +157,27 @@ module _ (c : Setting) (cs : List (Chronicle (List ℕ))) where
       let two : p.1 ≡ q.1 = rest p.1 q.1 p.3 q.3 in
       p.4 ∙ (λ i. one i ++ two i) ∙ sym q.4
 
-  ends : (o : Option Item) (d h k l : ℕ) (xs ys : List LogEntry) → Match xs ys → MarkAlike k l xs ys → (R Q : ℕ → ℕ → ℕ → List ℕ → Type 0)
-      → ((d h k l : ℕ) → MarkAlike k l xs ys → (a b : List ℕ) → R d h k a → Q d h l b → a ≡ b)
-      → (a b : List ℕ) → IsEndText c cs o d h k xs R a → IsEndText c cs o d h l ys Q b → a ≡ b
-  ends None d h k l xs ys m e R Q rest a b p q = p ∙ sym q
-  ends (Some (Delay n)) d h k l xs ys m e R Q rest a b p q = rest n h k l e a b p q
-  ends (Some (Clock t)) d h k l xs ys m e R Q rest a b p q =
-      marked xs ys m k l e (AtClock t) h (t - d) (R d (t - d) (length xs)) (Q d (t - d) (length ys)) (rest d (t - d) (length xs) (length ys) (mark_now xs ys m)) a b p q
-  ends (Some Finish) d h k l xs ys m e R Q rest a b p q =
-      marked xs ys m k l e AtEnd h end_date (R d end_date (length xs)) (Q d end_date (length ys)) (rest d end_date (length xs) (length ys) (mark_now xs ys m)) a b p q
-  ends (Some (Happens e)) d h k l xs ys m u R Q rest a b p q = absurd p
+  ends : (o : Option Ending) (h k l : ℕ) (xs ys : List LogEntry) → Match xs ys → MarkAlike k l xs ys → (R Q : ℕ → ℕ → List ℕ → Type 0)
+      → ((h k l : ℕ) → MarkAlike k l xs ys → (a b : List ℕ) → R h k a → Q h l b → a ≡ b)
+      → (a b : List ℕ) → IsEndText c cs o h k xs R a → IsEndText c cs o h l ys Q b → a ≡ b
+  ends None h k l xs ys m e R Q rest a b p q = p ∙ sym q
+  ends (Some (AtClock d t)) h k l xs ys m e R Q rest a b p q =
+      marked xs ys m k l e (mark.Clock t) h (horizon_at d h t) (R (horizon_at d h t) (length xs)) (Q (horizon_at d h t) (length ys)) (rest (horizon_at d h t) (length xs) (length ys) (mark_now xs ys m)) a b p q
+  ends (Some AtEnd) h k l xs ys m e R Q rest a b p q = marked xs ys m k l e mark.Finish h end_date (R end_date (length xs)) (Q end_date (length ys)) (rest end_date (length xs) (length ys) (mark_now xs ys m)) a b p q
 
   -- parts that are rearranged have one text
-  one_text : (ps qs : List Part) → AllZip IsRearranged ps qs → (d h k l : ℕ) (xs ys : List LogEntry) → Match xs ys → MarkAlike k l xs ys → (a b : List ℕ)
-      → IsPartsText c cs ps d h k xs a → IsPartsText c cs qs d h l ys b → a ≡ b
-  one_text [] [] z d h k l xs ys m e a b p q = p ∙ sym q
-  one_text [] (r ∷ qs) z d h k l xs ys m e a b p q = absurd z
-  one_text (r ∷ ps) [] z d h k l xs ys m e a b p q = absurd z
-  one_text (r ∷ ps) (s ∷ qs) z d h k l xs ys m e a b p q =
+  one_text : (ps qs : List Part) → AllZip IsRearranged ps qs → (h k l : ℕ) (xs ys : List LogEntry) → Match xs ys → MarkAlike k l xs ys → (a b : List ℕ)
+      → IsPartsText c cs ps h k xs a → IsPartsText c cs qs h l ys b → a ≡ b
+  one_text [] [] z h k l xs ys m e a b p q = p ∙ sym q
+  one_text [] (r ∷ qs) z h k l xs ys m e a b p q = absurd z
+  one_text (r ∷ ps) [] z h k l xs ys m e a b p q = absurd z
+  one_text (r ∷ ps) (s ∷ qs) z h k l xs ys m e a b p q =
       let n : Match p.0 q.0 =
       followed r.events s.events xs ys p.0 q.0 (λ k. sum_by-IsPermutation (weight c cs k) r.events s.events z.0.events) m p.1 q.1 in
-      let other : IsEndText c cs r.ending d h l q.0 (λ d h k t. IsPartsText c cs qs d h k q.0 t) b =
-      subst (λ (o : Option Item). IsEndText c cs o d h l q.0 (λ d h k t. IsPartsText c cs qs d h k q.0 t) b) (sym z.0.ending) q.2 in
-      ends r.ending d h k l p.0 q.0 n (still_alike r.events s.events xs ys p.0 q.0 k l e p.1 q.1) (λ d h k t. IsPartsText c cs ps d h k p.0 t) (λ d h k t. IsPartsText c cs qs d h k q.0 t)
-      (λ d h k l e a b u v. one_text ps qs z.1 d h k l p.0 q.0 n e a b u v) a b p.2 other
+      let other : IsEndText c cs r.ending h l q.0 (λ h k t. IsPartsText c cs qs h k q.0 t) b =
+      subst (λ (o : Option Ending). IsEndText c cs o h l q.0 (λ h k t. IsPartsText c cs qs h k q.0 t) b) (sym z.0.ending) q.2 in
+      ends r.ending h k l p.0 q.0 n (still_alike r.events s.events xs ys p.0 q.0 k l e p.1 q.1) (λ h k t. IsPartsText c cs ps h k p.0 t) (λ h k t. IsPartsText c cs qs h k q.0 t)
+      (λ h k l e a b u v. one_text ps qs z.1 h k l p.0 q.0 n e a b u v) a b p.2 other
 
 pub rearranged_logs_have_one_text : RearrangedLogsHaveOneText
 rearranged_logs_have_one_text f xs ys a b r s z p q =
@@ -188,5 +185,5 @@ rearranged_logs_have_one_text f xs ys a b r s z p q =
     let cs : List (Chronicle (List ℕ)) = f.models.chronicles in
     let none : AreAccepted [] = record { distinct = tt; below = tt; read = tt } in
     let start : Match c cs [] [] = record { left = none; right = none; ties = λ z. refl } in
-    one_text c cs (parts_of (items_of xs)) (parts_of (items_of ys)) z 0 0 0 0 [] [] start (record { left = omega arith; right = omega arith; early = λ z. refl }) a b
+    one_text c cs (parts_of 0 (items_of xs)) (parts_of 0 (items_of ys)) z 0 0 0 [] [] start (record { left = omega arith; right = omega arith; early = λ z. refl }) a b
     (parted_text c cs 1 (at_start f.texts) xs a r p) (parted_text c cs 1 (at_start f.texts) ys b s q)

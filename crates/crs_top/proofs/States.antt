@@ -1,6 +1,6 @@
 -- What a session stands for after each kind of item.
 use Rattle.std.proofs.Common.{◌≡◌, ◌≢◌, ◌≤◌, ℕ, ◌+◌, zero, suc, Bool, true, false, List, [], ◌∷◌, ◌++◌, map, length, refl, sym, ap, subst, ◌∙◌}
-use Rattle.std.proofs.Common.{arith, append-nil, true≢false, zero-add, Less, cond, nat_lt}
+use Rattle.std.proofs.Common.{arith, append-nil, zero-add, Less, cond, nat_lt}
 use Rattle.std.specs.Prelude.{slice_get, option_map, flat_map}
 use Rattle.std.specs.List.{AllByRecursion}
 use Rattle.std.specs.declared.rc.Rc.{Rc}
@@ -25,11 +25,11 @@ use Rattle.crs_model.specs.Renaming.{text_in, renamed_entry, IsEntryOf}
 use Rattle.crs_model.proofs.Parted.{before_more, before_all, parted_members, settled_is, before_renamed}
 use Rattle.crs_engine.specs.Engines.{EngineState, StandsFor, HasMoved, plans_of, since}
 use Rattle.crs_engine.specs.Marks.{AfterMark}
-use Rattle.crs_log.specs.Run.{State, is_met}
+use Rattle.crs_log.specs.Run.{State, end_date}
 use Rattle.crs_log.specs.Recognitions.{View, view_of}
 use Rattle.crs_report.specs.Printed.{chronicle_at}
 use Rattle.crs_top.specs.declared.session.Session.{Session}
-use Rattle.crs_top.specs.Session.{HasText, chronicle_in, entries_in, HasModels, HasEntries, IsReached, IsUnused, Represents, line_in}
+use Rattle.crs_top.specs.Session.{HasText, chronicle_in, entries_in, HasModels, HasEntries, Represents, line_in}
 use Rattle.crs_top.specs.Session.{ArePrintable}
 use Rattle.crs_top.specs.declared.session.Counts.{Counts}
 use Rattle.crs_top.specs.Tallies.{AllNew, IsPeaked, with_refused}
@@ -55,28 +55,6 @@ noted f x s r = record {
   most = r.most;
   few = r.few;
   most_here = r.most_here;
-  met = r.met;
-  ended = r.ended;
-  peaked = r.peaked;
-}
-
--- an item was met
-pub met : (f : Frame) (x : Session) (s : State) → Represents f x s → Represents f (record x { met = true }) (is_met s)
-met f x s r = record {
-  models = r.models;
-  entries = r.entries;
-  reached = record { fresh = λ e. absurd (true≢false e); open_horizon = r.reached.open_horizon; open_last = r.reached.open_last };
-  running = r.running;
-  texts = r.texts;
-  delay = r.delay;
-  last = r.last;
-  horizon = r.horizon;
-  marked = r.marked;
-  count = r.count;
-  most = r.most;
-  few = r.few;
-  most_here = r.most_here;
-  met = refl;
   ended = r.ended;
   peaked = r.peaked;
 }
@@ -84,9 +62,9 @@ met f x s r = record {
 stands_delayed : (e : EngineState) (d : ℕ) (settled waiting : List (Entry Sym)) → StandsFor e settled waiting → StandsFor (record e { delay = d }) settled waiting
 stands_delayed e d settled waiting h = record { settled_before = h.settled_before; waiting_after = h.waiting_after; in_order = h.in_order; numbered = h.numbered; held = h.held; counted = h.counted; arrived_settled = h.arrived_settled; fresh_is = h.fresh_is; history = h.history; far_back = h.far_back; stores = h.stores }
 
--- the delay is set, where nothing was accepted and no clock was taken
-pub delayed : (f : Frame) (x : Session) (s : State) (d : ℕ) → IsUnused x.engine → Represents f x s → Represents f (record x { engine = record x.engine { delay = d } }) (record s { delay = d })
-delayed f x s d u r = record {
+-- the delay is set
+pub delayed : (f : Frame) (x : Session) (s : State) (d : ℕ) → Represents f x s → Represents f (record x { engine = record x.engine { delay = d } }) (record s { delay = d })
+delayed f x s d r = record {
   models = r.models;
   entries = record {
     settled = r.entries.settled;
@@ -97,7 +75,7 @@ delayed f x s d u r = record {
     distinct = r.entries.distinct;
     below = r.entries.below;
   };
-  reached = record { fresh = r.reached.fresh; open_horizon = λ q. omega (arith, r.horizon, r.last, u.start, u.horizon); open_last = r.reached.open_last };
+  reached = r.reached;
   running = r.running;
   texts = r.texts;
   delay = refl;
@@ -108,7 +86,6 @@ delayed f x s d u r = record {
   most = r.most;
   few = r.few;
   most_here = r.most_here;
-  met = r.met;
   ended = r.ended;
   peaked = r.peaked;
 }
@@ -293,7 +270,7 @@ module _ (f : Frame) (x : Session) (s : State) (r : Represents f x s) (new : Eng
 
   -- the session stands for the state after the mark
   pub marked : (t : ℕ) (here there : Bool) (counts : Counts) → there ≡ here → HasMoved x.engine new t h → new.stopped ≡ false
-      → IsReached (record s { last = t; horizon = h; ended = there; marked = length s.accepted })
+      → h ≤ end_date
       → IsPeaked new.focus f.models.chronicles view_then counts.peak
       → Represents f (record x { engine = new; ended = here; counts = counts }) (record s { last = t; horizon = h; ended = there; marked = length s.accepted })
   marked t here there counts same m running reached peaked = record {
@@ -310,7 +287,6 @@ module _ (f : Frame) (x : Session) (s : State) (r : Represents f x s) (new : Eng
     most = m.same_limit ∙ r.most;
     few = r.few;
     most_here = r.most_here;
-    met = r.met;
     ended = same;
     peaked = peaked;
   }

@@ -1,4 +1,4 @@
--- Logs that differ only in the order of the events between two other items.
+-- Logs that differ only in the order of the events between two marks, and in where the delay is set.
 use Rattle.std.specs.Prelude.{◌≡◌, ℕ, false, List, [], ◌∷◌, Option, Some, None, flat_map}
 use Rattle.std.specs.List.{AllZip, list_any}
 use Rattle.std.specs.List.Sorted.{IsPermutation}
@@ -17,38 +17,50 @@ items_in Faulty = []
 abbrev pub items_of : List Line → List Item
 items_of lines = flat_map (λ l. items_in (what_of (bytes_of l))) lines
 
--- events, and the delay, clock mark or end behind them: none stands behind the last events of a log
+-- a mark, and the delay in force at a clock's
+pub data Ending : Type 0 where
+  AtClock : ℕ → ℕ → Ending
+  AtEnd : Ending
+
+-- events, and the mark behind them: none stands behind the last events of a log
 pub record Part : Type 0 where
   pub events : List Event
-  pub ending : Option Item
+  pub ending : Option Ending
 
 -- one more event before those of the first part
 abbrev pub led_by : Event → List Part → List Part
 led_by e [] = record { events = e ∷ []; ending = None } ∷ []
 led_by e (p ∷ ps) = record { events = e ∷ p.events; ending = p.ending } ∷ ps
 
-abbrev pub ended_by : Item → List Part → List Part
-ended_by item ps = record { events = []; ending = Some item } ∷ ps
+abbrev pub ended_by : Ending → List Part → List Part
+ended_by ending ps = record { events = []; ending = Some ending } ∷ ps
 
-abbrev pub with_item : Item → List Part → List Part
-with_item (Happens e) ps = led_by e ps
-with_item (Delay d) ps = ended_by (Delay d) ps
-with_item (Clock t) ps = ended_by (Clock t) ps
-with_item Finish ps = ended_by Finish ps
+-- the delay in force behind the item
+abbrev pub delay_behind : ℕ → Item → ℕ
+delay_behind d (Delay n) = n
+delay_behind d (Clock t) = d
+delay_behind d Finish = d
+delay_behind d (Happens e) = d
 
--- the items parted behind each delay, each clock mark and each end
-abbrev pub parts_of : List Item → List Part
-parts_of [] = []
-parts_of (item ∷ items) = with_item item (parts_of items)
+abbrev pub with_item : ℕ → Item → List Part → List Part
+with_item d (Happens e) ps = led_by e ps
+with_item d (Delay n) ps = ps
+with_item d (Clock t) ps = ended_by (AtClock d t) ps
+with_item d Finish ps = ended_by AtEnd ps
 
--- the same events in another order, and the same item behind them
+-- the items parted behind each clock mark and each end, where d is the delay in force before them
+abbrev pub parts_of : ℕ → List Item → List Part
+parts_of d [] = []
+parts_of d (item ∷ items) = with_item d item (parts_of (delay_behind d item) items)
+
+-- the same events in another order, and the same mark behind them
 pub record IsRearranged (p q : Part) : Type 0 where
   pub events : IsPermutation p.events q.events
   pub ending : p.ending ≡ q.ending
 
--- the same items, but for the order of the events between two others
+-- the same marks with the same delays in force at clocks, and the same events between each two of them, before the first and behind the last, in some order
 abbrev pub AreRearranged : List Line → List Line → Type 0
-AreRearranged xs ys = AllZip IsRearranged (parts_of (items_of xs)) (parts_of (items_of ys))
+AreRearranged xs ys = AllZip IsRearranged (parts_of 0 (items_of xs)) (parts_of 0 (items_of ys))
 
 -- no line is refused
 abbrev pub NoneIsRefused : Frame → List Line → Type 0

@@ -1,5 +1,5 @@
 -- What a session stands for, and what one line does to it.
-use Rattle.std.specs.Prelude.{◌≡◌, ◌<◌, ◌≤◌, ◌^◌, ℕ, Bool, false, true, List, [], ◌++◌, length, map, IsSomeAnd}
+use Rattle.std.specs.Prelude.{◌≡◌, ◌<◌, ◌≤◌, ℕ, Bool, false, true, List, [], ◌++◌, length, map, IsSomeAnd}
 use Rattle.std.specs.List.{AllByRecursion}
 use Rattle.crs_base.specs.declared.symbols.Sym.{Sym}
 use Rattle.crs_base.specs.Entry.{Entry}
@@ -62,17 +62,11 @@ pub record HasEntries (e : EngineState) (texts : List (List ℕ)) (accepted : Li
   pub distinct : AreDistinct accepted
   pub below : AllByRecursion (λ x. x.arrival < length accepted) accepted
 
--- before an item is met nothing is accepted and no clock is taken; before the end the horizon is the last clock less the delay
-pub record IsReached (s : State) : Type 0 where
-  pub fresh : s.met ≡ false → (s.accepted ≡ []) × (s.last ≡ 0) × (s.horizon ≡ 0)
-  pub open_horizon : s.ended ≡ false → s.horizon ≡ run.horizon_at s s.last
-  pub open_last : s.ended ≡ false → s.last < 2 ^ 40
-
 -- the session stands for the state of the run
 pub record Represents (f : Frame) (x : Session) (s : State) : Type 0 where
   pub models : HasModels f x.engine.plans x.symbols
   pub entries : HasEntries x.engine x.symbols.texts s.accepted
-  pub reached : IsReached s
+  pub reached : s.horizon ≤ run.end_date
   pub running : x.engine.stopped ≡ false
   pub texts : s.texts ≡ x.symbols.texts
   pub delay : s.delay ≡ x.engine.delay
@@ -83,7 +77,6 @@ pub record Represents (f : Frame) (x : Session) (s : State) : Type 0 where
   pub most : x.engine.limit ≡ f.entries
   pub few : length s.accepted ≤ f.entries
   pub most_here : x.entries ≡ f.entries
-  pub met : s.met ≡ x.met
   pub ended : s.ended ≡ x.ended
   pub peaked : IsPeaked x.engine.focus f.models.chronicles (view_of s) x.counts.peak
 
@@ -130,16 +123,6 @@ line_in plans texts r = option_map_or (line_seen texts r) (chronicle_at plans r.
 abbrev pub ArePrintable : Plans → List (List ℕ) → List Recognition → Type 0
 ArePrintable plans texts rs = AllByRecursion (λ r. IsSomeAnd (chronicle_at plans r.chronicle) (IsPrintable texts r)) rs
 
--- no end was accepted yet
-abbrev pub IsOpen : Session → Type 0
-IsOpen x = x.ended ≡ false
-
--- no entry was accepted and no clock was taken
-pub record IsUnused (e : EngineState) : Type 0 where
-  pub none : e.accepted ≡ 0
-  pub start : e.last ≡ 0
-  pub horizon : e.horizon ≡ 0
-
 -- a line that is given whole has at most 4096 bytes
 abbrev pub IsShort : Given → Type 0
 IsShort (Long n) = Unit {0}
@@ -150,12 +133,7 @@ is_blank_what Empty = true
 is_blank_what (Is item) = false
 is_blank_what Faulty = false
 
-abbrev pub is_delay_what : What → Bool
-is_delay_what Empty = false
-is_delay_what (Is item) = run.is_delay item
-is_delay_what Faulty = false
-
--- what becomes of a line's item that stands in order
+-- what becomes of a line's item that doesn't stand behind the end
 abbrev pub ordered_what : Setting → State → What → State × Outcome
 ordered_what c s Empty = (s, Passed)
 ordered_what c s (Is item) = run.after_ordered c s item

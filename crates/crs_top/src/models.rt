@@ -31,7 +31,6 @@ pub fn prepare(
         engine,
         symbols,
         entries: limits.entries,
-        met: false,
         ended: false,
         counts: Counts {
             refused: 0,

@@ -24,8 +24,6 @@ pub struct Session {
     pub symbols: Symbols,
     /// The most entries that are accepted.
     pub entries: u32,
-    /// Whether an item was met.
-    pub met: bool,
     /// Whether an `end` was accepted.
     pub ended: bool,
     pub counts: Counts,

@@ -1,5 +1,5 @@
 // One line of a log.
-ghost use Rattle.std.specs.Prelude.{◌≡◌, ◌≤◌, ◌<◌, ◌^◌, ◌||◌, ◌&&◌, ℕ, List as Items, OnOk, true};
+ghost use Rattle.std.specs.Prelude.{◌≡◌, ◌≤◌, ◌<◌, ◌^◌, ℕ, List as Items, OnOk};
 ghost use Rattle.crs_log.specs.Given.{seen};
 ghost use Rattle.crs_log.specs.Items.{Clock, Finish as LogEnd, Happens, IsItem};
 ghost use Rattle.crs_log.specs.Known.{known_of};
@@ -9,7 +9,7 @@ ghost use Rattle.crs_log.specs.SeenNames.{name_seen, IsTextAt};
 ghost use Rattle.crs_log.specs.Known.{Named};
 ghost use Rattle.std.specs.Prelude.{map};
 ghost use Rattle.crs_log.specs.Run.{after_given, after_what};
-ghost use Rattle.crs_top.specs.Session.{IsReady, IsOpen, IsUnused, BringsAll, IsShort, number_of, ordered_what, is_blank_what, is_delay_what};
+ghost use Rattle.crs_top.specs.Session.{IsReady, BringsAll, IsShort, number_of, ordered_what, is_blank_what};
 ghost use Rattle.crs_top.specs.Tallies.{with_refused};
 ghost use Rattle.crs_top.specs.Texts.{setting_of};
 ghost use Rattle.crs_top.specs.Written.{with_text};
@@ -50,8 +50,6 @@ fn take_clock<L: Ledger>(
     out: &mut Output,
 ) -> Result<(), AllocError>
     requires ready { IsReady session.old }
-    requires open { IsOpen session.old }
-    requires met { session.old.met ≡ true }
     requires date { t < 2 ^ 40 }
     requires name { blank.name ≡ L.name }
     requires parts { blank.parts ≡ L.parts }
@@ -76,8 +74,6 @@ fn take_end<L: Ledger>(
     out: &mut Output,
 ) -> Result<(), AllocError>
     requires ready { IsReady session.old }
-    requires open { IsOpen session.old }
-    requires met { session.old.met ≡ true }
     requires name { blank.name ≡ L.name }
     requires parts { blank.parts ≡ L.parts }
     requires some { 0 < L.parts }
@@ -105,7 +101,6 @@ fn accept_event(
     out: &mut Output,
 ) -> Result<(), AllocError>
     requires ready { IsReady session.old }
-    requires met { session.old.met ≡ true }
     requires item { IsItem line.now (Happens (event_seen line.now raw.now)) }
     requires date { raw.now.date < 2 ^ 40 }
     requires due { session.old.engine.horizon ≤ raw.now.date }
@@ -141,7 +136,6 @@ fn take_event(
     out: &mut Output,
 ) -> Result<(), AllocError>
     requires ready { IsReady session.old }
-    requires met { session.old.met ≡ true }
     requires item { IsItem line.now (Happens (event_seen line.now raw.now)) }
     requires date { raw.now.date < 2 ^ 40 }
     ensures { OnOk result (BringsAll session.old session.new number (λ f s. after_ordered (setting_of f) s (Happens (event_seen line.now raw.now))) out.old out.new) }
@@ -168,21 +162,7 @@ fn is_blank(item: &Item) -> bool
     matches!(item, Item::Blank)
 }
 
-/// Whether the item is a delay.
-fn is_delay(item: &Item) -> bool
-    ensures { (line : Items ℕ) → result ≡ is_delay_what (what_seen line item.now) }
-{
-    matches!(item, Item::Delay(_))
-}
-
-/// Whether the item is a delay that isn't the first item, or stands behind the end.
-fn is_out_of_order(session: &Session, item: &Item) -> bool
-    ensures { (line : Items ℕ) → result ≡ (session.now.ended || (is_delay_what (what_seen line item.now) && session.now.met)) }
-{
-    session.ended || (is_delay(item) && session.met)
-}
-
-/// Takes an item that stands in order.
+/// Takes an item that doesn't stand behind the end.
 fn take_ordered(
     alloc: Global,
     session: &mut Session,
@@ -192,11 +172,8 @@ fn take_ordered(
     out: &mut Output,
 ) -> Result<(), AllocError>
     requires ready { IsReady session.old }
-    requires open { IsOpen session.old }
-    requires met { session.old.met ≡ true }
     requires range { IsInRange item }
     requires read { IsRead line.now item }
-    requires fresh { is_delay_what (what_seen line.now item) ≡ true → IsUnused session.old.engine }
     ensures { OnOk result (BringsAll session.old session.new number (λ f s. ordered_what (setting_of f) s (what_seen line.now item)) out.old out.new) }
 {
     match item {
@@ -228,9 +205,7 @@ fn take_item(
     if is_blank(&item) {
         return Ok(());
     }
-    let refused = is_out_of_order(session, &item);
-    session.met = true;
-    if refused {
+    if session.ended {
         return refuse(session, number, Fault::Order, out);
     }
     take_ordered(alloc, session, number, line, item, out)

@@ -47,7 +47,7 @@ returns-in-Ok-accept c = λ f s r.
     let e = event_seen c.args.line.now c.args.raw.now in
     let arrival : c.accepted-arrival.result ≡ x.engine.accepted = c.accepted-arrival.ensures in
     accept_brings f x s r e (λ q. not_true c.is_full.result c.if-is_full.false
-    (c.is_full.ensures.1 q)) c.requires.met c.requires.due c.args.number c.accept.new.self c.make_named.new.symbols c.in-Ok.entry c.args.out.now
+    (c.is_full.ensures.1 q)) c.requires.due c.args.number c.accept.new.self c.make_named.new.symbols c.in-Ok.entry c.args.out.now
     c.in-Ok-accept.ensures.accepted (still_running x.engine.stopped c.accept.new.self.stopped tt r.running c.in-Ok-accept.ensures.raised) c.in-Ok.ensures.texts c.in-Ok.ensures.limit
     (omega (arith, c.in-Ok.ensures.room))
     (c.in-Ok.ensures.entry ∙ ap (λ n. entry_of_event n e) arrival) c.in-Ok.ensures.within

@@ -1,10 +1,10 @@
-use Rattle.std.proofs.Common.{◌≡◌, ◌-◌, ◌∙◌, ap, length, sym, subst, ℕ}
+use Rattle.std.proofs.Common.{◌≡◌, ◌∙◌, ap, length, sym, subst, ℕ}
 use Rattle.std.specs.Prelude.{flat_map}
 use Rattle.std.proofs.lemmas.Result.{IfOk-weaker}
 use Rattle.crs_model.specs.declared.plan.Plans.{Plans}
 use Rattle.crs_engine.specs.Engines.{HasMoved, kept_of}
 use Rattle.crs_engine.proofs.Marking.{moved_forward}
-use Rattle.crs_log.specs.Run.{after_ordered}
+use Rattle.crs_log.specs.Run.{after_ordered, horizon_at}
 use Rattle.crs_log.specs.Items.{Clock}
 use Rattle.crs_top.specs.Session.{Brings, BringsAll, ArePrintable, line_in}
 use Rattle.crs_top.specs.declared.session.Session.{Session}
@@ -16,7 +16,7 @@ use Rattle.crs_log.specs.Run as run
 use Rattle.crs_report.specs.Lines.{refusal_line}
 use Rattle.std.specs.Prelude.{OnOk}
 use Rattle.crs_top.proofs.States.{answer_printable}
-use Rattle.crs_top.proofs.Marking.{still_running, clock_fine, clock_rises, clock_brings, back_brings}
+use Rattle.crs_top.proofs.Marking.{still_running, clock_fine, clock_moved, clock_rises, clock_brings, back_brings}
 use Rattle.crs_top.proofs.step.take_clock.Goals as goal
 
 pub push_answer-requires : goal.push_answer-requires
@@ -26,10 +26,10 @@ push_answer-requires g c =
     let r = c.requires.ready.2 in
     let x = c.args.session.now in
     let new = c.clock.new.self in
-    let m : HasMoved x.engine new c.args.t (c.args.t - s.delay) = subst (λ (d : ℕ). HasMoved x.engine new c.args.t (c.args.t - d)) (sym r.delay) c.in-Ok.ensures.moved in
-    let fine = clock_fine x.engine c.args.t c.in-Ok.answer r.running c.in-Ok.ensures.refused in
-    let rises = clock_rises f x s r new c.in-Ok.answer c.requires.met (still_running x.engine.stopped new.stopped c.in-Ok.answer r.running c.in-Ok.ensures.raised) c.args.t c.requires.open fine in
-    let p = answer_printable f x s r new _ c.in-Ok.answer (c.args.t - s.delay) m.same_plans (moved_forward x.engine new c.args.t (c.args.t - s.delay) m rises) rises m.marked
+    let h : ℕ = horizon_at s.delay s.horizon c.args.t in
+    let m : HasMoved x.engine new c.args.t h = clock_moved f x s r new c.args.t c.in-Ok.ensures.moved in
+    let rises = clock_rises f x s r c.args.t in
+    let p = answer_printable f x s r new _ c.in-Ok.answer h m.same_plans (moved_forward x.engine new c.args.t h m rises) rises m.marked
     (c.in-Ok.ensures.marked r.entries.settled r.entries.waiting r.entries.stands) in
     let y = c.count_mark.new.self in
     let q = subst (λ (z : Session). ArePrintable z.engine.plans z.symbols.texts c.in-Ok.answer) (sym c.count_mark.ensures) p in
@@ -57,9 +57,9 @@ returns-in-Ok g c =
     (ap (λ z. z.symbols.texts) c.count_mark.ensures i)) c.in-Ok.answer) c.in-Ok.answer) in
     subst (λ (z : Session). Brings f x.engine.focus x.counts z c.args.number (view_of s)
     (after_ordered (setting_of f) s (Clock c.args.t)) c.args.out.now c.push_answer.new.self) then
-    (clock_brings f x s r new c.in-Ok.answer c.requires.met
+    (clock_brings f x s r new c.in-Ok.answer
     (still_running x.engine.stopped new.stopped c.in-Ok.answer r.running c.in-Ok.ensures.raised)
-    c.args.t c.args.number c.args.out.now c.push_answer.new.self c.requires.open c.requires.date
+    c.args.t c.args.number c.args.out.now c.push_answer.new.self c.requires.date
     (clock_fine x.engine c.args.t c.in-Ok.answer r.running c.in-Ok.ensures.refused) c.in-Ok.ensures.moved
     (c.in-Ok.ensures.marked r.entries.settled r.entries.waiting r.entries.stands) w))
     c.push_answer.ensures

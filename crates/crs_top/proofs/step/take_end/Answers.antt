@@ -24,7 +24,7 @@ push_answer-requires g c =
     let x = c.args.session.now in
     let new = c.finish.new.self in
     let m = c.in-Ok.ensures.moved in
-    let rises = end_rises f x s r new c.in-Ok.answer c.requires.met (still_running x.engine.stopped new.stopped c.in-Ok.answer r.running c.in-Ok.ensures.raised) c.requires.open in
+    let rises = end_rises f x s r in
     let p = answer_printable f x s r new _ c.in-Ok.answer (2 ^ 42) m.same_plans (moved_forward x.engine new (2 ^ 42) (2 ^ 42) m rises) rises m.marked
     (c.in-Ok.ensures.marked r.entries.settled r.entries.waiting r.entries.stands) in
     let y = c.count_mark.new.self in
@@ -53,8 +53,8 @@ returns-in-Ok g c =
     (ap (λ z. z.symbols.texts) c.count_mark.ensures i)) c.in-Ok.answer) c.in-Ok.answer) in
     subst (λ (z : Session). Brings f x.engine.focus x.counts z c.args.number (view_of s)
     (after_ordered (setting_of f) s Finish) c.args.out.now c.push_answer.new.self) then
-    (end_brings f x s r new c.in-Ok.answer c.requires.met
+    (end_brings f x s r new c.in-Ok.answer
     (still_running x.engine.stopped new.stopped c.in-Ok.answer r.running c.in-Ok.ensures.raised)
-    c.args.number c.args.out.now c.push_answer.new.self c.requires.open c.in-Ok.ensures.moved
+    c.args.number c.args.out.now c.push_answer.new.self c.in-Ok.ensures.moved
     (c.in-Ok.ensures.marked r.entries.settled r.entries.waiting r.entries.stands) w))
     c.push_answer.ensures

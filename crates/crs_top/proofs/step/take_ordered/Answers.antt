@@ -1,6 +1,6 @@
 use Rattle.std.proofs.Common.{ap, sym}
 use Rattle.crs_log.specs.SeenItems.{what_seen}
-use Rattle.crs_top.specs.Session.{is_delay_what, ordered_what}
+use Rattle.crs_top.specs.Session.{ordered_what}
 use Rattle.crs_top.specs.Texts.{setting_of}
 use Rattle.crs_top.proofs.Accepting.{passed_brings}
 use Rattle.crs_top.proofs.Ordering.{delay_brings}
@@ -14,7 +14,7 @@ returns-in-Blank c = λ f s r.
 
 pub returns-in-Delay : goal.returns-in-Delay
 returns-in-Delay c = λ f s r. rw (c.in-Delay.is, c.set_delay.ensures.value)
-    (delay_brings f c.args.session.now s c.in-Delay.delay c.args.number c.args.out.now (c.requires.fresh (ap (λ i. is_delay_what (what_seen c.args.line.now i)) c.in-Delay.is)) r)
+    (delay_brings f c.args.session.now s c.in-Delay.delay c.args.number c.args.out.now r)
 
 pub returns-in-Clock : goal.returns-in-Clock
 returns-in-Clock c = rw c.in-Clock.is c.take_clock.ensures

@@ -20,7 +20,6 @@ invariant_of-self c =
         limited = c.self.invariant.0.limited;
         few = (let few = c.self.invariant.0.few in let not_full = c.if-self-2.false in omega arith);
         not_late = c.self.invariant.0.not_late;
-        behind = c.self.invariant.0.behind;
         in_order = subst (λ (t : List (Entry Sym)). IsInKeyOrder (c.self.inside.history.entries ++ t)) (sym put)
             (in_order_more c.self.inside.history.entries c.self.inside.buffer (entry_of c.args.entry) c.self.inside.horizon c.self.invariant.0.in_order (c.self.invariant.0.settled c.if-self.false) c.if-entry-self.false
             (subst IsInKeyOrder put ((c.in-Ok.ensures {u = tt}).sorted)));

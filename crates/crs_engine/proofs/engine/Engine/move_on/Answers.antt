@@ -1,4 +1,4 @@
-use Rattle.std.proofs.Common.{rules, List, ℕ, ◌<◌, ◌≤◌, ◌-◌, ◌^◌, subst, sym, ap, true, le_refl}
+use Rattle.std.proofs.Common.{rules, List, ℕ, ◌≤◌, ◌-◌, subst, sym, ap, true, le_refl}
 use Rattle.crs_store.specs.Stores.{StoreState}
 use Rattle.crs_base.proofs.Alls.{all_each}
 use Rattle.crs_engine.specs.Engines.{EngineState, IsEngine, IsWaiting}
@@ -12,12 +12,11 @@ pub invariant_of-self : goal.invariant_of-self
 invariant_of-self g c =
     let same = subst (λ (t : List StoreState). AreSameStores t c.mark_all.new.stores) c.deref_mut.ensures.value c.mark_all.ensures.same in
     let back = written_back c.self.inside.stores.items c.mark_all.new.stores c.self.inside.stores.len (search rules) same in
-    let delay = ap (λ (e : EngineState). e.delay) c.self.view_is in
     let forward : c.self.inside.horizon ≤ c.args.h = subst (λ (k : ℕ). k ≤ c.args.h) (sym (ap (λ (e : EngineState). e.horizon) c.self.view_is)) c.requires.forward in (
       subst (λ (t : List StoreState). IsEngine (record { plans = c.self.inside.plans; stores = t; history = c.mark_all.new.history; waiting = c.mark_all.new.buffer; fresh = c.mark_all.new.fresh; delay = c.self.inside.delay; last = c.args.t; horizon = c.args.h; accepted = c.self.inside.accepted; marked = c.self.inside.accepted; limit = c.self.inside.limit; focus = c.self.inside.focus; stopped = c.self.inside.stopped })) (sym back)
           (engine_on (record { plans = c.self.inside.plans; stores = c.self.inside.stores.items; history = c.self.inside.history; waiting = c.self.inside.buffer; fresh = c.self.inside.fresh; delay = c.self.inside.delay; last = c.self.inside.last; horizon = c.self.inside.horizon; accepted = c.self.inside.accepted; marked = c.self.inside.marked; limit = c.self.inside.limit; focus = c.self.inside.focus; stopped = c.self.inside.stopped })
           c.mark_all.new.stores c.mark_all.new.history c.mark_all.new.buffer c.mark_all.new.fresh c.args.t c.args.h c.self.inside.accepted c.self.inside.stopped c.self.invariant.0 same c.mark_all.ensures.rest c.requires.small
-          (subst (λ (d : ℕ). c.args.t < 2 ^ 40 → c.args.h ≤ c.args.t - d) (sym delay) c.requires.behind) c.mark_all.ensures.order c.mark_all.ensures.floor
+          c.mark_all.ensures.order c.mark_all.ensures.floor
           (λ running. history_before c.args.h c.self.inside.horizon c.self.inside.history c.mark_all.new.history c.deref_mut.result.now c.mark_all.new.stores c.self.inside.buffer c.self.inside.fresh c.mark_all.new.buffer c.args.mark c.in-Ok.answer (c.self.invariant.0.settled running) forward ((c.in-Ok.ensures {u = tt}).marked))
           forward (((c.in-Ok.ensures {u = tt}).marked).settled).due.after (λ running. (c.in-Ok.ensures {u = tt}).none)),
       c.self.invariant.1,
@@ -29,7 +28,7 @@ invariant_of-self-in-Err g c =
     let back = written_back c.self.inside.stores.items c.mark_all.new.stores c.self.inside.stores.len (search rules) same in (
       subst (λ (t : List StoreState). IsEngine (record { plans = c.self.inside.plans; stores = t; history = c.mark_all.new.history; waiting = c.mark_all.new.buffer; fresh = c.mark_all.new.fresh; delay = c.self.inside.delay; last = c.self.inside.last; horizon = c.self.inside.horizon; accepted = c.self.inside.accepted; marked = c.self.inside.marked; limit = c.self.inside.limit; focus = c.self.inside.focus; stopped = true })) (sym back)
           (engine_on (record { plans = c.self.inside.plans; stores = c.self.inside.stores.items; history = c.self.inside.history; waiting = c.self.inside.buffer; fresh = c.self.inside.fresh; delay = c.self.inside.delay; last = c.self.inside.last; horizon = c.self.inside.horizon; accepted = c.self.inside.accepted; marked = c.self.inside.marked; limit = c.self.inside.limit; focus = c.self.inside.focus; stopped = c.self.inside.stopped })
-          c.mark_all.new.stores c.mark_all.new.history c.mark_all.new.buffer c.mark_all.new.fresh c.self.inside.last c.self.inside.horizon c.self.inside.marked true c.self.invariant.0 same c.mark_all.ensures.rest c.self.invariant.0.not_late c.self.invariant.0.behind c.mark_all.ensures.order c.mark_all.ensures.floor (λ never. absurd cc)
+          c.mark_all.new.stores c.mark_all.new.history c.mark_all.new.buffer c.mark_all.new.fresh c.self.inside.last c.self.inside.horizon c.self.inside.marked true c.self.invariant.0 same c.mark_all.ensures.rest c.self.invariant.0.not_late c.mark_all.ensures.order c.mark_all.ensures.floor (λ never. absurd cc)
           (le_refl c.self.inside.horizon) (rest_due c.self.inside.horizon c.self.inside.buffer c.mark_all.new.buffer c.self.invariant.0.due c.mark_all.ensures.rest) (λ never. absurd cc)),
       c.self.invariant.1,
     )
