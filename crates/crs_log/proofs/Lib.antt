@@ -12,3 +12,4 @@ pub mod Held
 pub mod Numbered
 pub mod GivenLaw
 pub mod Canonicals
+pub mod ReadEntries

@@ -1,3 +1,4 @@
 pub mod After
 pub mod Lists
 pub mod Members
+pub mod TwinLines

@@ -1,41 +1,29 @@
 -- What is written for a log without refused lines, part by part.
-use Rattle.std.proofs.Common.{◌≡◌, ◌≢◌, ℕ, ◌+◌, ◌-◌, ◌<◌, ◌≤◌, Bool, true, false, cond, List, [], ◌∷◌, ◌++◌, length, refl, sym, ap, subst, ◌∙◌}
-use Rattle.std.proofs.Common.{arith, true≢false, Option, Some, None, inl, inr, length-append}
+use Rattle.std.proofs.Common.{◌≡◌, ◌≢◌, ℕ, ◌+◌, ◌-◌, ◌≤◌, Bool, true, false, cond, List, [], ◌∷◌, ◌++◌, length, refl, sym, ap, subst, ◌∙◌}
+use Rattle.std.proofs.Common.{arith, true≢false, Option, Some, None, length-append}
 use Rattle.std.specs.Prelude.{nat_lt, nat_le}
-use Rattle.std.specs.List.{AllByRecursion, list_any, sum_by}
+use Rattle.std.specs.List.{list_any, sum_by}
 use Rattle.std.proofs.lemmas.Bool.{or_parts, le-ltb}
 use Rattle.std.proofs.lemmas.List.Sums.{sum_by-cons}
 use Rattle.crs_base.specs.Entry.{Key}
 use Rattle.crs_base.specs.Lines.{Line, bytes_of, is_long}
-use Rattle.crs_base.proofs.Words.{each_from_in, in_from_each, in_append, ordered_append}
 use Rattle.crs_model.specs.declared.recognition.Mark.{Mark}
 use Rattle.crs_model.specs.declared.recognition.Mark.TheVariants as marks
 use Rattle.crs_model.specs.Models.{Chronicle}
-use Rattle.crs_model.specs.Matching.{AreDistinct}
 use Rattle.crs_model.specs.Order.{dated_before, arrived, in_key_order}
 use Rattle.crs_top.proofs.Grown.{filter_last}
 use Rattle.crs_model.proofs.Ties.{tie, said, ties, ties_last}
 use Rattle.crs_log.specs.Items.{Item, Delay, Clock, Finish, Happens, Event}
-use Rattle.crs_log.specs.ItemOf.{What, Empty, Is, Faulty, what_of, what_is, item_of}
-use Rattle.crs_base.specs.Lines.{is_passed_over}
+use Rattle.crs_log.specs.ItemOf.{What, Empty, Is, Faulty, what_of}
 use Rattle.crs_log.specs.Known.{Verdict, Other, Named, BadArity, BadValue, known_of, entry_of_event, texts_of, new_texts}
 use Rattle.crs_log.specs.Run as run
 use Rattle.crs_log.specs.Run.{Setting, State, Outcome, Refused, Accepted, Marked, horizon_at, after_line, after_what}
 use Rattle.crs_log.specs.Run.{after_ordered, after_verdict, after_named, outcomes, end_date, with_entry}
 use Rattle.crs_log.specs.Recognitions.{View}
-use Rattle.crs_log.proofs.Canonicals.{IsOfSymbols, read_of_symbols}
+use Rattle.crs_log.proofs.Canonicals.{IsOfSymbols}
+use Rattle.crs_log.proofs.ReadEntries.{AreAccepted, one_accepted, line_read}
 use Rattle.crs_top.specs.Texts.{LogEntry, IsMarkText, IsLineText, IsTextFrom, is_refused}
 use Rattle.crs_top.specs.Rearranged.{Part, Ending, AtClock, AtEnd, items_in, items_of, led_by, parts_of}
-
--- the entry is that of an event that was read
-abbrev pub IsRead : LogEntry → Type 0
-IsRead x = (e : Event) × IsOfSymbols e × (x ≡ entry_of_event x.arrival e)
-
--- what the accepted entries of a run are
-pub record AreAccepted (xs : List LogEntry) : Type 0 where
-  pub distinct : AreDistinct xs
-  pub below : AllByRecursion (λ x. x.arrival < length xs) xs
-  pub read : AllByRecursion IsRead xs
 
 -- what recognition reads at a horizon, where so many had been accepted by the last mark
 abbrev pub view : ℕ → ℕ → List LogEntry → View
@@ -124,35 +112,10 @@ module _ (c : Setting) (cs : List (Chronicle (List ℕ))) where
   passed : (e : Event) (xs : List LogEntry) → known_of c.names e ≡ Other → Follow (e ∷ []) xs xs
   passed e xs k = record { accepted = λ a. a; ties = λ z. let w = weight_by z e Other k in omega (arith, w); longer = omega arith; early = λ k l. refl }
 
-  one_more : (e : Event) (xs : List LogEntry) → IsOfSymbols e → AreAccepted xs → AreAccepted (xs ++ entry_of_event (length xs) e ∷ [])
-  one_more e xs s a =
-      let new : LogEntry = entry_of_event (length xs) e in
-      let long : length (xs ++ new ∷ []) ≡ length xs + 1 = length-append xs (new ∷ []) in
-      record {
-        distinct = ordered_append (λ d e. d.arrival ≢ e.arrival) xs (new ∷ []) a.distinct (tt, tt) (λ x y i j. elim j [
-          | inl q ↦ (λ m.
-              let b = in_from_each (λ x. x.arrival < length xs) xs a.below x i in
-              let k : y.arrival ≡ length xs = ap (λ z. z.arrival) q in
-              absurd (omega (arith, b, k, m)))
-          | inr n ↦ absurd n
-        ]);
-        below = each_from_in (λ x. x.arrival < length (xs ++ new ∷ [])) (xs ++ new ∷ []) (λ x i. elim (in_append xs (new ∷ []) x i) [
-          | inl k ↦ (let b = in_from_each (λ x. x.arrival < length xs) xs a.below x k in omega (arith, b, long))
-          | inr k ↦ (elim k [
-            | inl q ↦ (let m : x.arrival ≡ length xs = ap (λ z. z.arrival) q in omega (arith, m, long))
-            | inr n ↦ absurd n
-          ])
-        ]);
-        read = each_from_in IsRead (xs ++ new ∷ []) (λ x i. elim (in_append xs (new ∷ []) x i) [
-          | inl k ↦ in_from_each IsRead xs a.read x k
-          | inr k ↦ (elim k [ inl q ↦ subst IsRead (sym q) (e, s, refl) | inr n ↦ absurd n ])
-        ]);
-      }
-
   added : (e : Event) (xs : List LogEntry) (place : ℕ) → IsOfSymbols e → known_of c.names e ≡ Named place
       → Follow (e ∷ []) xs (xs ++ entry_of_event (length xs) e ∷ [])
   added e xs place s k = record {
-    accepted = one_more e xs s;
+    accepted = one_accepted e xs s;
     ties = λ z.
         let w : sum_by (weight z) (e ∷ []) ≡ tie z (said (entry_of_event 0 e)) = weight_by z e (Named place) k in
         let l : ties z (xs ++ entry_of_event (length xs) e ∷ []) ≡ ties z xs + tie z (said (entry_of_event 0 e)) =
@@ -219,17 +182,6 @@ module _ (c : Setting) (cs : List (Chronicle (List ℕ))) where
   steps_what n s items Faulty k = never n s items Faulty s run.Form
   steps_what n s items (Is item) k =
       unless n s items (Is item) s.ended s run.Order (after_ordered c s item) (steps_ordered n s items item k)
-
-  item_read : (line : List ℕ) (o : Option Item) → item_of line ≡ o → (e : Event) → what_is o ≡ Is (Happens e) → IsOfSymbols e
-  item_read line None k e h = cc
-  item_read line (Some item) k e h = let same : item ≡ Happens e = cc in read_of_symbols line e (k ∙ ap Some same)
-
-  line_read : (line : List ℕ) (e : Event) → what_of line ≡ Is (Happens e) → IsOfSymbols e
-  line_read line e = by (is_passed_over line)
-    where
-      by : (b : Bool) → cond b Empty (what_is (item_of line)) ≡ Is (Happens e) → IsOfSymbols e
-      by true h = cc
-      by false h = item_read line (item_of line) refl e h
 
   -- what is written for lines of which none is refused is written for their parts
   pub parted_text : (n : ℕ) (s : State) (ls : List Line) (text : List ℕ) → list_any is_refused (outcomes c s ls) ≡ false

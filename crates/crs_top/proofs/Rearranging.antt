@@ -1,57 +1,29 @@
 -- Logs that are rearranged have one text.
 use Rattle.std.proofs.Common.{◌≡◌, ℕ, ◌+◌, ◌<◌, ◌≤◌, List, [], ◌∷◌, ◌++◌, length, refl, sym, ap, subst, ◌∙◌, arith, Option, Some, None, Bool, true, false, cond, lt-ltb}
-use Rattle.std.specs.Prelude.{flat_map, zip, decimal, codes, ◌-◌}
+use Rattle.std.specs.Prelude.{flat_map, ◌-◌}
 use Rattle.std.specs.List.{AllZip, AllByRecursion, sum_by}
 use Rattle.std.proofs.lemmas.List.Sorted.{sum_by-IsPermutation}
-use Rattle.crs_base.specs.Entry.{Key, canonical}
+use Rattle.crs_base.specs.Entry.{Key}
 use Rattle.crs_base.proofs.Words.{in_from_each}
 use Rattle.crs_model.specs.declared.recognition.Mark.{Mark}
 use Rattle.crs_model.specs.declared.recognition.Mark.TheVariants as mark
-use Rattle.crs_model.specs.Models.{Chronicle, EventDef}
+use Rattle.crs_model.specs.Models.{Chronicle}
 use Rattle.crs_model.specs.Matching.{Assignment}
 use Rattle.crs_model.specs.Order.{dated_before, arrived, in_key_order}
 use Rattle.crs_model.specs.Open.{pool_among}
 use Rattle.crs_log.specs.Recognitions.{pool_of}
-use Rattle.crs_model.proofs.Ties.{ties, Says}
-use Rattle.crs_model.proofs.Twins.{Same, Twins}
+use Rattle.crs_model.proofs.Ties.{ties}
+use Rattle.crs_model.proofs.Twins.{Twins}
 use Rattle.crs_model.proofs.TwinLists.{Paired, Reads, new_paired}
 use Rattle.crs_model.proofs.TwinPools.{AreAlike, pairing}
 use Rattle.crs_log.specs.Items.{Event}
 use Rattle.crs_log.specs.Run.{Setting, at_start, end_date, horizon_at}
-use Rattle.crs_log.proofs.Canonicals.{same_event}
-use Rattle.crs_report.specs.Lines.{recognition_line, point_text, value_text, mark_text}
+use Rattle.crs_log.proofs.ReadEntries.{IsRead, AreAccepted, none_accepted, same_read}
+use Rattle.crs_report.specs.Lines.{recognition_line}
+use Rattle.crs_report.proofs.TwinLines.{line_same}
 use Rattle.crs_top.specs.Texts.{LogEntry, IsMarkText, setting_of}
 use Rattle.crs_top.specs.Rearranged.{Part, Ending, AtClock, AtEnd, IsRearranged, parts_of, items_of, RearrangedLogsHaveOneText}
-use Rattle.crs_top.proofs.Parting.{IsRead, AreAccepted, view, weight, Follow, IsMarkedText, IsEndText, IsPartsText, parted_text}
-
--- entries that were read, and say the same, are the same but for their arrival numbers
-same_read : (x y : LogEntry) → IsRead x → IsRead y → Says x y → Same x y
-same_read x y a b s =
-    let date : a.0.date ≡ b.0.date = sym (ap (λ z. z.date) a.2) ∙ ap (λ (k : Key). k.date) s ∙ ap (λ z. z.date) b.2 in
-    let text : canonical a.0.name a.0.args a.0.change ≡ canonical b.0.name b.0.args b.0.change =
-    sym (ap (λ z. z.text) a.2) ∙ ap (λ (k : Key). k.text) s ∙ ap (λ z. z.text) b.2 in
-    let e : a.0 ≡ b.0 = same_event a.0 b.0 a.1 b.1 date text in
-    record {
-      date = ap (λ (k : Key). k.date) s;
-      name = ap (λ z. z.name) a.2 ∙ ap (λ (v : Event). v.name) e ∙ sym (ap (λ z. z.name) b.2);
-      args = ap (λ z. z.args) a.2 ∙ ap (λ (v : Event). v.args) e ∙ sym (ap (λ z. z.args) b.2);
-      change = ap (λ z. z.change) a.2 ∙ ap (λ (v : Event). v.change) e ∙ sym (ap (λ z. z.change) b.2);
-    }
-
-points_same : (T : LogEntry → LogEntry → Type 0) → Twins T → (vs : List (EventDef (List ℕ))) (xs ys : List LogEntry) → AllZip T xs ys
-    → flat_map point_text (zip vs xs) ≡ flat_map point_text (zip vs ys)
-points_same T t [] xs ys z = refl
-points_same T t (v ∷ vs) [] [] z = refl
-points_same T t (v ∷ vs) [] (y ∷ ys) z = absurd z
-points_same T t (v ∷ vs) (x ∷ xs) [] z = absurd z
-points_same T t (v ∷ vs) (x ∷ xs) (y ∷ ys) z =
-    λ i. (codes " " ++ v.point ++ codes "=" ++ decimal ((t.same x y z.0).date i)) ++ points_same T t vs xs ys z.1 i
-
-line_same : (T : LogEntry → LogEntry → Type 0) → Twins T → (c : Chronicle (List ℕ)) (mark : Mark) (a b : Assignment (List ℕ))
-    → Paired T a b → recognition_line c mark a ≡ recognition_line c mark b
-line_same T t c mark a b p = λ i.
-    c.name ++ codes " at " ++ mark_text mark ++ points_same T t c.events a.entries b.entries p.entries i
-    ++ flat_map value_text (zip c.variables (p.values i)) ++ 10 ∷ []
+use Rattle.crs_top.proofs.Parting.{view, weight, Follow, IsMarkedText, IsEndText, IsPartsText, parted_text}
 
 lines_same : (T : LogEntry → LogEntry → Type 0) → Twins T → (c : Chronicle (List ℕ)) (mark : Mark) (xs ys : List (Assignment (List ℕ)))
     → AllZip (Paired T) xs ys
@@ -183,7 +155,6 @@ pub rearranged_logs_have_one_text : RearrangedLogsHaveOneText
 rearranged_logs_have_one_text f xs ys a b r s z p q =
     let c : Setting = setting_of f in
     let cs : List (Chronicle (List ℕ)) = f.models.chronicles in
-    let none : AreAccepted [] = record { distinct = tt; below = tt; read = tt } in
-    let start : Match c cs [] [] = record { left = none; right = none; ties = λ z. refl } in
+    let start : Match c cs [] [] = record { left = none_accepted; right = none_accepted; ties = λ z. refl } in
     one_text c cs (parts_of 0 (items_of xs)) (parts_of 0 (items_of ys)) z 0 0 0 [] [] start (record { left = omega arith; right = omega arith; early = λ z. refl }) a b
     (parted_text c cs 1 (at_start f.texts) xs a r p) (parted_text c cs 1 (at_start f.texts) ys b s q)
