@@ -13,3 +13,5 @@ pub mod Numbered
 pub mod GivenLaw
 pub mod Canonicals
 pub mod ReadEntries
+pub mod Walks
+pub mod Traces

@@ -8,3 +8,5 @@ pub mod SeenNames
 pub mod Told
 pub mod Run
 pub mod Recognitions
+pub mod Walks
+pub mod Trace

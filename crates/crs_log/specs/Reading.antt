@@ -1,7 +1,7 @@
 -- Lines as they are given, one after the other, where only a limited part of a long one is kept.
 use Rattle.std.specs.Prelude.{◌≡◌, ◌≤◌, ◌<◌, ℕ, ◌+◌, ◌-◌, Bool, true, cond, List, [], ◌∷◌, ◌++◌, length, drop, get_or, nat_lt, if◌then◌else◌, Option, Some, None, filter}
 use Rattle.std.specs.List.{prefix_len}
-use Rattle.crs_base.specs.Lines.{Line, lines_of, bytes_of, is_longer, is_no_feed, is_part}
+use Rattle.crs_base.specs.Lines.{Line, lines_of, bytes_of, is_longer, line_limit, is_no_feed, is_part}
 
 -- what is given for a line, with its number
 pub data Given : Type 0 where
@@ -15,6 +15,14 @@ given_line limit number l = cond (is_longer limit l) (Long number) (Plain number
 abbrev pub given_lines : ℕ → ℕ → List Line → List Given
 given_lines limit n [] = []
 given_lines limit n (l ∷ ls) = given_line limit (n + 1) l ∷ given_lines limit (n + 1) ls
+
+-- the lines of a log as a run meets them: numbered from 1, and of a long one that it is long
+abbrev pub numbered : List Line → List Given
+numbered lines = given_lines line_limit 0 lines
+
+abbrev pub number_of : Given → ℕ
+number_of (Plain n bytes) = n
+number_of (Long n) = n
 
 -- the lines of a text
 abbrev pub given : ℕ → ℕ → List ℕ → List Given

@@ -1,7 +1,6 @@
 -- A run is a fold over the lines of a log.
 use Rattle.std.specs.Prelude.{ℕ, ◌+◌, ◌-◌, max, Bool, true, false, nat_lt, nat_le, cond, List, [], ◌∷◌, ◌++◌, length}
 use Rattle.crs_base.specs.Entry.{Entry}
-use Rattle.crs_base.specs.Lines.{Line, bytes_of, is_long}
 use Rattle.crs_base.specs.Symbols.{with_texts}
 use Rattle.crs_model.specs.Models.{Name}
 use Rattle.crs_model.specs.Order.{arrived, dated_before, in_key_order}
@@ -94,22 +93,18 @@ after_what c s (Is item) = after_item c s item
 after_what c s Faulty = (s, Refused Form)
 
 -- the first fault that applies is the line's
-abbrev pub after_line : Setting → State → Line → State × Outcome
-after_line c s l = cond (is_long l) (s, Refused TooLong) (after_what c s (what_of (bytes_of l)))
-
--- the same, from what is given for the line
-abbrev pub after_given : Setting → State → Given → State × Outcome
-after_given c s (Long number) = (s, Refused TooLong)
-after_given c s (Plain number bytes) = after_what c s (what_of bytes)
+abbrev pub after_line : Setting → State → Given → State × Outcome
+after_line c s (Long number) = (s, Refused TooLong)
+after_line c s (Plain number bytes) = after_what c s (what_of bytes)
 
 -- the state after these lines, and what became of each
-abbrev pub after_lines : Setting → State → List Line → State
+abbrev pub after_lines : Setting → State → List Given → State
 after_lines c s [] = s
-after_lines c s (l ∷ ls) = after_lines c (after_line c s l).0 ls
+after_lines c s (g ∷ gs) = after_lines c (after_line c s g).0 gs
 
-abbrev pub outcomes : Setting → State → List Line → List Outcome
+abbrev pub outcomes : Setting → State → List Given → List Outcome
 outcomes c s [] = []
-outcomes c s (l ∷ ls) = (after_line c s l).1 ∷ outcomes c (after_line c s l).0 ls
+outcomes c s (g ∷ gs) = (after_line c s g).1 ∷ outcomes c (after_line c s g).0 gs
 
 -- the accepted entries dated before the horizon, in key order
 abbrev pub settled : State → List (Entry (List ℕ))

@@ -1,14 +1,14 @@
 //! Laws of the definitions that the contracts of this crate speak of.
-ghost use Rattle.std.specs.Prelude.{◌≡◌, ◌≤◌, ◌↔◌, ℕ, List, Some, length, map, true};
+ghost use Rattle.std.specs.Prelude.{◌≡◌, ◌≤◌, ◌↔◌, ℕ, List, Some, length, map, true, cond};
 ghost use Rattle.std.specs.List.{AllByRecursion};
-ghost use Rattle.crs_base.specs.Lines.{Line, line_limit};
+ghost use Rattle.crs_base.specs.Lines.{Line, bytes_of, is_long, line_limit};
 ghost use Rattle.crs_base.specs.Symbols.{is_known};
 ghost use Rattle.crs_log.specs.Items.{Item, Event, IsItem};
-ghost use Rattle.crs_log.specs.ItemOf.{item_of};
+ghost use Rattle.crs_log.specs.ItemOf.{item_of, what_of};
 ghost use Rattle.crs_log.specs.Known.{Named, known_of};
 ghost use Rattle.crs_log.specs.SeenNames.{name_seen, AreNamesIn};
 ghost use Rattle.crs_log.specs.Reading.{Given, Reader, HasGiven, HasNoLine, given_line, given_lines, whole_lines};
-ghost use Rattle.crs_log.specs.Run.{Setting, State, after_given, after_line};
+ghost use Rattle.crs_log.specs.Run.{Setting, State, Refused, TooLong, after_line, after_what};
 ghost use Rattle.crs_model.specs.declared.models.Name.{Name as CodeName};
 
 /// A line is the item that the run reads from it, and no other.
@@ -21,9 +21,10 @@ pub fn prompt()
     ensures { (limit : ℕ) (fed : List ℕ) (told : List Given) (r : Reader) → HasGiven limit fed told r → HasNoLine r → told ≡ given_lines limit 0 (whole_lines fed) }
 {}
 
-/// What becomes of a line of a log is decided by what is given for it.
+/// What is given for a line of a log decides what becomes of it: a long one is refused, and another
+/// one becomes what its bytes are.
 pub fn given_lines_suffice()
-    ensures { (setting : Setting) (state : State) (n : ℕ) (line : Line) → after_given setting state (given_line line_limit n line) ≡ after_line setting state line }
+    ensures { (setting : Setting) (state : State) (n : ℕ) (line : Line) → after_line setting state (given_line line_limit n line) ≡ cond (is_long line) (state, Refused TooLong) (after_what setting state (what_of (bytes_of line))) }
 {}
 
 /// Of an event whose name is declared, with the right arguments and value, an entry can be made: its

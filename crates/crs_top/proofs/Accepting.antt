@@ -26,7 +26,7 @@ use Rattle.crs_top.specs.Written.{Written, with_text}
 use Rattle.crs_top.proofs.States.{noted}
 use Rattle.crs_top.proofs.Results.{both_ok}
 use Rattle.crs_top.proofs.Grown.{accepted, view_stays}
-use Rattle.crs_top.proofs.Counting.{passed, counted_passed, counted_refused}
+use Rattle.crs_top.proofs.Counting.{counted_passed, counted_refused}
 
 -- a refused line is written, and changes nothing
 pub refused_brings : (f : Frame) (x : Session) (s : State) → Represents f x s → (n : ℕ) (fault : run.Fault) (after : State × Outcome) (new : Session) (out more : Written)
@@ -37,15 +37,15 @@ refused_brings f x s r n fault after new out more is now written =
     (subst (λ (y : Session). Brings f x.engine.focus x.counts y n (view_of s) (s, Refused fault) out more) (sym now) (record {
       state = noted f x s r;
       same_focus = refl;
-      text = refusal_line n (fault_of fault);
-      says = refl;
+      answers = [];
+      are_new = refl;
       written = ap (λ (w : Written). w.text) written;
       found = [];
       notices = refl;
       filled = tt;
       added = ap (λ (w : Written). w.found) written ∙ sym (append-nil out.found);
-      tally = record (passed r.peaked.0) { refused = 1 };
-      tallied = ((refl, refl), r.peaked.1);
+      live = r.peaked.0;
+      all_live = r.peaked.1;
       counted = counted_refused x.counts r.peaked.0 r.peaked.2;
     }))
 
@@ -74,15 +74,15 @@ pub passed_brings : (f : Frame) (x : Session) (s : State) → Represents f x s �
 passed_brings f x s r n after out is = subst (λ (a : State × Outcome). Brings f x.engine.focus x.counts x n (view_of s) a out out) is (record {
   state = r;
   same_focus = refl;
-  text = [];
-  says = refl;
+  answers = [];
+  are_new = refl;
   written = sym (append-nil out.text);
   found = [];
   notices = refl;
   filled = tt;
   added = sym (append-nil out.found);
-  tally = passed r.peaked.0;
-  tallied = ((refl, refl), r.peaked.1);
+  live = r.peaked.0;
+  all_live = r.peaked.1;
   counted = counted_passed x.counts r.peaked.0 r.peaked.2;
 })
 
@@ -156,14 +156,14 @@ module _ (f : Frame) (x : Session) (s : State) (r : Represents f x s) (e : Event
       subst (λ (b : State × Outcome). Brings f x.engine.focus x.counts (record x { engine = new; symbols = table }) n (view_of s) b out out) is (record {
         state = accepted f x s r has_room e due new table en a running texts limit seen known st;
         same_focus = a.same_focus;
-        text = [];
-        says = refl;
+        answers = [];
+        are_new = refl;
         written = sym (append-nil out.text);
         found = [];
         notices = refl;
         filled = tt;
         added = sym (append-nil out.found);
-        tally = passed r.peaked.0;
-        tallied = ((refl, refl), subst (λ v. AllLive x.engine.focus f.models.chronicles v r.peaked.0) (sym (view_stays f x s r e due)) r.peaked.1);
+        live = r.peaked.0;
+        all_live = subst (λ v. AllLive x.engine.focus f.models.chronicles v r.peaked.0) (sym (view_stays f x s r e due)) r.peaked.1;
         counted = counted_passed x.counts r.peaked.0 r.peaked.2;
       })

@@ -1,6 +1,7 @@
 -- What is written for the answer of a clock mark is the mark's text.
-use Rattle.std.proofs.Common.{◌≡◌, ℕ, ◌+◌, suc, List, [], ◌∷◌, ◌++◌, map, length, refl, sym, ap, subst, ◌∙◌, arith, append_assoc}
-use Rattle.std.proofs.Common.{length-append, inl, inr, Bool, true, false, cond}
+use Rattle.std.proofs.Common.{◌≡◌, ℕ, ◌+◌, suc, List, [], ◌∷◌, ◌++◌, map, length, refl, sym, ap, subst, ◌∙◌, arith}
+use Rattle.std.proofs.Common.{inl, inr, Bool, true, false, cond}
+use Rattle.std.proofs.lemmas.Grind.{flat_map-append}
 use Rattle.std.specs.Prelude.{Some, IsSomeAnd, slice_get, option_map, flat_map}
 use Rattle.std.specs.Option.{option_map_or}
 use Rattle.std.specs.List.{AllByRecursion}
@@ -19,7 +20,7 @@ use Rattle.crs_model.specs.declared.plan.Plan.{Plan}
 use Rattle.crs_model.specs.declared.plan.Plans.{Plans}
 use Rattle.crs_model.specs.declared.recognition.Mark.{Mark}
 use Rattle.crs_model.specs.declared.recognition.Recognition.{Recognition}
-use Rattle.crs_model.specs.Models.{EventDef}
+use Rattle.crs_model.specs.Models.{EventDef, Chronicle}
 use Rattle.crs_model.specs.Open.{IsNew, IsRecognised, pool_among}
 use Rattle.crs_log.specs.Recognitions.{View, ListsNew as ListsNewIn}
 use Rattle.crs_model.specs.Order.{Lists, assignment_cmp}
@@ -29,20 +30,25 @@ use Rattle.crs_model.specs.Renaming.{text_in, AreKnown, renamed_assignment, rena
 use Rattle.crs_model.proofs.RenamedAssignments.{known_values, new_renamed}
 use Rattle.crs_model.proofs.RenamedWindows.{HasNoStar, no_stars}
 use Rattle.crs_model.proofs.Options.{some_and}
+use Rattle.crs_log.specs.Trace.{Answer, answer_of, AreNew}
 use Rattle.crs_store.specs.Answers.{IsRecognitionOf}
 use Rattle.crs_engine.specs.Marks.{ListsNew, ListsAllNew}
 use Rattle.crs_report.specs.Lines.{recognition_line}
 use Rattle.crs_report.specs.Printed.{chronicle_at, AreBound, IsPrintable, line_seen}
 use Rattle.crs_top.specs.Session.{HasText, chronicle_in, entries_in, line_in, ArePrintable}
 use Rattle.crs_report.specs.Listeners.{notice_of}
-use Rattle.crs_top.specs.Notices.{AreMarkNotices, notice_at}
-use Rattle.crs_top.specs.Tallies.{AllNew}
-use Rattle.crs_top.specs.Texts.{IsMarkText, LogEntry}
+use Rattle.crs_top.specs.Notices.{notice_in}
+use Rattle.crs_top.specs.Texts.{answer_line, LogEntry}
 use Rattle.crs_top.specs.Written.{HasEntry}
 
-flat_map_append : {A : Type 0} (f : A → List ℕ) (xs ys : List A) → flat_map f (xs ++ ys) ≡ flat_map f xs ++ flat_map f ys
-flat_map_append f [] ys = refl
-flat_map_append f (x ∷ xs) ys = ap (λ (zs : List ℕ). f x ++ zs) (flat_map_append f xs ys) ∙ sym (append_assoc (f x) (flat_map f xs) (flat_map f ys))
+-- The recognitions of a mark's answer stand for assignments, with the symbols' texts: exactly those that are new, printed as the answer is,
+-- and listeners are told the same of both.
+pub record IsSeen (texts : List (List ℕ)) (plans : Plans) (mark : Mark) (k : ℕ) (cs : List (Chronicle (List ℕ))) (was now : View)
+    (answer : List Recognition) : Type 0 where
+  pub answers : List Answer
+  pub new : AreNew k cs was now answers
+  pub lines : flat_map (line_in plans texts) answer ≡ flat_map (answer_line mark) answers
+  pub notices : map notice_of answer ≡ map notice_in answers
 
 module _ (texts : List (List ℕ)) (p : Plan) (settled came : List (Entry Sym)) where
   -- the entries of a pool are known
@@ -94,7 +100,8 @@ module _ (texts : List (List ℕ)) (distinct : AreDistinct texts) where
 
     -- the lines of the recognitions of the chronicle are those of the assignments
     lines_are : (plans : Plans) (number : ℕ) (mark : Mark) (answer : List Recognition) → chronicle_at plans number ≡ Some (chronicle p) → AllByRecursion (IsRecognitionOf (chronicle p) number mark) answer
-        → flat_map (line_in plans texts) answer ≡ flat_map (recognition_line (chronicle_in texts p) mark) (map (renamed_assignment (text_in texts)) (map assignment_of answer))
+        → flat_map (line_in plans texts) answer
+        ≡ flat_map (answer_line mark) (map (answer_of number (chronicle_in texts p)) (map (renamed_assignment (text_in texts)) (map assignment_of answer)))
     lines_are plans number mark [] at h = refl
     lines_are plans number mark (r ∷ answer) at h =
         let here : chronicle_at plans r.chronicle ≡ Some (chronicle p) = ap (chronicle_at plans) h.0.chronicle ∙ at in
@@ -109,7 +116,7 @@ module _ (texts : List (List ℕ)) (distinct : AreDistinct texts) where
   dates_are (e ∷ es) = ap (λ (ds : List ℕ). e.value.date ∷ ds) (dates_are es)
 
   notices_are : (p : Plan) (number : ℕ) (mark : Mark) (answer : List Recognition) → AllByRecursion (IsRecognitionOf (chronicle p) number mark) answer
-      → map notice_of answer ≡ map (notice_at number) (map (renamed_assignment (text_in texts)) (map assignment_of answer))
+      → map notice_of answer ≡ map notice_in (map (answer_of number (chronicle_in texts p)) (map (renamed_assignment (text_in texts)) (map assignment_of answer)))
   notices_are p number mark [] each = refl
   notices_are p number mark (r ∷ answer) each =
       λ i. record { chronicle = each.0.chronicle i; dates = dates_are r.entries i } ∷ notices_are p number mark answer each.1 i
@@ -178,51 +185,31 @@ module _ (texts : List (List ℕ)) (distinct : AreDistinct texts) where
         (each_printable p number l.0 proper.0 of.0 (first_at number p ps at) l.3.each (recognised_of p number l.0 l.3))
         (all_printable ps (suc number) l.1 (next_from number p ps at) proper.1 of.1 l.4))
 
-    pub answer_text : (ps : List Plan) (number : ℕ) (answer : List Recognition) → StandFrom ps number → AllByRecursion IsProper ps → AllByRecursion (λ p. IsChronicleOf (HasText texts) (chronicle p)) ps
+    pub answer_seen : (ps : List Plan) (number : ℕ) (answer : List Recognition) → StandFrom ps number → AllByRecursion IsProper ps → AllByRecursion (λ p. IsChronicleOf (HasText texts) (chronicle p)) ps
         → ListsAllNew ps number mark pool_was was g pool_now now h answer
-        → IsMarkText (map (chronicle_in texts) ps) mark view_was view_now (flat_map (line_in plans texts) answer)
-    answer_text [] number answer at proper of l = ap (flat_map (line_in plans texts)) l
-    answer_text (p ∷ ps) number answer at proper of l = (
-      map (renamed_assignment (text_in texts)) (map assignment_of l.0),
-      flat_map (line_in plans texts) l.1,
-      new_here p proper.0 of.0 number l.0 l.3,
-      answer_text ps (suc number) l.1 (next_from number p ps at) proper.1 of.1 l.4,
-      ap (flat_map (line_in plans texts)) l.2 ∙ flat_map_append (line_in plans texts) l.0 l.1
-          ∙ ap (λ (xs : List ℕ). xs ++ flat_map (line_in plans texts) l.1) (lines_are p proper.0 of.0 plans number mark l.0 (first_at number p ps at) l.3.each),
-    )
-
-    -- as many assignments are new as recognitions are answered
-    pub answer_new : (ps : List Plan) (number : ℕ) (answer : List Recognition) → AllByRecursion IsProper ps
-        → AllByRecursion (λ p. IsChronicleOf (HasText texts) (chronicle p)) ps
-        → ListsAllNew ps number mark pool_was was g pool_now now h answer
-        → AllNew (map (chronicle_in texts) ps) view_was
-        view_now (length answer)
-    answer_new [] number answer proper of l = ap length l
-    answer_new (p ∷ ps) number answer proper of l = (
-      map (renamed_assignment (text_in texts)) (map assignment_of l.0),
-      length l.1,
-      new_here p proper.0 of.0 number l.0 l.3,
-      answer_new ps (suc number) l.1 proper.1 of.1 l.4,
-      ap length l.2 ∙ length-append l.0 l.1
-          ∙ ap (λ n. n + length l.1) (sym
-          (length-map (map assignment_of l.0) (renamed_assignment (text_in texts)) ∙ length-map l.0 assignment_of)),
-    )
-
-    -- what listeners are told of the answer
-    pub answer_notices : (ps : List Plan) (number : ℕ) (answer : List Recognition) → AllByRecursion IsProper ps
-        → AllByRecursion (λ p. IsChronicleOf (HasText texts) (chronicle p)) ps
-        → ListsAllNew ps number mark pool_was was g pool_now now h answer
-        → AreMarkNotices number (map (chronicle_in texts) ps) view_was
-        view_now (map notice_of answer)
-    answer_notices [] number answer proper of l = ap (map notice_of) l
-    answer_notices (p ∷ ps) number answer proper of l = (
-      map (renamed_assignment (text_in texts)) (map assignment_of l.0),
-      map notice_of l.1,
-      new_here p proper.0 of.0 number l.0 l.3,
-      answer_notices ps (suc number) l.1 proper.1 of.1 l.4,
-      ap (map notice_of) l.2 ∙ map-append notice_of l.0 l.1
-          ∙ ap (λ ns. ns ++ map notice_of l.1) (notices_are p number mark l.0 l.3.each),
-    )
+        → IsSeen texts plans mark number (map (chronicle_in texts) ps) view_was view_now answer
+    answer_seen [] number answer at proper of l =
+        record { answers = []; new = refl; lines = ap (flat_map (line_in plans texts)) l; notices = ap (map notice_of) l }
+    answer_seen (p ∷ ps) number answer at proper of l =
+        let new = map (renamed_assignment (text_in texts)) (map assignment_of l.0) in
+        let first = map (answer_of number (chronicle_in texts p)) new in
+        let rest = answer_seen ps (suc number) l.1 (next_from number p ps at) proper.1 of.1 l.4 in
+        record {
+          answers = first ++ rest.answers;
+          new = (
+            new,
+            rest.answers,
+            new_here p proper.0 of.0 number l.0 l.3,
+            rest.new,
+            refl,
+          );
+          lines = ap (flat_map (line_in plans texts)) l.2 ∙ flat_map-append (line_in plans texts) l.0 l.1
+              ∙ (λ i. lines_are p proper.0 of.0 plans number mark l.0 (first_at number p ps at) l.3.each i ++ rest.lines i)
+              ∙ sym (flat_map-append (answer_line mark) first rest.answers);
+          notices = ap (map notice_of) l.2 ∙ map-append notice_of l.0 l.1
+              ∙ (λ i. notices_are p number mark l.0 l.3.each i ++ rest.notices i)
+              ∙ sym (map-append notice_in first rest.answers);
+        }
 
     -- each recognition has an entry, since each chronicle has an event
     pub all_filled : (ps : List Plan) (number : ℕ) (answer : List Recognition) → AllByRecursion IsProper ps

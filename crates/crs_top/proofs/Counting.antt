@@ -1,18 +1,15 @@
 -- What is counted line by line is the tally of the lines.
-use Rattle.std.proofs.Common.{◌≡◌, ◌≤◌, ◌∙◌, ℕ, ◌+◌, min, max, Bool, true, false, List, [], ◌∷◌, ◌++◌, nat_lt, refl, sym, ap, subst, arith}
+use Rattle.std.proofs.Common.{◌≡◌, ◌≤◌, ◌∙◌, ℕ, ◌+◌, min, max, Bool, true, false, cond, List, [], ◌∷◌, ◌++◌, nat_lt, refl, sym, ap, subst, arith}
+use Rattle.std.proofs.Common.{append-nil, length, length-append, map, filter}
 use Rattle.std.specs.Prelude.{◌||◌}
 use Rattle.std.specs.List.{list_any}
-use Rattle.crs_base.specs.Lines.{Line}
-use Rattle.crs_model.specs.Models.{Chronicle}
-use Rattle.crs_log.specs.Reading.{Given}
-use Rattle.crs_log.specs.Recognitions.{View, view_of}
-use Rattle.crs_log.specs.Run as run
-use Rattle.crs_log.specs.Run.{Setting, State, Outcome, after_given, after_line, outcomes}
+use Rattle.std.proofs.lemmas.Grind.{flat_map-append}
+use Rattle.std.proofs.lemmas.List.Elements.{filter-append}
+use Rattle.crs_log.specs.Trace.{Effect, answers_in}
 use Rattle.crs_top.specs.declared.session.Counts.{Counts}
-use Rattle.crs_top.specs.Taking.{after_all, IsGivenTally}
-use Rattle.crs_top.specs.Tallies.{Tally, nothing, together, CountsAs, IsLineTally, IsTallyFrom, capped, AreCounts, Counted, with_refused}
-use Rattle.crs_top.specs.Tallies.{with_mark}
-use Rattle.crs_top.specs.Texts.{Frame, setting_of, is_refused}
+use Rattle.crs_top.specs.Tallies.{Tally, nothing, together, capped, AreCounts, Counted, with_refused, with_mark}
+use Rattle.crs_top.specs.Tallies.{refused_in, recognitions_in, peak_of, tally_of, line_tally}
+use Rattle.crs_top.specs.Texts.{is_refused}
 
 -- ---- numbers up to a limit
 
@@ -92,49 +89,39 @@ peak_after peak n = by peak (capped n)
 
 -- ---- lines behind others
 
-pub tally_more : (focus : Bool) (f : Frame) (s : State) (gs : List Given) (g : Given) (t first : Tally) → IsGivenTally focus f s gs t
-    → IsLineTally focus f.models.chronicles (view_of (after_all (setting_of f) s gs))
-    (view_of (after_given (setting_of f) (after_all (setting_of f) s gs) g).0)
-    (after_given (setting_of f) (after_all (setting_of f) s gs) g).1 first
-    → IsGivenTally focus f s (gs ++ g ∷ []) (together t first)
-tally_more focus f s [] g t first h k = (first, nothing, k, refl, ap (λ z. together z first) h ∙ none_together first ∙ sym (together_none first))
-tally_more focus f s (x ∷ gs) g t first h k = (
-  h.0,
-  together h.1 first,
-  h.2,
-  tally_more focus f (after_given (setting_of f) s x).0 gs g h.1 first h.3 k,
-  ap (λ z. together z first) h.4 ∙ together_assoc h.0 h.1 first,
-)
+peak_append : (xs ys : List ℕ) → peak_of (xs ++ ys) ≡ max (peak_of xs) (peak_of ys)
+peak_append [] ys = omega arith
+peak_append (x ∷ xs) ys = let r = peak_append xs ys in omega (arith, r)
 
-pub tally_append : (focus : Bool) (f : Frame) (s : State) (xs ys : List Given) (a b : Tally) → IsGivenTally focus f s xs a
-    → IsGivenTally focus f (after_all (setting_of f) s xs) ys b → IsGivenTally focus f s (xs ++ ys) (together a b)
-tally_append focus f s [] ys a b h k = subst (IsGivenTally focus f s ys) (sym (ap (λ z. together z b) h ∙ none_together b)) k
-tally_append focus f s (x ∷ xs) ys a b h k = (
-  h.0,
-  together h.1 b,
-  h.2,
-  tally_append focus f (after_given (setting_of f) s x).0 xs ys h.1 b h.3 k,
-  ap (λ z. together z b) h.4 ∙ together_assoc h.0 h.1 b,
-)
+pub tally_append : (es ds : List Effect) (xs ys : List ℕ) → tally_of (es ++ ds) (xs ++ ys) ≡ together (tally_of es xs) (tally_of ds ys)
+tally_append es ds xs ys =
+    let r : refused_in (es ++ ds) ≡ refused_in es + refused_in ds =
+    ap length (filter-append (λ (e : Effect). is_refused e.outcome) es ds)
+    ∙ length-append (filter (λ (e : Effect). is_refused e.outcome) es) (filter (λ (e : Effect). is_refused e.outcome) ds) in
+    let k : recognitions_in (es ++ ds) ≡ recognitions_in es + recognitions_in ds =
+    ap length (flat_map-append (λ (e : Effect). e.answers) es ds) ∙ length-append (answers_in es) (answers_in ds) in
+    let p = peak_append xs ys in
+    λ i. record { refused = r i; recognitions = k i; peak = p i }
+
+refused_one : (e : Effect) (b : Bool) → length (cond b (e ∷ []) []) ≡ cond b 1 0
+refused_one e true = refl
+refused_one e false = refl
+
+pub tally_one : (e : Effect) (n : ℕ) → tally_of (e ∷ []) (n ∷ []) ≡ line_tally e.outcome e.answers n
+tally_one e n =
+    let r = refused_one e (is_refused e.outcome) in
+    let k : length (e.answers ++ []) ≡ length e.answers = ap length (append-nil e.answers) in
+    let p : max n 0 ≡ n = omega arith in
+    λ i. record { refused = r i; recognitions = k i; peak = p i }
 
 -- ---- some line is refused exactly where their number isn't 0
 
-or_some : (r rest : ℕ) (a b : Bool) → nat_lt 0 r ≡ a → nat_lt 0 rest ≡ b → nat_lt 0 (r + rest) ≡ (a || b)
-or_some r rest true b h k = grind arith
-or_some r rest false b h k = grind arith
+some_by : (e : Effect) (es : List Effect) (b : Bool) → nat_lt 0 (length (cond b (e ∷ es) es)) ≡ (b || nat_lt 0 (length es))
+some_by e es true = grind arith
+some_by e es false = refl
 
-line_some : (cs : List (Chronicle (List ℕ))) (was now : View) (o : Outcome) (r n : ℕ) → CountsAs cs was now o r n → nat_lt 0 r ≡ is_refused o
-line_some cs was now run.Passed r n h = ap (nat_lt 0) h.0
-line_some cs was now (run.Refused fault) r n h = ap (nat_lt 0) h.0
-line_some cs was now (run.Accepted entry) r n h = ap (nat_lt 0) h.0
-line_some cs was now (run.Marked mark) r n h = ap (nat_lt 0) h.0
-
-pub some_counted : (focus : Bool) (c : Setting) (cs : List (Chronicle (List ℕ))) (s : State) (ls : List Line) (t : Tally)
-    → IsTallyFrom focus c cs s ls t
-    → nat_lt 0 t.refused ≡ list_any is_refused (outcomes c s ls)
-some_counted focus c cs s [] t h = ap (λ (z : Tally). nat_lt 0 z.refused) h
-some_counted focus c cs s (l ∷ ls) t h =
-    let o = after_line c s l in
-    ap (λ (z : Tally). nat_lt 0 z.refused) h.4
-    ∙ or_some h.0.refused h.1.refused (is_refused o.1) (list_any is_refused (outcomes c o.0 ls))
-    (line_some cs (view_of s) (view_of o.0) o.1 h.0.refused h.0.recognitions h.2.0) (some_counted focus c cs o.0 ls h.1 h.3)
+pub some_counted : (es : List Effect) → nat_lt 0 (refused_in es) ≡ list_any is_refused (map (λ e. e.outcome) es)
+some_counted [] = refl
+some_counted (e ∷ es) =
+    some_by e (filter (λ (d : Effect). is_refused d.outcome) es) (is_refused e.outcome)
+    ∙ ap (λ b. is_refused e.outcome || b) (some_counted es)

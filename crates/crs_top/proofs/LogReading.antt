@@ -13,6 +13,7 @@ use Rattle.crs_desk.specs.declared.desk.DeskError.TheVariants as errors
 use Rattle.crs_desk.proofs.Calls.{took_none, stream_after, advanced_twice, rises_push, rises_weaker}
 use Rattle.crs_log.specs.Reading.{Reader, Given, given, given_lines, whole_lines}
 use Rattle.crs_log.specs.Run.{at_start}
+use Rattle.crs_log.specs.Trace.{IsTrace}
 use Rattle.crs_log.proofs.Prompt.{told_whole}
 use Rattle.crs_top.specs.declared.status.Status.TheVariants as stops
 use Rattle.crs_top.specs.declared.status.Status.{Status}
@@ -20,7 +21,7 @@ use Rattle.crs_top.specs.declared.session.Session.{Session}
 use Rattle.crs_top.specs.declared.session.Counts.{Counts}
 use Rattle.crs_top.specs.Session.{Represents, IsUncounted}
 use Rattle.crs_top.specs.Tallies.{IsSummary}
-use Rattle.crs_top.specs.Taking.{after_all, Takes, IsGivenText}
+use Rattle.crs_top.specs.Taking.{Takes}
 use Rattle.crs_top.specs.Texts.{Frame, setting_of, IsWholeText, IsLogText, some_refused}
 use Rattle.crs_top.specs.Logs.{tail_of, summary_of, IsSummaryPart, ArePages, IsSummaryOf, has_refused, IsEndedText, Appends, IsPrompt}
 use Rattle.crs_top.specs.Logs.{IsPromptAt, IsCutShort}
@@ -32,8 +33,8 @@ use Rattle.crs_report.specs.Listeners.{Notice, Member, notice_of, members_after,
 use Rattle.crs_report.proofs.After.{after_none, after_more}
 use Rattle.std.proofs.lemmas.List.{map-append}
 use Rattle.std.specs.Prelude.{map, flat_map}
-use Rattle.crs_top.proofs.Summing.{IsAt, at_none, at_more, HasBegun, begun_by, text_of, notices_of, summary_is, refused_is}
-use Rattle.crs_top.proofs.Taken.{takes_none, takes_append, given_text}
+use Rattle.crs_top.proofs.Summing.{IsAt, at_none, at_more, HasBegun, begun_by, text_is, notices_are, summary_is, refused_is}
+use Rattle.crs_top.proofs.Taken.{takes_none, takes_append}
 
 -- t bytes of the log were read, in these turns
 pub record Base (f : Frame) (old : Told) (i t : ℕ) (more : List Turn) (now : Told) : Type 0 where
@@ -66,8 +67,7 @@ whole_of : (f : Frame) (focus : Bool) (start : Counts) (t : ℕ) (bytes : List �
     → IsAt t bytes lines told → Takes f focus start x (at_start f.texts) told unwritten all → IsWholeText f bytes all.text
 whole_of f focus start t bytes x lines told all a k =
     let is : told ≡ given_lines 4096 0 (whole_lines bytes) = told_whole 4096 bytes told lines a.given a.none.1 in
-    given_text f 0 (at_start f.texts) (whole_lines bytes) all.text (subst (λ (z : List ℕ). IsGivenText f (at_start f.texts) (given_lines 4096 0 (whole_lines bytes)) z) (sym k.written)
-    (subst (λ (gs : List Given). IsGivenText f (at_start f.texts) gs k.text) is k.says))
+    (k.effects, k.last, subst (λ (gs : List Given). IsTrace (setting_of f) f.models.chronicles (at_start f.texts) gs k.effects k.last) is k.trace, k.written)
 
 -- what is written so far is the text of the whole lines
 appends : (focus : Bool) (members heard : List Member) (f : Frame) (old : Told) (i limit t : ℕ) (x : Session) (lines : Reader) (now : Told)
@@ -199,7 +199,7 @@ module _ (focus summary : Bool) (members heard : List Member) (f : Frame) (old :
         start = h.start;
         begun = h.begun;
         takes = takes_append f focus h.start x y (at_start f.texts) h.told p.told h.all tells.all h.takes
-            (p.takes f (after_all (setting_of f) (at_start f.texts) h.told) h.takes.state);
+            (p.takes f h.takes.last h.takes.state);
         written = w.written ∙ rw (r.written, h.written, append_assoc) (ap (λ (y : List ℕ). old.written ++ (h.all.text ++ y)) (take-length text ∙ tells.text_is));
         heard_is = heard_more members heard then h.all.found tells.all.found h.heard_is tells.heard;
       }
@@ -282,7 +282,7 @@ module _ (focus summary : Bool) (members heard : List Member) (f : Frame) (old :
       let at : IsAt (t + n) (take (t + n) log) now (h.told ++ p.told) =
       subst (λ (bs : List ℕ). IsAt (t + n) bs now (h.told ++ p.told)) (sym piece) (at_more t n lines now h.told (take t log) (take n buf) x y tells.all (length-take-le n buf few) h.at p) in
       let takes = takes_append f focus h.start x y (at_start f.texts) h.told p.told h.all tells.all h.takes
-      (p.takes f (after_all (setting_of f) (at_start f.texts) h.told) h.takes.state) in
+      (p.takes f h.takes.last h.takes.state) in
       (cut_short mid new last limit t n x y lines buf text stop either h r room few pos k w)
       (inl (
         t + n,
@@ -354,13 +354,13 @@ module _ (focus summary : Bool) (members heard : List Member) (f : Frame) (old :
 
       all_takes : Takes f focus h.start y (at_start f.texts) (h.told ++ p.2.told) unwritten all
       all_takes = takes_append f focus h.start x y (at_start f.texts) h.told p.2.told h.all p.0 h.takes
-          (p.2.takes f (after_all (setting_of f) (at_start f.texts) h.told) h.takes.state)
+          (p.2.takes f h.takes.last h.takes.state)
 
       log_text : IsLogText f log all.text
-      log_text = text_of f log focus h.start h.begun y (h.told ++ p.2.told) all all_told all_takes
+      log_text = text_is f log focus h.start h.begun y (h.told ++ p.2.told) all all_told all_takes
 
       log_notices : AreLogNotices f log (map notice_of all.found)
-      log_notices = notices_of f log focus h.start h.begun y (h.told ++ p.2.told) all all_told all_takes
+      log_notices = notices_are f log focus h.start h.begun y (h.told ++ p.2.told) all all_told all_takes
 
       log_summary : IsSummary focus f log (summary_of y)
       log_summary = summary_is f log focus h.start h.begun y (h.told ++ p.2.told) all all_told all_takes
@@ -434,7 +434,7 @@ stop_before focus summary members f t i limit = (
     rooms = tt;
     most = omega arith;
     prompt = tt;
-    outcome = inl (0, omega arith, ([], 0, refl, sym (append-nil t.written)));
+    outcome = inl (0, omega arith, ([], 0, ([], at_start f.texts, refl, refl), sym (append-nil t.written)));
   },
 )
 

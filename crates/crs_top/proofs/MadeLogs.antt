@@ -7,7 +7,7 @@ use Rattle.std.specs.List.{list_any}
 use Rattle.std.specs.Option.{option_and_then}
 use Rattle.std.proofs.lemmas.Bool.{le-leb, le-ltb}
 use Rattle.std.proofs.Math.Nat.{max-le}
-use Rattle.crs_base.specs.Lines.{lines_of}
+use Rattle.crs_base.specs.Lines.{lines_of, line_limit}
 use Rattle.crs_base.specs.Symbols.{is_known, with_texts}
 use Rattle.crs_base.specs.Tokens.{Token, Word, Mark}
 use Rattle.crs_base.proofs.LineSteps.{whole}
@@ -18,10 +18,11 @@ use Rattle.crs_drill.proofs.Drawn.{AreStages, stages_none, kind_below, kind_stag
 use Rattle.crs_drill.proofs.MadeLines.{IsNumeral, numeral, lettered, IsWritten, plain_whole, split_line, entry_line, entry_ended, entry_written, clock_line, clock_written}
 use Rattle.crs_grammar.specs.Reading.{term_at, terms_on, values_on, arguments_at, pair_at, change_at, pattern_at, shift_at, anchor_at, span_of, level_of, event_of, noevent_of, most_at, occurs_of, hold_of, end_at, distance_of, values_of, differ_of, of_variable, variable_of, called_of, point_of, worded_of, inside_of, attribute_of, named_of, outside_of}
 use Rattle.crs_log.proofs.ItemLaw.{item_again}
-use Rattle.crs_log.specs.ItemOf.{Empty, what_of, what_is}
+use Rattle.crs_log.specs.ItemOf.{Empty, what_is}
 use Rattle.crs_log.specs.Items.{Event, Item, Clock, Finish, Happens, IsStatement, log_number_of, in_dates}
+use Rattle.crs_log.specs.Reading.{Plain, Long, given_line, given_lines}
 use Rattle.crs_log.specs.Known.{Named, known_of, new_texts, entry_of_event}
-use Rattle.crs_log.specs.Run.{Setting, State, Outcome, Accepted, Marked, Refused, TooLong, Order, Back, Late, Full, Values, at_start, with_entry, after_line, after_item, after_what, after_ordered, after_verdict, horizon_at, outcomes}
+use Rattle.crs_log.specs.Run.{Setting, State, Outcome, Accepted, Marked, Refused, Order, Back, Late, Full, Values, at_start, with_entry, after_line, after_item, after_what, after_ordered, after_verdict, horizon_at, outcomes}
 use Rattle.crs_model.specs.declared.recognition.Mark.TheVariants.{Clock as AtClock}
 use Rattle.crs_model.specs.Models.{Models, Name, Message}
 use Rattle.crs_parse.specs.Faults.{Fault}
@@ -80,9 +81,10 @@ record IsRead (w : List ℕ) (item : Item) : Type 0 where
   written : IsWritten w tokens
   means : IsStatement tokens item
 
-read_line : (c : Setting) (s : State) (w : List ℕ) (item : Item) → IsRead w item → after_line c s (whole w) ≡ after_item c s item
-read_line c s w item h =
-    (λ i. cond (le-ltb 4096 (length w) h.written.short i) (s, Refused TooLong) (after_what c s (what_of (plain_whole w h.written.plain i))))
+read_line : (c : Setting) (s : State) (n : ℕ) (w : List ℕ) (item : Item) → IsRead w item
+    → after_line c s (given_line line_limit n (whole w)) ≡ after_item c s item
+read_line c s n w item h =
+    (λ i. after_line c s (cond (le-ltb 4096 (length w) h.written.short i) (Long n) (Plain n (plain_whole w h.written.plain i))))
     ∙ ap (after_what c s) (λ i. cond (h.written.kept i) Empty (what_is (item_again w item (h.tokens, h.written.tokens, h.means) i)))
 
 -- a date is less than 2^40
@@ -217,15 +219,15 @@ module _ (c : Setting) (room : IsRoomy c) where
 
   -- none of the lines of this text is refused
   abbrev AreFine : State → List ℕ → Type 0
-  AreFine s text = list_any is_refused (outcomes c s (lines_of text)) ≡ false
+  AreFine s text = (m : ℕ) → list_any is_refused (outcomes c s (given_lines line_limit m (lines_of text))) ≡ false
 
   line_fine : (s : State) (w more : List ℕ) (item : Item) (k base : ℕ) → (r : IsRead w item) → Goes k base (after_item c s item)
       → ((t : State) → IsOn k base t → AreFine t more) → AreFine s ((w ++ 10 ∷ []) ++ more)
-  line_fine s w more item k base r g rest =
-      let now : after_line c s (whole w) ≡ after_item c s item = read_line c s w item r in
-      ap (λ ls. list_any is_refused (outcomes c s ls)) (split_line w more r.written.some r.written.plain)
-      ∙ (λ i. is_refused (now i).1 || list_any is_refused (outcomes c (now i).0 (lines_of more)))
-      ∙ (λ i. g.fine i || rest (after_item c s item).0 g.on i)
+  line_fine s w more item k base r g rest m =
+      let now : after_line c s (given_line line_limit (m + 1) (whole w)) ≡ after_item c s item = read_line c s (m + 1) w item r in
+      ap (λ ls. list_any is_refused (outcomes c s (given_lines line_limit m ls))) (split_line w more r.written.some r.written.plain)
+      ∙ (λ i. is_refused (now i).1 || list_any is_refused (outcomes c (now i).0 (given_lines line_limit (m + 1) (lines_of more))))
+      ∙ (λ i. g.fine i || rest (after_item c s item).0 g.on (m + 1) i)
 
   clock_fine : (b : Bool) (s : State) (base : ℕ) (more : List ℕ) (k : ℕ) → IsOn k base s → k < 1000001 → base < 1099511627776
       → ((t : State) → IsOn k base t → AreFine t more)
@@ -235,7 +237,7 @@ module _ (c : Setting) (room : IsRoomy c) where
       line_fine s (clock_line (decimal base)) more (Clock base) k base (clock_read base below) (clock_goes k base s o few) rest
 
   end_fine : (s : State) (k base : ℕ) → IsOn k base s → AreFine s (codes "end\n")
-  end_fine s k base o =
+  end_fine s k base o m =
       ap (λ b. list_any is_refused ((cond b (s, Refused Order) (after_ordered c s Finish)).1 ∷ [])) o.open_still
 
 -- ---- the made log
@@ -244,8 +246,8 @@ module _ (c : Setting) (room : IsRoomy c) where
   made_fine : (n k : ℕ) (d : drill.State) (s : State) → AreStages d.stages → IsOn k d.base s → k + n ≤ 1000000 → d.base ≤ 2 * k
       → AreFine c room s (lines_behind k n d)
   unfolding lines_behind
-  made_fine zero k d s h o few low = end_fine c room s k d.base o
-  made_fine (suc n) k d s h o few low =
+  made_fine zero k d s h o few low m = end_fine c room s k d.base o m
+  made_fine (suc n) k d s h o few low m =
       let g = grown d in
       let unit = unit_of g in
       let at = drawn (dated g) in
@@ -261,12 +263,12 @@ module _ (c : Setting) (room : IsRoomy c) where
       let clock = clock_text (k + 1) behind in
       let more = lines_behind (k + 1) n behind in
       let goes = entry_goes c room k g.base s (later k d.base g.base s up o) (omega arith) (date_of g) kind unit due low_kind in
-      ap (λ text. list_any is_refused (outcomes c s (lines_of text))) (append_assoc (line_of g) clock more)
-      ∙ ap (λ line. list_any is_refused (outcomes c s (lines_of (line ++ (clock ++ more))))) (entry_ended (date_of g) kind unit)
+      ap (λ text. list_any is_refused (outcomes c s (given_lines line_limit m (lines_of text)))) (append_assoc (line_of g) clock more)
+      ∙ ap (λ line. list_any is_refused (outcomes c s (given_lines line_limit m (lines_of (line ++ (clock ++ more)))))) (entry_ended (date_of g) kind unit)
       ∙ line_fine c room s (entry_line (decimal (date_of g)) (decimal kind) (decimal unit)) (clock ++ more) (Happens (made_event (date_of g) kind unit)) (k + 1) g.base
       (entry_read (date_of g) kind unit below low_kind low_unit) goes
       (λ t on. clock_fine c room ((k + 1) % 16 == 0) t behind.base more (k + 1) (subst (λ b. IsOn (k + 1) b t) (sym same) on) (omega arith) (omega (arith, same))
-      (λ u on. made_fine n (k + 1) behind u (kind_stages unit at h) on (omega arith) (omega (arith, same))))
+      (λ u on. made_fine n (k + 1) behind u (kind_stages unit at h) on (omega arith) (omega (arith, same)))) m
 
 -- at the limits of the program the log of any seed is read without a refusal
 pub none_refused : (f : Frame) (seed lines : ℕ) → lines ≤ 1000000 → IsAccepted (2 ^ 20) (2 ^ 32 - 1) drill_models_text f
@@ -279,4 +281,4 @@ none_refused f seed lines few a =
     let room : IsRoomy (setting_of f) = record { names = names; symbols = omega (arith, symbols); entries = omega (arith, entries) } in
     made_fine (setting_of f) room lines 0 (first_state seed) (record (at_start f.texts) { delay = 8 }) (stages_none 64)
     (record { open_still = refl; delay = refl; last = omega arith; horizon = omega arith; accepted = omega arith; texts = omega (arith, texts) })
-    (omega (arith, few)) (omega arith)
+    (omega (arith, few)) (omega arith) 1

@@ -1,5 +1,5 @@
 -- What an accepted `clock` and an accepted `end` bring.
-use Rattle.std.proofs.Common.{◌≡◌, ◌<◌, ◌≤◌, ◌^◌, ◌-◌, ℕ, Bool, true, false, cond, List, length, nat_lt, refl, sym, ap, subst, ◌∙◌}
+use Rattle.std.proofs.Common.{◌≡◌, ◌<◌, ◌≤◌, ◌^◌, ◌-◌, ℕ, Bool, true, false, cond, List, ◌++◌, length, nat_lt, refl, sym, ap, subst, ◌∙◌}
 use Rattle.std.proofs.Common.{arith, Ok, Err, true≢false, le_refl}
 use Rattle.std.proofs.Math.Nat.{le-max_left, max-le}
 use Rattle.std.specs.Prelude.{Some, None, IsSome, OnOk, Result, flat_map, IsTrue, ◌↔◌, ◌⊎◌}
@@ -13,6 +13,7 @@ use Rattle.crs_engine.proofs.Marking.{moved_forward, moved_to}
 use Rattle.crs_engine.specs.Refusals.{clock_refusal, IsRefusedAs}
 use Rattle.crs_engine.specs.declared.refused.Refused.{Refused}
 use Rattle.crs_engine.specs.declared.refused.Refused.TheVariants.{Stopped, Back, Memory}
+use Rattle.std.proofs.lemmas.List.{length-map}
 use Rattle.std.specs.Prelude.{if◌then◌else◌}
 use Rattle.crs_log.specs.Items as items
 use Rattle.crs_log.specs.Run as run
@@ -21,14 +22,16 @@ use Rattle.crs_log.specs.Recognitions.{view_of}
 use Rattle.crs_top.specs.declared.session.Session.{Session}
 use Rattle.crs_top.specs.Session.{Represents, Brings, BringsAll, line_in}
 use Rattle.crs_top.specs.declared.session.Counts.{Counts}
-use Rattle.crs_top.specs.Tallies.{AllLive, with_mark, with_refused}
+use Rattle.crs_top.specs.Tallies.{AllLive, Counted, with_mark, with_refused}
 use Rattle.crs_top.specs.Texts.{Frame, setting_of, fault_of}
 use Rattle.crs_top.specs.Written.{Written, with_text, with_answer}
 use Rattle.crs_report.specs.Lines.{refusal_line}
+use Rattle.crs_report.specs.Listeners.{notice_of}
+use Rattle.crs_top.specs.Notices.{notice_in}
 use Rattle.crs_top.proofs.Accepting.{refuse_brings}
 use Rattle.crs_top.proofs.Counting.{passed, counted_mark, peak_after}
 use Rattle.crs_top.proofs.Living.{held_by, held_live}
-use Rattle.crs_top.proofs.States.{mark_text, mark_new, mark_notices, answer_filled, models_then, entries_then, marked}
+use Rattle.crs_top.proofs.States.{mark_seen, answer_filled, models_then, entries_then, marked}
 
 fine_by : {A : Type 0} (stopped early : Bool) (full back : Refused) (answer : A) → stopped ≡ false
     → IsRefusedAs (if stopped then Some full else (if early then Some back else None)) (Ok answer) → early ≡ false
@@ -103,23 +106,24 @@ module _ (f : Frame) (x : Session) (s : State) (r : Represents f x s) (new : Eng
   mark_brings mark t h here there n out more same m rises after reached written =
       let moved = moved_forward x.engine new t h m rises in
       let live = mark_live mark t h there m rises after in
+      let seen = mark_seen f x s r new mark answer h m.same_plans moved rises m.marked after in
+      let count : length answer ≡ length seen.answers =
+      sym (length-map answer notice_of) ∙ ap length seen.notices ∙ length-map seen.answers notice_in in
       record {
         state = marked f x s r new mark answer h m.same_plans moved rises m.marked after t here there counts_then same m going reached
             (held_by new, live, peak_after x.counts.peak (held_by new));
         same_focus = m.same_focus;
-        text = flat_map (line_in new.plans x.symbols.texts) answer;
-        says = mark_text f x s r new mark answer h m.same_plans moved rises m.marked after;
-        written = ap (λ (w : Written). w.text) written;
+        answers = seen.answers;
+        are_new = seen.new;
+        written = ap (λ (w : Written). w.text) written ∙ (λ i. out.text ++ seen.lines i);
         found = answer;
-        notices = mark_notices f x s r new mark answer h m.same_plans moved rises m.marked after;
+        notices = seen.notices;
         filled = answer_filled f x s r new mark answer h m.same_plans moved rises m.marked after;
         added = ap (λ (w : Written). w.found) written;
-        tally = record (passed (held_by new)) { recognitions = length answer };
-        tallied = (
-          (refl, mark_new f x s r new mark answer h m.same_plans moved rises m.marked after),
-          subst (λ (b : Bool). AllLive b f.models.chronicles (view_of (record s { last = t; horizon = h; ended = there; marked = length s.accepted })) (held_by new)) m.same_focus live,
-        );
-        counted = counted_mark x.counts (length answer) (held_by new);
+        live = held_by new;
+        all_live = subst (λ (b : Bool). AllLive b f.models.chronicles (view_of (record s { last = t; horizon = h; ended = there; marked = length s.accepted })) (held_by new)) m.same_focus live;
+        counted = subst (λ (n : ℕ). Counted x.counts counts_then (record (passed (held_by new)) { recognitions = n })) count
+            (counted_mark x.counts (length answer) (held_by new));
       }
 
   -- a clock brings its mark

@@ -9,14 +9,14 @@ use Rattle.crs_log.specs.ItemOf.{What, Empty, Is, Faulty, what_is, item_of}
 use Rattle.crs_log.proofs.ItemLaw.{item_sound}
 use Rattle.crs_log.specs.Items.{Delay}
 use Rattle.crs_log.specs.Run as run
-use Rattle.crs_log.specs.Run.{Setting, State, after_what, after_given}
+use Rattle.crs_log.specs.Run.{Setting, State, after_what, after_line}
 use Rattle.crs_log.specs.Recognitions.{view_of}
 use Rattle.crs_top.specs.declared.session.Session.{Session}
 use Rattle.crs_top.specs.Session.{Represents, Brings, ordered_what, is_blank_what}
 use Rattle.crs_top.specs.Texts.{Frame, setting_of}
 use Rattle.crs_top.specs.Written.{Written}
 use Rattle.crs_top.proofs.States.{delayed}
-use Rattle.crs_top.proofs.Counting.{passed, counted_passed}
+use Rattle.crs_top.proofs.Counting.{counted_passed}
 
 -- an item that doesn't stand behind the end becomes what it does in order
 pub in_order : (c : Setting) (s : State) (w : What) → is_blank_what w ≡ false → s.ended ≡ false → (w ≡ Faulty → ⊥) → ordered_what c s w ≡ after_what c s w
@@ -36,15 +36,15 @@ pub delay_brings : (f : Frame) (x : Session) (s : State) (d n : ℕ) (out : Writ
 delay_brings f x s d n out r = record {
   state = delayed f x s d r;
   same_focus = refl;
-  text = [];
-  says = refl;
+  answers = [];
+  are_new = refl;
   written = sym (append-nil out.text);
   found = [];
   notices = refl;
   filled = tt;
   added = sym (append-nil out.found);
-  tally = passed r.peaked.0;
-  tallied = ((refl, refl), r.peaked.1);
+  live = r.peaked.0;
+  all_live = r.peaked.1;
   counted = counted_passed x.counts r.peaked.0 r.peaked.2;
 }
 
@@ -60,6 +60,6 @@ no_item bytes None e h = refl
 no_item bytes (Some item) e h = absurd (h.1 item (item_sound bytes item e))
 
 -- a line that is no item is faulty
-pub given_faulty : (c : Setting) (s : State) (n : ℕ) (bytes : List ℕ) → IsFaulty bytes → after_given c s (Plain n bytes) ≡ (s, run.Refused run.Form)
+pub given_faulty : (c : Setting) (s : State) (n : ℕ) (bytes : List ℕ) → IsFaulty bytes → after_line c s (Plain n bytes) ≡ (s, run.Refused run.Form)
 given_faulty c s n bytes h =
     (λ i. after_what c s (cond (h.0 i) Empty (what_is (item_of bytes)))) ∙ ap (λ o. after_what c s (what_is o)) (no_item bytes (item_of bytes) refl h)

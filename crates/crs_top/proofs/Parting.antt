@@ -6,7 +6,8 @@ use Rattle.std.specs.List.{list_any, sum_by}
 use Rattle.std.proofs.lemmas.Bool.{or_parts, le-ltb}
 use Rattle.std.proofs.lemmas.List.Sums.{sum_by-cons}
 use Rattle.crs_base.specs.Entry.{Key}
-use Rattle.crs_base.specs.Lines.{Line, bytes_of, is_long}
+use Rattle.std.specs.Prelude.{flat_map}
+use Rattle.crs_base.specs.Lines.{Line, bytes_of, is_long, line_limit}
 use Rattle.crs_model.specs.declared.recognition.Mark.{Mark}
 use Rattle.crs_model.specs.declared.recognition.Mark.TheVariants as marks
 use Rattle.crs_model.specs.Models.{Chronicle}
@@ -19,15 +20,27 @@ use Rattle.crs_log.specs.Known.{Verdict, Other, Named, BadArity, BadValue, known
 use Rattle.crs_log.specs.Run as run
 use Rattle.crs_log.specs.Run.{Setting, State, Outcome, Refused, Accepted, Marked, horizon_at, after_line, after_what}
 use Rattle.crs_log.specs.Run.{after_ordered, after_verdict, after_named, outcomes, end_date, with_entry}
-use Rattle.crs_log.specs.Recognitions.{View}
+use Rattle.crs_log.specs.Reading.{Given, given_line, given_lines}
+use Rattle.crs_log.specs.Recognitions.{View, view_of}
+use Rattle.crs_log.specs.Trace.{Answer, AreNew, AreAnswers, Effect, IsEffect, IsTrace}
+use Rattle.crs_log.proofs.GivenLaw.{given_line_law}
 use Rattle.crs_log.proofs.Canonicals.{IsOfSymbols}
 use Rattle.crs_log.proofs.ReadEntries.{AreAccepted, one_accepted, line_read}
-use Rattle.crs_top.specs.Texts.{LogEntry, IsMarkText, IsLineText, IsTextFrom, is_refused}
+use Rattle.crs_top.specs.Texts.{LogEntry, answer_line, line_text, text_of, is_refused}
 use Rattle.crs_top.specs.Rearranged.{Part, Ending, AtClock, AtEnd, items_in, items_of, led_by, parts_of}
 
 -- what recognition reads at a horizon, where so many had been accepted by the last mark
 abbrev pub view : ℕ → ℕ → List LogEntry → View
 view k h xs = record { settled = dated_before h xs; arrived = in_key_order (arrived k xs); horizon = h }
+
+-- the lines of a mark's answers
+abbrev pub IsMarkText : List (Chronicle (List ℕ)) → Mark → View → View → List ℕ → Type 0
+IsMarkText cs mark was now text = (answers : List Answer) × AreNew 0 cs was now answers × (text ≡ flat_map (answer_line mark) answers)
+
+-- what is written for a line that is met in the state s and leaves `after`
+abbrev IsLineText : List (Chronicle (List ℕ)) → ℕ → State → State × Outcome → List ℕ → Type 0
+IsLineText cs n s after text =
+    (answers : List Answer) × AreAnswers cs (view_of s) (view_of after.0) after.1 answers × (text ≡ line_text n after.1 answers)
 
 abbrev pub taken : Verdict → ℕ → ℕ
 taken Other n = 0
@@ -153,13 +166,13 @@ module _ (c : Setting) (cs : List (Chronicle (List ℕ))) where
         (provided (Is (Happens e)) (has_place e) (run.Values c.symbols) (with_entry s (new e) e, Accepted (new e))
         (λ r first rest text o t x.
         led e (parts_of s.delay items) s.horizon s.marked s.accepted (s.accepted ++ new e ∷ []) text (added e s.accepted place k v)
-        (nothing_first (with_entry s (new e) e) items first rest text o x t)))
+        (nothing_first (with_entry s (new e) e) items first rest text o.2 x t)))
 
     steps_verdict : (e : Event) (v : Verdict) → IsOfSymbols e → known_of c.names e ≡ v
         → Steps n s items (Is (Happens e)) (after_verdict c s e v)
     steps_verdict e Other k v = λ r first rest text o t x.
         led e (parts_of s.delay items) s.horizon s.marked s.accepted s.accepted text (passed e s.accepted v)
-        (nothing_first s items first rest text o x t)
+        (nothing_first s items first rest text o.2 x t)
     steps_verdict e BadArity k v = never (Is (Happens e)) s run.Arity
     steps_verdict e BadValue k v = never (Is (Happens e)) s run.Value
     steps_verdict e (Named place) k v = steps_named e place k v
@@ -167,7 +180,7 @@ module _ (c : Setting) (cs : List (Chronicle (List ℕ))) where
     steps_ordered : (item : Item) → ((e : Event) → Is item ≡ Is (Happens e) → IsOfSymbols e)
         → Steps n s items (Is item) (after_ordered c s item)
     steps_ordered (Delay d) k = λ r first rest text o t x.
-        nothing_first (record s { delay = d }) items first rest text o x t
+        nothing_first (record s { delay = d }) items first rest text o.2 x t
     steps_ordered (Clock t) k =
         unless (Is (Clock t)) (nat_lt t s.last) s (run.Back t s.last) (record s { last = t; horizon = horizon_at s.delay s.horizon t; marked = length s.accepted }, Marked (marks.Clock t))
         (λ r first rest text o u x. (s.accepted, same_follow s.accepted, (first, rest, o, u, x)))
@@ -178,18 +191,37 @@ module _ (c : Setting) (cs : List (Chronicle (List ℕ))) where
 
   steps_what : (n : ℕ) (s : State) (items : List Item) (w : What) → ((e : Event) → w ≡ Is (Happens e) → IsOfSymbols e)
       → Steps n s items w (after_what c s w)
-  steps_what n s items Empty k = λ r first rest text o t x. nothing_first s items first rest text o x t
+  steps_what n s items Empty k = λ r first rest text o t x. nothing_first s items first rest text o.2 x t
   steps_what n s items Faulty k = never n s items Faulty s run.Form
   steps_what n s items (Is item) k =
       unless n s items (Is item) s.ended s run.Order (after_ordered c s item) (steps_ordered n s items item k)
 
+  effect_text : (s next : State) (g : Given) (e : Effect) → IsEffect c cs s g e next
+      → IsLineText cs e.number s (after_line c s g) (line_text e.number e.outcome e.answers)
+  effect_text s next g e h =
+      let answers : AreAnswers cs (view_of s) (view_of next) e.outcome e.answers =
+      subst (λ (v : View). AreAnswers cs v (view_of next) e.outcome e.answers) h.was
+      (subst (λ (v : View). AreAnswers cs e.was v e.outcome e.answers) h.now h.answers) in
+      subst (λ (a : State × Outcome). IsLineText cs e.number s a (line_text e.number e.outcome e.answers)) (sym h.becomes)
+      (e.answers, answers, refl)
+
   -- what is written for lines of which none is refused is written for their parts
-  pub parted_text : (n : ℕ) (s : State) (ls : List Line) (text : List ℕ) → list_any is_refused (outcomes c s ls) ≡ false
-      → IsTextFrom c cs n s ls text
-      → IsPartsText (parts_of s.delay (items_of ls)) s.horizon s.marked s.accepted text
-  parted_text n s [] text r t = t
-  parted_text n s (l ∷ ls) text r t =
-      let fine = or_parts (is_refused (after_line c s l).1) (list_any is_refused (outcomes c (after_line c s l).0 ls)) r in
-      let rest = parted_text (n + 1) (after_line c s l).0 ls t.1 fine.1 t.3 in
-      unless n s (items_of ls) (what_of (bytes_of l)) (is_long l) s run.TooLong (after_what c s (what_of (bytes_of l)))
-      (steps_what n s (items_of ls) (what_of (bytes_of l)) (line_read (bytes_of l))) fine.0 t.0 t.1 text t.2 rest t.4
+  pub parted_text : (n : ℕ) (s : State) (ls : List Line) (es : List Effect) (last : State)
+      → list_any is_refused (outcomes c s (given_lines line_limit n ls)) ≡ false
+      → IsTrace c cs s (given_lines line_limit n ls) es last
+      → IsPartsText (parts_of s.delay (items_of ls)) s.horizon s.marked s.accepted (text_of es)
+  parted_text n s [] [] last r t = refl
+  parted_text n s [] (e ∷ es) last r t = absurd t
+  parted_text n s (l ∷ ls) [] last r t = absurd t
+  parted_text n s (l ∷ ls) (e ∷ es) last r t =
+      let g : Given = given_line line_limit (n + 1) l in
+      let gs : List Given = given_lines line_limit (n + 1) ls in
+      let fine = or_parts (is_refused (after_line c s g).1) (list_any is_refused (outcomes c (after_line c s g).0 gs)) r in
+      let next : (after_line c s g).0 ≡ t.0 = ap (λ (a : State × Outcome). a.0) t.1.becomes in
+      let rest = parted_text (n + 1) (after_line c s g).0 ls es last fine.1
+      (subst (λ (z : State). IsTrace c cs z gs es last) (sym next) t.2) in
+      let steps : Steps e.number s (items_of ls) (what_of (bytes_of l)) (after_line c s g) =
+      subst (Steps e.number s (items_of ls) (what_of (bytes_of l))) (sym (given_line_law c s (n + 1) l))
+      (unless e.number s (items_of ls) (what_of (bytes_of l)) (is_long l) s run.TooLong (after_what c s (what_of (bytes_of l)))
+      (steps_what e.number s (items_of ls) (what_of (bytes_of l)) (line_read (bytes_of l)))) in
+      steps fine.0 (line_text e.number e.outcome e.answers) (text_of es) (text_of (e ∷ es)) (effect_text s t.0 g e t.1) rest refl

@@ -1,7 +1,8 @@
 -- Logs that are rearranged have one text.
-use Rattle.std.proofs.Common.{◌≡◌, ℕ, ◌+◌, ◌<◌, ◌≤◌, List, [], ◌∷◌, ◌++◌, length, refl, sym, ap, subst, ◌∙◌, arith, Option, Some, None, Bool, true, false, cond, lt-ltb}
+use Rattle.std.proofs.Common.{◌≡◌, ℕ, ◌+◌, ◌<◌, ◌≤◌, List, [], ◌∷◌, ◌++◌, length, refl, sym, ap, subst, ◌∙◌, arith, Option, Some, None, Bool, true, false, cond, lt-ltb, map, suc}
 use Rattle.std.specs.Prelude.{flat_map, ◌-◌}
 use Rattle.std.specs.List.{AllZip, AllByRecursion, sum_by}
+use Rattle.std.proofs.lemmas.Grind.{flat_map-append}
 use Rattle.std.proofs.lemmas.List.Sorted.{sum_by-IsPermutation}
 use Rattle.crs_base.specs.Entry.{Key}
 use Rattle.crs_base.proofs.Words.{in_from_each}
@@ -18,20 +19,20 @@ use Rattle.crs_model.proofs.TwinLists.{Paired, Reads, new_paired}
 use Rattle.crs_model.proofs.TwinPools.{AreAlike, pairing}
 use Rattle.crs_log.specs.Items.{Event}
 use Rattle.crs_log.specs.Run.{Setting, at_start, end_date, horizon_at}
+use Rattle.crs_log.specs.Trace.{Answer, answer_of, AreNew}
 use Rattle.crs_log.proofs.ReadEntries.{IsRead, AreAccepted, none_accepted, same_read}
-use Rattle.crs_report.specs.Lines.{recognition_line}
 use Rattle.crs_report.proofs.TwinLines.{line_same}
-use Rattle.crs_top.specs.Texts.{LogEntry, IsMarkText, setting_of}
+use Rattle.crs_top.specs.Texts.{LogEntry, answer_line, text_of, setting_of}
 use Rattle.crs_top.specs.Rearranged.{Part, Ending, AtClock, AtEnd, IsRearranged, parts_of, items_of, RearrangedLogsHaveOneText}
-use Rattle.crs_top.proofs.Parting.{view, weight, Follow, IsMarkedText, IsEndText, IsPartsText, parted_text}
+use Rattle.crs_top.proofs.Parting.{view, IsMarkText, weight, Follow, IsMarkedText, IsEndText, IsPartsText, parted_text}
 
-lines_same : (T : LogEntry → LogEntry → Type 0) → Twins T → (c : Chronicle (List ℕ)) (mark : Mark) (xs ys : List (Assignment (List ℕ)))
+lines_same : (T : LogEntry → LogEntry → Type 0) → Twins T → (k : ℕ) (c : Chronicle (List ℕ)) (mark : Mark) (xs ys : List (Assignment (List ℕ)))
     → AllZip (Paired T) xs ys
-    → flat_map (recognition_line c mark) xs ≡ flat_map (recognition_line c mark) ys
-lines_same T t c mark [] [] z = refl
-lines_same T t c mark [] (y ∷ ys) z = absurd z
-lines_same T t c mark (x ∷ xs) [] z = absurd z
-lines_same T t c mark (x ∷ xs) (y ∷ ys) z = λ i. line_same T t c mark x y z.0 i ++ lines_same T t c mark xs ys z.1 i
+    → flat_map (answer_line mark) (map (answer_of k c) xs) ≡ flat_map (answer_line mark) (map (answer_of k c) ys)
+lines_same T t k c mark [] [] z = refl
+lines_same T t k c mark [] (y ∷ ys) z = absurd z
+lines_same T t k c mark (x ∷ xs) [] z = absurd z
+lines_same T t k c mark (x ∷ xs) (y ∷ ys) z = λ i. line_same T t c mark x y z.0 i ++ lines_same T t k c mark xs ys z.1 i
 
 -- what a chronicle's recognition reads at two marks
 abbrev reads : Chronicle (List ℕ) → ℕ → ℕ → ℕ → ℕ → List LogEntry → Reads (List ℕ)
@@ -48,16 +49,18 @@ pool_paired T c xs came ys other z y = by c.prompt
 one_mark : (T : LogEntry → LogEntry → Type 0) → Twins T → (xs ys : List LogEntry)
     → ((h : ℕ) → AllZip T (dated_before h xs) (dated_before h ys))
     → (k l m n : ℕ) → AllZip T (in_key_order (arrived k xs)) (in_key_order (arrived l ys)) → AllZip T (in_key_order (arrived m xs)) (in_key_order (arrived n ys))
-    → (cs : List (Chronicle (List ℕ))) (mark : Mark) (g h : ℕ) (a b : List ℕ) → IsMarkText cs mark (view k g xs) (view m h xs) a
-    → IsMarkText cs mark (view l g ys) (view n h ys) b → a ≡ b
-one_mark T t xs ys z k l m n had came [] mark g h a b p q = p ∙ sym q
-one_mark T t xs ys z k l m n had came (c ∷ cs) mark g h a b p q =
+    → (number : ℕ) (cs : List (Chronicle (List ℕ))) (mark : Mark) (g h : ℕ) (a b : List Answer) → AreNew number cs (view k g xs) (view m h xs) a
+    → AreNew number cs (view l g ys) (view n h ys) b → flat_map (answer_line mark) a ≡ flat_map (answer_line mark) b
+one_mark T t xs ys z k l m n had came number [] mark g h a b p q = ap (flat_map (answer_line mark)) (p ∙ sym q)
+one_mark T t xs ys z k l m n had came number (c ∷ cs) mark g h a b p q =
     let new =
     new_paired T t (reads c k m g h xs) (reads c l n g h ys)
     (record { was_pool = pool_paired T c (dated_before g xs) (in_key_order (arrived k xs)) (dated_before g ys) (in_key_order (arrived l ys)) (z g) had; was = z g; pool = pool_paired T c (dated_before h xs) (in_key_order (arrived m xs)) (dated_before h ys) (in_key_order (arrived n ys)) (z h) came; now = z h })
     c g h p.0 q.0 p.2 q.2 in
-    let rest : p.1 ≡ q.1 = one_mark T t xs ys z k l m n had came cs mark g h p.1 q.1 p.3 q.3 in
-    p.4 ∙ (λ i. lines_same T t c mark p.0 q.0 new i ++ rest i) ∙ sym q.4
+    let rest = one_mark T t xs ys z k l m n had came (suc number) cs mark g h p.1 q.1 p.3 q.3 in
+    ap (flat_map (answer_line mark)) p.4 ∙ flat_map-append (answer_line mark) (map (answer_of number c) p.0) p.1
+    ∙ (λ i. lines_same T t number c mark p.0 q.0 new i ++ rest i)
+    ∙ sym (ap (flat_map (answer_line mark)) q.4 ∙ flat_map-append (answer_line mark) (map (answer_of number c) q.0) q.1)
 
 module _ (c : Setting) (cs : List (Chronicle (List ℕ))) where
   -- the accepted entries of two runs that say all as often
@@ -99,7 +102,9 @@ module _ (c : Setting) (cs : List (Chronicle (List ℕ))) where
       → IsMarkText cs mark (view l g ys) (view (length ys) h ys) b → a ≡ b
   marks xs ys m k l e mark g h a b p q =
       let w = pairing xs ys (alike xs ys m) in
-      one_mark w.0 w.1 xs ys w.2 k l (length xs) (length ys) (w.3 k l e.early) (w.3 (length xs) (length ys) (mark_now xs ys m).early) cs mark g h a b p q
+      p.2
+      ∙ one_mark w.0 w.1 xs ys w.2 k l (length xs) (length ys) (w.3 k l e.early) (w.3 (length xs) (length ys) (mark_now xs ys m).early) 0 cs mark g h p.0 q.0 p.1 q.1
+      ∙ sym q.2
 
   followed : (es fs : List Event) (xs ys us vs : List LogEntry) → ((z : Key) → sum_by (weight c cs z) fs ≡ sum_by (weight c cs z) es)
       → Match xs ys → Follow c cs es xs us → Follow c cs fs ys vs → Match us vs
@@ -156,5 +161,8 @@ rearranged_logs_have_one_text f xs ys a b r s z p q =
     let c : Setting = setting_of f in
     let cs : List (Chronicle (List ℕ)) = f.models.chronicles in
     let start : Match c cs [] [] = record { left = none_accepted; right = none_accepted; ties = λ z. refl } in
-    one_text c cs (parts_of 0 (items_of xs)) (parts_of 0 (items_of ys)) z 0 0 0 [] [] start (record { left = omega arith; right = omega arith; early = λ z. refl }) a b
-    (parted_text c cs 1 (at_start f.texts) xs a r p) (parted_text c cs 1 (at_start f.texts) ys b s q)
+    let same : text_of p.0 ≡ text_of q.0 =
+    one_text c cs (parts_of 0 (items_of xs)) (parts_of 0 (items_of ys)) z 0 0 0 [] [] start (record { left = omega arith; right = omega arith; early = λ z. refl })
+    (text_of p.0) (text_of q.0)
+    (parted_text c cs 0 (at_start f.texts) xs p.0 p.1 r p.2) (parted_text c cs 0 (at_start f.texts) ys q.0 q.1 s q.2) in
+    p.3 ∙ same ∙ sym q.3

@@ -13,9 +13,11 @@ use Rattle.crs_model.specs.Models.{EventDef, Chronicle, Message}
 use Rattle.crs_model.specs.Matching.{Binding, Assignment, PatternIs}
 use Rattle.crs_model.specs.Open.{IsRecognised, whole}
 use Rattle.crs_model.specs.Partial.{dates_of}
-use Rattle.crs_log.specs.Run.{State, at_start, after_lines, settled}
-use Rattle.crs_log.specs.Recognitions.{ListsNew}
-use Rattle.crs_top.specs.Texts.{LogEntry, Frame, setting_of, IsMarkText, IsLogText}
+use Rattle.crs_log.specs.Reading.{numbered}
+use Rattle.crs_log.specs.Run.{State, Outcome, Accepted, Marked, at_start, after_lines, settled}
+use Rattle.crs_log.specs.Trace.{Answer, Effect, AreNew, answer_of}
+use Rattle.crs_log.specs.Recognitions.{ListsNew, view_of}
+use Rattle.crs_top.specs.Texts.{LogEntry, Frame, setting_of, IsLogText}
 
 abbrev plain : List ℕ → List ℕ → EventDef (List ℕ)
 plain name point = record { pattern = record { name = name; terms = []; change = None }; point = point; level = 0 }
@@ -50,7 +52,7 @@ abbrev log : List ℕ
 log = codes "10 a" ++ lf ++ codes "12 b" ++ lf ++ codes "clock 13" ++ lf
 
 abbrev after : List ℕ → State
-after bytes = after_lines (setting_of frame) (at_start frame.texts) (lines_of bytes)
+after bytes = after_lines (setting_of frame) (at_start frame.texts) (numbered (lines_of bytes))
 
 abbrev entry : ℕ → ℕ → List ℕ → LogEntry
 entry arrival date name = record { arrival = arrival; date = date; name = name; args = []; change = None; text = name }
@@ -147,9 +149,37 @@ new = record {
   all = λ a h. inl (same a.entries a.values both [] (only (slice_get a.values) a.entries h.0.assignment.equal h.0.assignment.given) (no_values a.values h.0.assignment.bound));
 }
 
-text_of_a_mark : IsMarkText (model ∷ []) (Clock 13) (record { settled = []; arrived = []; horizon = 0 }) (record { settled = both; arrived = both; horizon = 13 }) (codes "c at 13 t1=10 t2=12" ++ lf)
-unfolding digits
-text_of_a_mark = (assignment ∷ [], [], new, refl, refl)
+abbrev answer : Answer
+answer = answer_of 0 model assignment
+
+answer_of_a_mark : AreNew 0 (model ∷ []) (record { settled = []; arrived = []; horizon = 0 }) (record { settled = both; arrived = both; horizon = 13 }) (answer ∷ [])
+answer_of_a_mark = (assignment ∷ [], [], new, refl, refl)
+
+abbrev begun : State
+begun = at_start frame.texts
+
+abbrev one_line : State
+one_line = after (codes "10 a" ++ lf)
+
+abbrev two_lines : State
+two_lines = after (codes "10 a" ++ lf ++ codes "12 b" ++ lf)
+
+abbrev effect : ℕ → Outcome → State → State → List Answer → Effect
+effect n outcome was now answers = record { number = n; outcome = outcome; was = view_of was; now = view_of now; answers = answers }
 
 text_of_a_log : IsLogText frame log (codes "c at 13 t1=10 t2=12" ++ lf)
-text_of_a_log = ([], _, refl, ([], _, refl, (_, [], text_of_a_mark, refl, refl), refl), refl)
+unfolding digits
+text_of_a_log = (
+  effect 1 (Accepted first) begun one_line [] ∷ effect 2 (Accepted second) one_line two_lines [] ∷ effect 3 (Marked (Clock 13)) two_lines (after log) (answer ∷ []) ∷ [],
+  after log,
+  (
+    one_line,
+    record { number = refl; becomes = refl; was = refl; now = refl; answers = refl },
+    (
+      two_lines,
+      record { number = refl; becomes = refl; was = refl; now = refl; answers = refl },
+      (after log, record { number = refl; becomes = refl; was = refl; now = refl; answers = answer_of_a_mark }, refl),
+    ),
+  ),
+  refl,
+)

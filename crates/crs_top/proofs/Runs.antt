@@ -4,6 +4,7 @@ use Rattle.std.specs.Option.{unwrap_or}
 use Rattle.std.proofs.lemmas.List.{take-append-le}
 use Rattle.crs_desk.specs.Desk.{Told, Stream, file_of}
 use Rattle.crs_desk.specs.declared.turn.Turn.{Turn}
+use Rattle.crs_log.specs.Run.{at_start}
 use Rattle.crs_top.specs.declared.status.Status.{Status}
 use Rattle.crs_top.specs.declared.status.Status.TheVariants.{Done, Refusals, Words, Rejected, ReadFault, WriteFault, Memory, TooLong}
 use Rattle.crs_top.specs.Inputs.{bytes_of, after}
@@ -85,7 +86,7 @@ followed_outcome : (tail : Tail) (most : Most) (f : Frame) (models log : List �
     → FollowOutcome tail f log most.bytes n i t old status new → Outcome tail most models log (n + 1) (i + 1) k t old status new
 followed_outcome tail most f models log n i k t old new status a e (inl o) = read_outcome tail most f models log (n + 1) (i + 1) k t old new status (omega (arith, o.0)) a e o.2
 followed_outcome tail most f models log n i k t old new status a e (inr (inl o)) =
-    rw (o.3) (inr (omega (arith, o.0), (λ h. absurd (omega (arith, o.1, h))), (f, a, e, ([], rw (o.2) refl, o.4 ∙ sym (append-nil old)))))
+    rw (o.3) (inr (omega (arith, o.0), (λ h. absurd (omega (arith, o.1, h))), (f, a, e, ([], rw (o.2) ([], at_start f.texts, refl, refl), o.4 ∙ sym (append-nil old)))))
 followed_outcome tail most f models log n i k t old new status a e (inr (inr o)) = rw (o.1) (inl o.2)
 
 pub run_followed : (base now mid_count : ℕ) (tail : Tail) (most : Most) (f : Frame) (old mid new : Told) (models log : List ℕ) (k n i t : ℕ) (more turns : List Turn) (status : Status) → Loaded base mid_count (2 ^ 20) old models 1 1 k more mid

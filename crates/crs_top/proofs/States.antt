@@ -1,7 +1,7 @@
 -- What a session stands for after each kind of item.
 use Rattle.std.proofs.Common.{◌≡◌, ◌≢◌, ◌≤◌, ℕ, ◌+◌, zero, suc, Bool, true, false, List, [], ◌∷◌, ◌++◌, map, length, refl, sym, ap, subst, ◌∙◌}
 use Rattle.std.proofs.Common.{arith, append-nil, zero-add, Less, cond, nat_lt}
-use Rattle.std.specs.Prelude.{slice_get, option_map, flat_map}
+use Rattle.std.specs.Prelude.{slice_get, option_map}
 use Rattle.std.specs.List.{AllByRecursion}
 use Rattle.std.specs.declared.rc.Rc.{Rc}
 use Rattle.std.proofs.Common.{Global}
@@ -29,15 +29,13 @@ use Rattle.crs_log.specs.Run.{State, end_date}
 use Rattle.crs_log.specs.Recognitions.{View, view_of}
 use Rattle.crs_report.specs.Printed.{chronicle_at}
 use Rattle.crs_top.specs.declared.session.Session.{Session}
-use Rattle.crs_top.specs.Session.{HasText, chronicle_in, entries_in, HasModels, HasEntries, Represents, line_in}
+use Rattle.crs_top.specs.Session.{HasText, chronicle_in, entries_in, HasModels, HasEntries, Represents}
 use Rattle.crs_top.specs.Session.{ArePrintable}
 use Rattle.crs_top.specs.declared.session.Counts.{Counts}
-use Rattle.crs_top.specs.Tallies.{AllNew, IsPeaked, with_refused}
-use Rattle.crs_report.specs.Listeners.{notice_of}
-use Rattle.crs_top.specs.Notices.{AreMarkNotices}
-use Rattle.crs_top.specs.Texts.{Frame, LogEntry, IsMarkText}
+use Rattle.crs_top.specs.Tallies.{IsPeaked, with_refused}
+use Rattle.crs_top.specs.Texts.{Frame, LogEntry}
 use Rattle.crs_top.specs.Written.{HasEntry}
-use Rattle.crs_top.proofs.Answered.{all_printable, answer_text, answer_new, answer_notices, all_filled}
+use Rattle.crs_top.proofs.Answered.{IsSeen, all_printable, answer_seen, all_filled}
 
 -- a refused line is noted
 pub noted : (f : Frame) (x : Session) (s : State) → Represents f x s → Represents f (record x { counts = with_refused x.counts }) s
@@ -238,26 +236,12 @@ module _ (f : Frame) (x : Session) (s : State) (r : Represents f x s) (new : Eng
       let b = subst (λ (v : View). P f.models.chronicles v (view (entries_in x.symbols.texts now) (entries_in x.symbols.texts came) new.horizon)) was a in
       subst (λ (v : View). P f.models.chronicles (view_of s) v) then b
 
-  -- its lines are the text of the mark
-  pub mark_text : IsMarkText f.models.chronicles mark (view_of s) view_then (flat_map (line_in new.plans x.symbols.texts) answer)
-  mark_text =
-      let raw = answer_text x.symbols.texts r.models.distinct x.engine.plans mark r.entries.settled had now came x.engine.horizon new.horizon known_now known_was known_came known_had
-      (plans_of x.engine.plans) 0 answer (stand_from x.engine.plans) r.models.proper r.models.chronicles_in after.answers in
-      let text = flat_map (line_in x.engine.plans x.symbols.texts) answer in
-      let c = with_views (λ cs was then. IsMarkText cs mark was then text) raw in
-      subst (λ (p : Plans). IsMarkText f.models.chronicles mark (view_of s) view_then (flat_map (line_in p x.symbols.texts) answer)) (sym kept) c
-
-  -- as many assignments are new as recognitions are answered
-  pub mark_new : AllNew f.models.chronicles (view_of s) view_then (length answer)
-  mark_new = with_views (λ cs was then. AllNew cs was then (length answer))
-      (answer_new x.symbols.texts r.models.distinct x.engine.plans mark r.entries.settled had now came x.engine.horizon new.horizon known_now known_was known_came known_had
-      (plans_of x.engine.plans) 0 answer r.models.proper r.models.chronicles_in after.answers)
-
-  -- what listeners are told of it, in which each recognition has an entry
-  pub mark_notices : AreMarkNotices 0 f.models.chronicles (view_of s) view_then (map notice_of answer)
-  mark_notices = with_views (λ cs was then. AreMarkNotices 0 cs was then (map notice_of answer))
-      (answer_notices x.symbols.texts r.models.distinct x.engine.plans mark r.entries.settled had now came x.engine.horizon new.horizon known_now known_was known_came known_had
-      (plans_of x.engine.plans) 0 answer r.models.proper r.models.chronicles_in after.answers)
+  -- its recognitions stand for what is new
+  pub mark_seen : IsSeen x.symbols.texts new.plans mark 0 f.models.chronicles (view_of s) view_then answer
+  mark_seen = subst (λ (p : Plans). IsSeen x.symbols.texts p mark 0 f.models.chronicles (view_of s) view_then answer) (sym kept)
+      (with_views (λ cs was then. IsSeen x.symbols.texts x.engine.plans mark 0 cs was then answer)
+      (answer_seen x.symbols.texts r.models.distinct x.engine.plans mark r.entries.settled had now came x.engine.horizon new.horizon known_now known_was known_came known_had
+      (plans_of x.engine.plans) 0 answer (stand_from x.engine.plans) r.models.proper r.models.chronicles_in after.answers))
 
   pub answer_filled : AllByRecursion HasEntry answer
   answer_filled =

@@ -1,26 +1,28 @@
 -- Lines that were given, and the numbers of a log whose lines were all taken.
-use Rattle.std.proofs.Common.{◌≡◌, ◌∙◌, ap, sym, refl, subst, ℕ, ◌+◌, nat_lt, zero-add, Bool, false, List, [], ◌++◌, length, append-nil}
+use Rattle.std.proofs.Common.{◌≡◌, ◌∙◌, ap, sym, refl, subst, ℕ, ◌+◌, nat_lt, zero-add, Bool, false, List, [], ◌∷◌, ◌++◌, length, append-nil}
 use Rattle.std.proofs.Common.{append_assoc, length-append, map}
+use Rattle.std.specs.List.{list_any}
 use Rattle.crs_base.specs.Lines.{lines_of}
-use Rattle.crs_log.specs.Reading.{Reader, Given, HasGiven, HasNoLine, given, given_lines, ahead}
+use Rattle.crs_log.specs.Reading.{Reader, Given, HasGiven, HasNoLine, given, given_lines, numbered, ahead}
 use Rattle.crs_log.specs.Recognitions.{view_of}
 use Rattle.crs_log.specs.Run.{State, at_start}
+use Rattle.crs_log.specs.Trace.{Effect, IsTrace}
+use Rattle.crs_log.proofs.Traces.{trace_outcomes}
+use Rattle.crs_report.specs.Listeners.{notice_of}
 use Rattle.crs_report.specs.declared.summary.Summary.{Summary}
 use Rattle.crs_top.specs.declared.session.Session.{Session}
 use Rattle.crs_top.specs.declared.session.Counts.{Counts}
 use Rattle.crs_top.specs.Logs.{summary_of, has_refused, TakesPiece, TakesRest}
+use Rattle.crs_top.specs.Notices.{AreLogNotices}
 use Rattle.crs_top.specs.Session.{Represents, IsUncounted}
 use Rattle.crs_top.specs.Summing.{TakesLog}
-use Rattle.crs_model.specs.declared.recognition.Recognition.{Recognition}
-use Rattle.crs_report.specs.Listeners.{notice_of}
-use Rattle.crs_top.specs.Notices.{AreLogNotices}
-use Rattle.crs_top.specs.Taking.{after_all, Takes, IsGivenText, AreGivenNotices, IsGivenTally}
+use Rattle.crs_top.specs.Taking.{Takes}
+use Rattle.crs_top.specs.Tallies.{AllLive, AreCounts, IsSummary, capped, started, together, tally_of, refused_in, recognitions_in}
+use Rattle.crs_top.specs.Texts.{Frame, setting_of, is_refused, some_refused, IsTraceOf, IsLogText}
 use Rattle.crs_top.specs.Written.{Written, unwritten, joined}
-use Rattle.crs_top.specs.Tallies.{AllLive, AreCounts, IsSummary, IsTallyFrom, capped, last_of, started, together}
-use Rattle.crs_top.specs.Texts.{Frame, setting_of, IsLogText, some_refused}
 use Rattle.crs_top.proofs.Counting.{positive, some_counted}
 use Rattle.crs_top.proofs.Living.{held_by, held_live}
-use Rattle.crs_top.proofs.Taken.{takes_none, takes_append, given_text, given_notices, given_tally, given_state}
+use Rattle.crs_top.proofs.Taken.{takes_none, takes_append}
 
 -- the lines of the first t bytes were given, and the reader stands behind them
 pub record IsAt (t : ℕ) (bytes : List ℕ) (lines : Reader) (told : List Given) : Type 0 where
@@ -77,7 +79,7 @@ taken_more log piece rest old x y lines now all h p = record {
       (at_more (length h.fed) (length piece) lines now h.told h.fed piece x y all refl h.at p);
   takes = λ f s r.
       let t = h.takes f s r in
-      takes_append f old.engine.focus old.counts x y s h.told p.told h.all all t (p.takes f (after_all (setting_of f) s h.told) t.state);
+      takes_append f old.engine.focus old.counts x y s h.told p.told h.all all t (p.takes f t.last t.state);
 }
 
 -- all is given, and the last line is taken
@@ -90,7 +92,7 @@ taken_all log old x y lines all h p f s r =
     ap (λ (bs : List ℕ). given 4096 0 bs) (sym whole ∙ sym (append-nil h.fed)) ∙ h.at.given [] ∙ ap (λ (gs : List Given). h.told ++ gs) p.ahead_is in (
       joined h.all all,
       subst (λ (gs : List Given). Takes f old.engine.focus old.counts y s gs unwritten (joined h.all all)) (sym told)
-          (takes_append f old.engine.focus old.counts x y s h.told p.told h.all all t (p.takes f (after_all (setting_of f) s h.told) t.state)),
+          (takes_append f old.engine.focus old.counts x y s h.told p.told h.all all t (p.takes f t.last t.state)),
     )
 
 -- what was counted before the first line
@@ -106,55 +108,51 @@ begun_by f x r u = record {
   counts = record { refused = u.refused; recognitions = u.recognitions; peak = u.peak };
 }
 
+-- some line is refused exactly where as many are counted
+refused_of : (f : Frame) (log : List ℕ) (es : List Effect) (last : State) → IsTraceOf f (lines_of log) es last
+    → nat_lt 0 (capped (refused_in es)) ≡ some_refused f log
+refused_of f log es last h =
+    positive (refused_in es) ∙ some_counted es
+    ∙ sym (ap (list_any is_refused) (trace_outcomes (setting_of f) f.models.chronicles (at_start f.texts) (numbered (lines_of log)) es last h))
+
 -- all lines of the log were taken
 module _ (f : Frame) (log : List ℕ) (focus : Bool) (start : Counts) (begun : HasBegun f focus start) (y : Session) (told : List Given)
     (all : Written)
     (all_told : given_lines 4096 0 (lines_of log) ≡ told) (takes : Takes f focus start y (at_start f.texts) told unwritten all) where
-  pub text_of : IsLogText f log all.text
-  text_of = given_text f 0 (at_start f.texts) (lines_of log) all.text
-      (subst (λ (z : List ℕ). IsGivenText f (at_start f.texts) (given_lines 4096 0 (lines_of log)) z) (sym takes.written)
-      (subst (λ (gs : List Given). IsGivenText f (at_start f.texts) gs takes.text) (sym all_told) takes.says))
+  trace_of : IsTraceOf f (lines_of log) takes.effects takes.last
+  trace_of = subst (λ (gs : List Given). IsTrace (setting_of f) f.models.chronicles (at_start f.texts) gs takes.effects takes.last) (sym all_told) takes.trace
 
-  pub notices_of : AreLogNotices f log (map notice_of all.found)
-  notices_of = given_notices f 0 (at_start f.texts) (lines_of log) (map notice_of all.found)
-      (subst (λ (rs : List Recognition). AreGivenNotices f (at_start f.texts) (given_lines 4096 0 (lines_of log)) (map notice_of rs)) (sym takes.added)
-      (subst (λ (gs : List Given). AreGivenNotices f (at_start f.texts) gs (map notice_of takes.found)) (sym all_told) takes.notices))
+  pub text_is : IsLogText f log all.text
+  text_is = (takes.effects, takes.last, trace_of, takes.written)
 
-  tally_of : IsTallyFrom focus (setting_of f) f.models.chronicles (at_start f.texts) (lines_of log) takes.tally
-  tally_of = given_tally focus f 0 (at_start f.texts) (lines_of log) takes.tally
-      (subst (λ (gs : List Given). IsGivenTally focus f (at_start f.texts) gs takes.tally) (sym all_told) takes.tallied)
+  pub notices_are : AreLogNotices f log (map notice_of all.found)
+  notices_are = (takes.effects, takes.last, trace_of, ap (map notice_of) takes.added ∙ takes.notices)
 
-  state_of : Represents f y (last_of f log)
-  state_of = subst (Represents f y)
-      (ap (after_all (setting_of f) (at_start f.texts)) (sym all_told)
-      ∙ given_state (setting_of f) 0 (at_start f.texts) (lines_of log)) takes.state
-
-  counts_of : AreCounts y.counts (together (started begun.first) takes.tally)
+  counts_of : AreCounts y.counts (together (started begun.first) (tally_of takes.effects takes.live))
   counts_of = takes.counted (started begun.first) begun.counts
 
   pub summary_is : IsSummary focus f log (summary_of y)
   summary_is = record {
-    lines = takes.tally;
-    tallied = tally_of;
-    first = begun.first;
-    at_first = begun.at_first;
-    last = held_by y.engine;
-    at_last = subst (λ (b : Bool). AllLive b f.models.chronicles (view_of (last_of f log)) (held_by y.engine)) takes.same_focus
-        (held_live f y.engine y.symbols (last_of f log) state_of.models state_of.entries state_of.horizon state_of.marked);
-    entries = ap capped (sym state_of.count);
-    refused = counts_of.refused ∙ ap capped (zero-add takes.tally.refused);
-    recognitions = counts_of.recognitions ∙ ap capped (zero-add takes.tally.recognitions);
+    effects = takes.effects;
+    last = takes.last;
+    trace = trace_of;
+    live = begun.first ∷ takes.live;
+    all_live = (begun.at_first, takes.all_live);
+    left = held_by y.engine;
+    all_left = subst (λ (b : Bool). AllLive b f.models.chronicles (view_of takes.last) (held_by y.engine)) takes.same_focus
+        (held_live f y.engine y.symbols takes.last takes.state.models takes.state.entries takes.state.horizon takes.state.marked);
+    entries = ap capped (sym takes.state.count);
+    refused = counts_of.refused ∙ ap capped (zero-add (refused_in takes.effects));
+    recognitions = counts_of.recognitions ∙ ap capped (zero-add (recognitions_in takes.effects));
     kept = refl;
     peak = counts_of.peak;
   }
 
   pub refused_is : has_refused y ≡ some_refused f log
   refused_is =
-      ap (nat_lt 0) (counts_of.refused ∙ ap capped (zero-add takes.tally.refused)) ∙ positive takes.tally.refused
-      ∙ some_counted focus (setting_of f) f.models.chronicles (at_start f.texts) (lines_of log) takes.tally tally_of
+      ap (nat_lt 0) (counts_of.refused ∙ ap capped (zero-add (refused_in takes.effects)))
+      ∙ refused_of f log takes.effects takes.last trace_of
 
 -- a summary says whether a line was refused
 pub refused_by : (focus : Bool) (f : Frame) (log : List ℕ) (s : Summary) → IsSummary focus f log s → nat_lt 0 s.refused ≡ some_refused f log
-refused_by focus f log s h =
-    ap (nat_lt 0) h.refused ∙ positive h.lines.refused
-    ∙ some_counted focus (setting_of f) f.models.chronicles (at_start f.texts) (lines_of log) h.lines h.tallied
+refused_by focus f log s h = ap (nat_lt 0) h.refused ∙ refused_of f log h.effects h.last h.trace

@@ -5,6 +5,7 @@ use Rattle.std.specs.List.Sorted.{IsPermutation}
 use Rattle.crs_base.specs.Lines.{Line, bytes_of}
 use Rattle.crs_log.specs.Items.{Item, Delay, Clock, Finish, Happens, Event}
 use Rattle.crs_log.specs.ItemOf.{What, Empty, Is, Faulty, what_of}
+use Rattle.crs_log.specs.Reading.{numbered}
 use Rattle.crs_log.specs.Run.{at_start, outcomes}
 use Rattle.crs_top.specs.Texts.{Frame, IsTextOf, setting_of, is_refused}
 
@@ -64,7 +65,7 @@ AreRearranged xs ys = AllZip IsRearranged (parts_of 0 (items_of xs)) (parts_of 0
 
 -- no line is refused
 abbrev pub NoneIsRefused : Frame → List Line → Type 0
-NoneIsRefused f lines = list_any is_refused (outcomes (setting_of f) (at_start f.texts) lines) ≡ false
+NoneIsRefused f lines = list_any is_refused (outcomes (setting_of f) (at_start f.texts) (numbered lines)) ≡ false
 
 -- what is written for two logs without refused lines that are rearranged is the same
 abbrev pub RearrangedLogsHaveOneText : Type 0

@@ -23,10 +23,11 @@ use Rattle.crs_log.specs.SeenNames.{name_seen, AreNamesIn}
 use Rattle.crs_engine.specs.Engines.{EngineState, StandsFor, plans_of, kept_of}
 use Rattle.crs_top.specs.declared.session.Session.{Session}
 use Rattle.crs_top.specs.declared.session.Counts.{Counts}
-use Rattle.crs_top.specs.Tallies.{Tally, IsLineTally, Counted, IsPeaked}
+use Rattle.crs_log.specs.Trace.{Answer, AreAnswers}
+use Rattle.crs_top.specs.Tallies.{AllLive, line_tally, Counted, IsPeaked}
 use Rattle.crs_report.specs.Listeners.{notice_of}
-use Rattle.crs_top.specs.Notices.{AreOutcomeNotices}
-use Rattle.crs_top.specs.Texts.{Frame, LogEntry, IsOutcomeText}
+use Rattle.crs_top.specs.Notices.{notice_in}
+use Rattle.crs_top.specs.Texts.{Frame, LogEntry, line_text}
 use Rattle.crs_top.specs.Written.{Written, HasEntry}
 
 -- the symbol has a text
@@ -96,25 +97,21 @@ pub record Brings (f : Frame) (focus : Bool) (old : Counts) (new : Session) (n :
     (out more : Written) : Type 0 where
   pub state : Represents f new after.0
   pub same_focus : new.engine.focus ≡ focus
-  pub text : List ℕ
-  pub says : IsOutcomeText f.models.chronicles n was (view_of after.0) after.1 text
-  pub written : more.text ≡ out.text ++ text
+  pub answers : List Answer
+  pub are_new : AreAnswers f.models.chronicles was (view_of after.0) after.1 answers
+  pub written : more.text ≡ out.text ++ line_text n after.1 answers
   pub found : List Recognition
-  pub notices : AreOutcomeNotices f.models.chronicles was (view_of after.0) after.1 (map notice_of found)
+  pub notices : map notice_of found ≡ map notice_in answers
   pub filled : AllByRecursion HasEntry found
   pub added : more.found ≡ out.found ++ found
-  pub tally : Tally
-  pub tallied : IsLineTally focus f.models.chronicles was (view_of after.0) after.1 tally
-  pub counted : Counted old new.counts tally
+  pub live : ℕ
+  pub all_live : AllLive focus f.models.chronicles (view_of after.0) live
+  pub counted : Counted old new.counts (line_tally after.1 answers live)
 
 -- whatever state of a run the session stands for
 abbrev pub BringsAll : Session → Session → ℕ → (Frame → State → State × Outcome) → Written → Written → Type 0
 BringsAll old new n after out more = (f : Frame) (s : State) → Represents f old s
     → Brings f old.engine.focus old.counts new n (view_of s) (after f s) out more
-
-abbrev pub number_of : Given → ℕ
-number_of (Long n) = n
-number_of (Plain n bytes) = n
 
 -- the line of a recognition, by the texts of the table; none where there is no chronicle of its number
 abbrev pub line_in : Plans → List (List ℕ) → Recognition → List ℕ

@@ -1,8 +1,8 @@
 -- A log that is held whole, and its numbers.
 use Rattle.std.specs.Prelude.{◌⊎◌, ℕ, nat_lt, List}
-use Rattle.crs_base.specs.Lines.{lines_of, line_limit}
+use Rattle.crs_base.specs.Lines.{lines_of}
 use Rattle.crs_desk.specs.Desk.{Told}
-use Rattle.crs_log.specs.Reading.{given_lines}
+use Rattle.crs_log.specs.Reading.{numbered}
 use Rattle.crs_log.specs.Run.{State, at_start}
 use Rattle.crs_report.specs.Summaries.{summary_line}
 use Rattle.crs_report.specs.declared.summary.Summary.{Summary}
@@ -19,7 +19,7 @@ use Rattle.crs_top.specs.Written.{Written, unwritten}
 -- each line of the log is taken
 abbrev pub TakesLog : List ℕ → Session → Session → Type 0
 TakesLog log old new = (f : Frame) (s : State) → Represents f old s
-    → (all : Written) × Takes f old.engine.focus old.counts new s (given_lines line_limit 0 (lines_of log)) unwritten all
+    → (all : Written) × Takes f old.engine.focus old.counts new s (numbered (lines_of log)) unwritten all
 
 -- these are the numbers of a run over the log, which starts from the session
 abbrev pub IsSummed : Session → List ℕ → Summary → Type 0

@@ -1,16 +1,17 @@
 -- The numbers of a run: what its lines bring, and how many partial assignments live.
-use Rattle.std.specs.Prelude.{◌≡◌, ◌≤◌, ℕ, ◌+◌, ◌-◌, ◌^◌, min, max, Bool, List, [], ◌∷◌, length}
-use Rattle.crs_base.specs.Lines.{Line, lines_of}
-use Rattle.crs_model.specs.Matching.{Assignment}
+use Rattle.std.specs.Prelude.{◌≡◌, ◌≤◌, ℕ, ◌+◌, ◌-◌, ◌^◌, min, max, Bool, List, [], ◌∷◌, length, map, filter, cond}
+use Rattle.std.specs.List.{AllZip}
+use Rattle.crs_base.specs.Lines.{lines_of}
 use Rattle.crs_model.specs.Models.{Chronicle}
 use Rattle.crs_model.specs.Order.{AreAll}
 use Rattle.crs_model.specs.Partial.{Partial}
-use Rattle.crs_log.specs.Recognitions.{View, view_of, IsLiveIn, ListsNew}
-use Rattle.crs_log.specs.Run.{Setting, State, Outcome, Passed, Refused, Accepted, Marked, at_start, after_line, after_lines}
+use Rattle.crs_log.specs.Recognitions.{View, view_of, IsLiveIn}
+use Rattle.crs_log.specs.Run.{State, Outcome, at_start}
+use Rattle.crs_log.specs.Trace.{Answer, Effect, answers_in}
 use Rattle.crs_report.specs.Summaries.{summary_line}
 use Rattle.crs_report.specs.declared.summary.Summary.{Summary}
 use Rattle.crs_top.specs.declared.session.Counts.{Counts}
-use Rattle.crs_top.specs.Texts.{Frame, setting_of}
+use Rattle.crs_top.specs.Texts.{Frame, IsTraceOf, is_refused}
 
 -- n partial assignments of the chronicle live, with the levels of its events read or not: they are open, and not recognised
 abbrev pub AreLive : Bool → Chronicle (List ℕ) → View → ℕ → Type 0
@@ -21,11 +22,46 @@ abbrev pub AllLive : Bool → List (Chronicle (List ℕ)) → View → ℕ → T
 AllLive focus [] v n = n ≡ 0
 AllLive focus (c ∷ cs) v n = (first : ℕ) × (rest : ℕ) × AreLive focus c v first × AllLive focus cs v rest × (n ≡ first + rest)
 
--- n assignments are new at a mark, before which recognition read `was`
-abbrev pub AllNew : List (Chronicle (List ℕ)) → View → View → ℕ → Type 0
-AllNew [] was now n = n ≡ 0
-AllNew (c ∷ cs) was now n =
-    (new : List (Assignment (List ℕ))) × (rest : ℕ) × ListsNew c was now new × AllNew cs was now rest × (n ≡ length new + rest)
+-- how many lines were refused, of those that bring this
+abbrev pub refused_in : List Effect → ℕ
+refused_in effects = length (filter (λ e. is_refused e.outcome) effects)
+
+-- how many recognitions they bring
+abbrev pub recognitions_in : List Effect → ℕ
+recognitions_in effects = length (answers_in effects)
+
+-- what recognition reads behind each of them
+abbrev pub views_of : List Effect → List View
+views_of effects = map (λ e. e.now) effects
+
+-- the greatest of these numbers, and 0 where there are none
+abbrev pub peak_of : List ℕ → ℕ
+peak_of [] = 0
+peak_of (n ∷ ns) = max n (peak_of ns)
+
+-- n, or 2^64 - 1 where it is greater
+abbrev pub capped : ℕ → ℕ
+capped n = min n (2 ^ 64 - 1)
+
+-- The summary of a whole log, of which this is the trace: its numbers, each up to 2^64 - 1. So many partial assignments live at the start
+-- and behind each line, and so many behind all, with the levels of events read or not.
+pub record IsSummary (focus : Bool) (f : Frame) (log : List ℕ) (s : Summary) : Type 0 where
+  pub effects : List Effect
+  pub last : State
+  pub trace : IsTraceOf f (lines_of log) effects last
+  pub live : List ℕ
+  pub all_live : AllZip (AllLive focus f.models.chronicles) (view_of (at_start f.texts) ∷ views_of effects) live
+  pub left : ℕ
+  pub all_left : AllLive focus f.models.chronicles (view_of last) left
+  pub entries : s.entries ≡ capped (length last.accepted)
+  pub refused : s.refused ≡ capped (refused_in effects)
+  pub recognitions : s.recognitions ≡ capped (recognitions_in effects)
+  pub kept : s.kept ≡ capped left
+  pub peak : s.peak ≡ capped (peak_of live)
+
+-- its line
+abbrev pub IsSummaryText : Bool → Frame → List ℕ → List ℕ → Type 0
+IsSummaryText focus f log text = (s : Summary) × IsSummary focus f log s × (text ≡ summary_line s)
 
 -- exact numbers: the refused lines, the recognitions, and the greatest number of partial assignments that live
 pub record Tally : Type 0 where
@@ -44,49 +80,13 @@ together a b = record { refused = a.refused + b.refused; recognitions = a.recogn
 abbrev pub started : ℕ → Tally
 started n = record nothing { peak = n }
 
--- a line is refused, or brings recognitions, by what becomes of it
-abbrev pub CountsAs : List (Chronicle (List ℕ)) → View → View → Outcome → (refused recognitions : ℕ) → Type 0
-CountsAs cs was now Passed refused recognitions = (refused ≡ 0) × (recognitions ≡ 0)
-CountsAs cs was now (Refused fault) refused recognitions = (refused ≡ 1) × (recognitions ≡ 0)
-CountsAs cs was now (Accepted entry) refused recognitions = (refused ≡ 0) × (recognitions ≡ 0)
-CountsAs cs was now (Marked mark) refused recognitions = (refused ≡ 0) × AllNew cs was now recognitions
+-- of a line, by what became of it, and behind which n live
+abbrev pub line_tally : Outcome → List Answer → ℕ → Tally
+line_tally outcome answers n = record { refused = cond (is_refused outcome) 1 0; recognitions = length answers; peak = n }
 
--- the tally of one line, after which recognition reads `now`
-abbrev pub IsLineTally : Bool → List (Chronicle (List ℕ)) → View → View → Outcome → Tally → Type 0
-IsLineTally focus cs was now outcome t = CountsAs cs was now outcome t.refused t.recognitions × AllLive focus cs now t.peak
-
--- the tally of lines that are met in the state s: each line is counted, and what lives after it
-abbrev pub IsTallyFrom : Bool → Setting → List (Chronicle (List ℕ)) → State → List Line → Tally → Type 0
-IsTallyFrom focus c cs s [] t = t ≡ nothing
-IsTallyFrom focus c cs s (l ∷ ls) t =
-    (first : Tally) × (rest : Tally) × IsLineTally focus cs (view_of s) (view_of (after_line c s l).0) (after_line c s l).1 first
-    × IsTallyFrom focus c cs (after_line c s l).0 ls rest × (t ≡ together first rest)
-
--- n, or 2^64 - 1 where it is greater
-abbrev pub capped : ℕ → ℕ
-capped n = min n (2 ^ 64 - 1)
-
--- the state after all lines of a log
-abbrev pub last_of : Frame → List ℕ → State
-last_of f log = after_lines (setting_of f) (at_start f.texts) (lines_of log)
-
--- the summary of a whole log: its numbers, each up to 2^64 - 1; what lives, lives with the levels of events read or not
-pub record IsSummary (focus : Bool) (f : Frame) (log : List ℕ) (s : Summary) : Type 0 where
-  pub lines : Tally
-  pub tallied : IsTallyFrom focus (setting_of f) f.models.chronicles (at_start f.texts) (lines_of log) lines
-  pub first : ℕ
-  pub at_first : AllLive focus f.models.chronicles (view_of (at_start f.texts)) first
-  pub last : ℕ
-  pub at_last : AllLive focus f.models.chronicles (view_of (last_of f log)) last
-  pub entries : s.entries ≡ capped (length (last_of f log).accepted)
-  pub refused : s.refused ≡ capped lines.refused
-  pub recognitions : s.recognitions ≡ capped lines.recognitions
-  pub kept : s.kept ≡ capped last
-  pub peak : s.peak ≡ capped (max first lines.peak)
-
--- its line
-abbrev pub IsSummaryText : Bool → Frame → List ℕ → List ℕ → Type 0
-IsSummaryText focus f log text = (s : Summary) × IsSummary focus f log s × (text ≡ summary_line s)
+-- of lines that bring this, behind which so many live
+abbrev pub tally_of : List Effect → List ℕ → Tally
+tally_of effects live = record { refused = refused_in effects; recognitions = recognitions_in effects; peak = peak_of live }
 
 -- the counts are the numbers of the tally, each up to 2^64 - 1
 pub record AreCounts (c : Counts) (t : Tally) : Type 0 where

@@ -1,15 +1,14 @@
 -- What is written for the lines of a log.
-use Rattle.std.specs.Prelude.{◌≡◌, ℕ, ◌+◌, Bool, true, false, List, [], ◌∷◌, ◌++◌, flat_map}
+use Rattle.std.specs.Prelude.{◌≡◌, ℕ, Bool, true, false, List, [], flat_map}
 use Rattle.std.specs.List.{list_any}
 use Rattle.crs_base.specs.Entry.{Entry}
 use Rattle.crs_base.specs.Lines.{Line, lines_of}
 use Rattle.crs_model.specs.declared.recognition.Mark.{Mark}
-use Rattle.crs_model.specs.Models.{Chronicle, Models}
-use Rattle.crs_model.specs.Matching.{Assignment}
-use Rattle.crs_log.specs.Reading.{whole_lines}
+use Rattle.crs_model.specs.Models.{Models}
+use Rattle.crs_log.specs.Reading.{numbered, whole_lines}
 use Rattle.crs_log.specs.Run as run
-use Rattle.crs_log.specs.Run.{Setting, State, Outcome, Passed, Refused, Accepted, Marked, at_start, after_line, outcomes}
-use Rattle.crs_log.specs.Recognitions.{View, view_of, ListsNew}
+use Rattle.crs_log.specs.Run.{Setting, State, Outcome, Passed, Refused, Accepted, Marked, at_start, outcomes}
+use Rattle.crs_log.specs.Trace.{Answer, Effect, IsTrace}
 use Rattle.crs_report.specs.declared.refusals.Fault.{Fault}
 use Rattle.crs_report.specs.declared.refusals.Fault.TheVariants as faults
 use Rattle.crs_report.specs.Lines.{recognition_line, refusal_line}
@@ -29,30 +28,19 @@ fault_of run.Value = faults.Value
 fault_of (run.Full limit) = faults.Full limit
 fault_of (run.Values limit) = faults.Values limit
 
--- the lines of exactly the new assignments, chronicle by chronicle in file order, each once, and inside a chronicle in key order
-abbrev pub IsMarkText : List (Chronicle (List ℕ)) → Mark → View → View → List ℕ → Type 0
-IsMarkText [] mark was now text = text ≡ []
-IsMarkText (c ∷ cs) mark was now text =
-    (new : List (Assignment (List ℕ))) × (rest : List ℕ) × ListsNew c was now new
-    × IsMarkText cs mark was now rest × (text ≡ flat_map (recognition_line c mark) new ++ rest)
+abbrev pub answer_line : Mark → Answer → List ℕ
+answer_line mark a = recognition_line a.chronicle mark a.assignment
 
--- what is written for the line of this number, where recognition reads `was` before it and `now` after it
-abbrev pub IsOutcomeText : List (Chronicle (List ℕ)) → ℕ → View → View → Outcome → List ℕ → Type 0
-IsOutcomeText cs n was now Passed text = text ≡ []
-IsOutcomeText cs n was now (Refused fault) text = text ≡ refusal_line n (fault_of fault)
-IsOutcomeText cs n was now (Accepted entry) text = text ≡ []
-IsOutcomeText cs n was now (Marked mark) text = IsMarkText cs mark was now text
+-- what is written for the line of this number, by what became of it: a refusal, or the lines of a mark's answers
+abbrev pub line_text : ℕ → Outcome → List Answer → List ℕ
+line_text n Passed answers = []
+line_text n (Refused fault) answers = refusal_line n (fault_of fault)
+line_text n (Accepted entry) answers = []
+line_text n (Marked mark) answers = flat_map (answer_line mark) answers
 
--- what is written for a line that is met in the state s and leaves `after`
-abbrev pub IsLineText : List (Chronicle (List ℕ)) → ℕ → State → State × Outcome → List ℕ → Type 0
-IsLineText cs n s after text = IsOutcomeText cs n (view_of s) (view_of after.0) after.1 text
-
--- what is written for these lines, of which the first has the number n and is met in the state s
-abbrev pub IsTextFrom : Setting → List (Chronicle (List ℕ)) → ℕ → State → List Line → List ℕ → Type 0
-IsTextFrom setting cs n s [] text = text ≡ []
-IsTextFrom setting cs n s (l ∷ ls) text =
-    (first : List ℕ) × (rest : List ℕ) × IsLineText cs n s (after_line setting s l) first
-    × IsTextFrom setting cs (n + 1) (after_line setting s l).0 ls rest × (text ≡ first ++ rest)
+-- what is written for lines, by what they bring
+abbrev pub text_of : List Effect → List ℕ
+text_of effects = flat_map (λ e. line_text e.number e.outcome e.answers) effects
 
 -- what a log is read with: the names, chronicles and symbols of the models, and the limits on symbols and entries
 pub record Frame : Type 0 where
@@ -64,8 +52,13 @@ pub record Frame : Type 0 where
 abbrev pub setting_of : Frame → Setting
 setting_of f = record { names = f.models.names; symbols = f.symbols; entries = f.entries }
 
+-- what these lines of a log bring, of which the first is met at the start, and the state behind them
+abbrev pub IsTraceOf : Frame → List Line → List Effect → State → Type 0
+IsTraceOf f lines effects last = IsTrace (setting_of f) f.models.chronicles (at_start f.texts) (numbered lines) effects last
+
+-- the text of what they bring
 abbrev pub IsTextOf : Frame → List Line → List ℕ → Type 0
-IsTextOf f lines text = IsTextFrom (setting_of f) f.models.chronicles 1 (at_start f.texts) lines text
+IsTextOf f lines text = (effects : List Effect) × (last : State) × IsTraceOf f lines effects last × (text ≡ text_of effects)
 
 -- what is written for a whole log
 abbrev pub IsLogText : Frame → List ℕ → List ℕ → Type 0
@@ -83,4 +76,4 @@ is_refused (Marked mark) = false
 
 -- whether some line of the log is refused
 abbrev pub some_refused : Frame → List ℕ → Bool
-some_refused f log = list_any is_refused (outcomes (setting_of f) (at_start f.texts) (lines_of log))
+some_refused f log = list_any is_refused (outcomes (setting_of f) (at_start f.texts) (numbered (lines_of log)))

@@ -3,13 +3,14 @@ ghost use Rattle.std.specs.Prelude.{◌≡◌, ◌≤◌, ◌<◌, ◌^◌, ℕ,
 ghost use Rattle.crs_log.specs.Given.{seen};
 ghost use Rattle.crs_log.specs.Items.{Clock, Finish as LogEnd, Happens, IsItem};
 ghost use Rattle.crs_log.specs.Known.{known_of};
+ghost use Rattle.crs_log.specs.Reading.{number_of};
 ghost use Rattle.crs_log.specs.Run.{after_ordered, after_named};
 ghost use Rattle.crs_log.specs.SeenItems.{event_seen, text_of, what_seen, IsInRange, IsRead};
 ghost use Rattle.crs_log.specs.SeenNames.{name_seen, IsTextAt};
 ghost use Rattle.crs_log.specs.Known.{Named};
 ghost use Rattle.std.specs.Prelude.{map};
-ghost use Rattle.crs_log.specs.Run.{after_given, after_what};
-ghost use Rattle.crs_top.specs.Session.{IsReady, BringsAll, IsShort, number_of, ordered_what, is_blank_what};
+ghost use Rattle.crs_log.specs.Run.{after_line, after_what};
+ghost use Rattle.crs_top.specs.Session.{IsReady, BringsAll, IsShort, ordered_what, is_blank_what};
 ghost use Rattle.crs_top.specs.Tallies.{with_refused};
 ghost use Rattle.crs_top.specs.Texts.{setting_of};
 ghost use Rattle.crs_top.specs.Written.{with_text};
@@ -221,7 +222,7 @@ pub fn take_line(
 ) -> Result<(), AllocError>
     requires ready { IsReady session.old }
     requires short { IsShort (seen line) }
-    ensures { OnOk result (BringsAll session.old session.new (number_of (seen line.entry)) (λ f s. after_given (setting_of f) s (seen line.entry)) out.old out.new) }
+    ensures { OnOk result (BringsAll session.old session.new (number_of (seen line.entry)) (λ f s. after_line (setting_of f) s (seen line.entry)) out.old out.new) }
 {
     match line {
         Line::Long { number } => refuse(session, number, Fault::Long, out),

@@ -2,7 +2,7 @@ use Rattle.std.proofs.Common.{◌++◌, [], ◌∷◌, ◌∙◌, ap, sym, refl,
 use Rattle.crs_log.specs.Given.{seen}
 use Rattle.crs_log.specs.Reading.{Given, Gives, ahead}
 use Rattle.crs_top.specs.Texts.{setting_of}
-use Rattle.crs_log.specs.Run.{after_given}
+use Rattle.crs_log.specs.Run.{after_line}
 use Rattle.crs_top.proofs.Taken.{given_short, takes_more, takes_none}
 use Rattle.crs_top.proofs.log.take_lines.Goals as goal
 
@@ -18,7 +18,7 @@ loop-line-preserved c =
     let i = c.loop-line.invariant in
     record {
       told = i.told ++ g ∷ [];
-      ready = (i.ready.0, (after_given (setting_of i.ready.0) i.ready.1 g).0, (c.in_ok-take_line.ensures i.ready.0 i.ready.1 i.ready.2).state);
+      ready = (i.ready.0, (after_line (setting_of i.ready.0) i.ready.1 g).0, (c.in_ok-take_line.ensures i.ready.0 i.ready.1 i.ready.2).state);
       limit = m.limit ∙ i.limit;
       finished = m.finished ∙ i.finished;
       fed = m.fed ∙ i.fed;

@@ -4,7 +4,7 @@ use Rattle.crs_log.specs.SeenItems.{IsFaulty}
 use Rattle.crs_log.specs.Reading.{Plain, Long}
 use Rattle.crs_log.specs.Run as run
 use Rattle.crs_log.specs.Run.{State, Outcome}
-use Rattle.crs_log.specs.Run.{after_what, after_given}
+use Rattle.crs_log.specs.Run.{after_what, after_line}
 use Rattle.crs_log.specs.Recognitions.{view_of}
 use Rattle.crs_top.specs.Session.{Brings, BringsAll}
 use Rattle.crs_top.specs.Texts.{setting_of}
@@ -17,14 +17,14 @@ pub returns-in-Long : goal.returns-in-Long
 returns-in-Long c =
     let x = c.args.session.now in
     rw c.in-Long.is (refuse_brings c.refuse.result x c.refuse.new.session c.in-Long.number run.TooLong
-    (λ f s. after_given (setting_of f) s (Long c.in-Long.number))
+    (λ f s. after_line (setting_of f) s (Long c.in-Long.number))
     c.args.out.now c.refuse.new.out c.refuse.ensures.written c.refuse.ensures.noted (λ f s r. refl))
 
 pub returns-in-Ok : goal.returns-in-Ok
 returns-in-Ok c =
     let x = c.args.session.now in
     rw c.in-Plain.is (IfOk-weaker c.take_item.result _
-    (λ _. BringsAll x c.take_item.new.session c.in-Plain.number (λ f s. after_given (setting_of f) s (Plain c.in-Plain.number c.in-Plain.bytes.now)) c.args.out.now c.take_item.new.out)
+    (λ _. BringsAll x c.take_item.new.session c.in-Plain.number (λ f s. after_line (setting_of f) s (Plain c.in-Plain.number c.in-Plain.bytes.now)) c.args.out.now c.take_item.new.out)
     (λ _ h f s r. subst (λ (a : State × Outcome). Brings f x.engine.focus x.counts c.take_item.new.session c.in-Plain.number
     (view_of s) a c.args.out.now c.take_item.new.out)
     (ap (after_what (setting_of f) s) c.in-Ok.ensures.exact) (h f s r))
@@ -35,7 +35,7 @@ returns-in-Err-Form c =
     let x = c.args.session.now in
     let why : IsFaulty c.in-Plain.bytes.now = rw c.in-Err-Form.field-0-is at c.in-Err-Form.ensures.err in
     rw c.in-Plain.is (both_ok c.refuse-in-Err-Form.result _ _
-    (BringsAll x c.refuse-in-Err-Form.new.session c.in-Plain.number (λ f s. after_given (setting_of f) s (Plain c.in-Plain.number c.in-Plain.bytes.now)) c.args.out.now c.refuse-in-Err-Form.new.out)
+    (BringsAll x c.refuse-in-Err-Form.new.session c.in-Plain.number (λ f s. after_line (setting_of f) s (Plain c.in-Plain.number c.in-Plain.bytes.now)) c.args.out.now c.refuse-in-Err-Form.new.out)
     c.refuse-in-Err-Form.ensures.written c.refuse-in-Err-Form.ensures.noted
-    (λ w m f s r. refused_brings f x s r c.in-Plain.number run.Form (after_given (setting_of f) s (Plain c.in-Plain.number c.in-Plain.bytes.now)) c.refuse-in-Err-Form.new.session c.args.out.now c.refuse-in-Err-Form.new.out
+    (λ w m f s r. refused_brings f x s r c.in-Plain.number run.Form (after_line (setting_of f) s (Plain c.in-Plain.number c.in-Plain.bytes.now)) c.refuse-in-Err-Form.new.session c.args.out.now c.refuse-in-Err-Form.new.out
     (given_faulty (setting_of f) s c.in-Plain.number c.in-Plain.bytes.now why) m w))
