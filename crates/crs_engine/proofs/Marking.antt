@@ -17,10 +17,10 @@ use Rattle.crs_model.specs.declared.recognition.Mark.{Mark}
 use Rattle.crs_model.specs.declared.recognition.Recognition.{Recognition}
 use Rattle.crs_model.specs.Matching.{AreDistinct}
 use Rattle.crs_model.specs.Steps.{IsFresh}
-use Rattle.crs_model.specs.Open.{IsNew, before, pool_among}
-use Rattle.crs_model.specs.Order.{Lists, assignment_cmp, arrived}
+use Rattle.crs_model.specs.Open.{before, pool_among}
+use Rattle.crs_model.specs.Order.{arrived}
+use Rattle.crs_model.specs.Scopes.{Scope, scope_of}
 use Rattle.crs_model.specs.Plans.{chronicle}
-use Rattle.crs_model.specs.Seen.{assignment_of}
 use Rattle.crs_store.specs.Ahead.{AreAhead}
 use Rattle.crs_store.specs.Stores.{StoreState, Stands, StandsAhead, IsSameStore}
 use Rattle.crs_store.proofs.Standing.{ahead_of}
@@ -29,9 +29,9 @@ use Rattle.std.specs.Prelude.{ℤ, ◌≤ℤ◌, false, Result, Ok, Err, IfOk, O
 use Rattle.crs_history.specs.Histories.{HistoryState, lowest, IsFarBack, StandsFor as HistoryStandsFor}
 use Rattle.crs_model.specs.Models.{Chronicle}
 use Rattle.crs_engine.specs.declared.refused.Refused.{Refused}
-use Rattle.crs_engine.specs.Engines.{HasMoved, EngineState, StandsFor, HaveNumbersBelow, IsStoreAt, IsStoreOf, AreStoresOf, IsWaiting, IsEngine, plans_of, pool_of, has_prompt, not_arrived, floor_at, since}
+use Rattle.crs_engine.specs.Engines.{HasMoved, EngineState, StandsFor, HaveNumbersBelow, IsStoreAt, IsStoreOf, AreStoresOf, IsWaiting, IsEngine, plans_of, scope_at, has_prompt, not_arrived, floor_at, since}
 use Rattle.crs_engine.proofs.Floors.{floor_later}
-use Rattle.crs_engine.specs.Marks.{ListsNew, ListsAllNew, AfterMark}
+use Rattle.crs_engine.specs.Marks.{ListsAllNew, AfterMark}
 use Rattle.crs_engine.specs.Moves.{AreSameStores, IsTakenIn, IsGivenFresh, AreGivenFresh, AreOffered, HasPut, AreOfferedAll, AreAdvanced, AreMarked, IsRestOf, date_after}
 use Rattle.crs_engine.proofs.Settling.{date_within}
 use Rattle.crs_engine.proofs.Pools.{arrived_all, arrived_none, pool_to, pool_from, pool_apart, stands_alike, among_plain, among_prompt}
@@ -237,20 +237,23 @@ offered_all h (x ∷ xs) olds news past now was had settled came d g stand k apa
 
 -- ---- advanced
 
-answer_as : (p : Plan) (n : ℕ) (o : StoreState) (mark : Mark) (was_pool was pool now : List (Entry Sym)) (g h : ℕ) (first : List Recognition) → o.plan ≡ p → o.number ≡ n → before g now ≡ was → IsAnswer (chronicle o.plan) o.number mark was_pool pool now g h first → ListsNew (chronicle p) n mark was_pool was g pool now h first
+answer_as : (p : Plan) (n : ℕ) (o : StoreState) (mark : Mark) (was_pool was pool now : List (Entry Sym)) (g h : ℕ) (first : List Recognition) → o.plan ≡ p → o.number ≡ n
+    → before g now ≡ was
+    → IsAnswer (chronicle o.plan) o.number mark (record { pool = was_pool; settled = before g now; horizon = g })
+    (record { pool = pool; settled = now; horizon = h }) first
+    → IsAnswer (chronicle p) n mark (record { pool = was_pool; settled = was; horizon = g }) (record { pool = pool; settled = now; horizon = h }) first
 answer_as p n o mark was_pool was pool now g h first sp sn sw a =
-    let b : IsAnswer (chronicle p) n mark was_pool pool now g h first = subst (λ (q : Plan). IsAnswer (chronicle q) n mark was_pool pool now g h first) sp (subst (λ (m : ℕ). IsAnswer (chronicle o.plan) m mark was_pool pool now g h first) sn a) in
-    record {
-      listed = subst (λ (t : List (Entry Sym)). Lists assignment_cmp (IsNew (chronicle p) was_pool t g pool now h) (map assignment_of first)) sw b.listed;
-      each = b.each;
-    }
+    let then : Scope Sym = record { pool = pool; settled = now; horizon = h } in
+    subst (λ (t : List (Entry Sym)). IsAnswer (chronicle p) n mark (record { pool = was_pool; settled = t; horizon = g }) then first) sw
+    (subst (λ (q : Plan). IsAnswer (chronicle q) n mark (record { pool = was_pool; settled = before g now; horizon = g }) then first) sp
+    (subst (λ (m : ℕ). IsAnswer (chronicle o.plan) m mark (record { pool = was_pool; settled = before g now; horizon = g }) then first) sn a))
 
 module _ (history : HistoryState) (mark : Mark) (was had settled came : List (Entry Sym)) (d g h : ℕ) (sw : before g settled ≡ was) (kept : HistoryStandsFor settled history) (few : length settled < 2 ^ 32) (apart : AreDistinct settled) (apart_came : AreDistinct came) (later : d ≤ h) (dated : (e : Entry Sym) → IsIn e settled → e.date < h) (dates : Ordered (λ x y. x.date ≤ y.date) settled) where
   -- what a mark makes of one store
   abbrev Advanced : Plan → ℕ → StoreState → List Recognition → Type 0
   Advanced p n x first =
       Stands x (pool_among (chronicle p) settled came) (pool_among (chronicle p) settled came) settled h h
-      × ListsNew (chronicle p) n mark (pool_among (chronicle p) was had) was g (pool_among (chronicle p) settled came) settled h first
+      × IsAnswer (chronicle p) n mark (scope_of (chronicle p) was had g) (scope_of (chronicle p) settled came h) first
 
   advanced_one : (p : Plan) (n : ℕ) (o x : StoreState) (first : List Recognition) → o.plan ≡ p → o.number ≡ n → StandsBy o was had settled came [] d g h → IsFarBack o.plan.reach g history.floor → IsAdvanced o history h mark x first → Advanced p n x first
   advanced_one p n o x first sp sn st far k = by o.plan.chronicle.prompt refl
@@ -263,20 +266,20 @@ module _ (history : HistoryState) (mark : Mark) (was had settled came : List (En
           let m : IsMarked o x mark was settled settled g h first = k was settled settled st.date g (st.plain e) kept far few apart at_most dated dates in
           let pools = among_plain p o.plan sp e settled came in (
             subst (λ (t : List (Entry Sym)). Stands x t t settled h h) (sym pools) m.stands,
-            subst (λ (t : List (Entry Sym)). ListsNew (chronicle p) n mark t was g (pool_among (chronicle p) settled came) settled h first) (sym (among_plain p o.plan sp e was had))
-                (subst (λ (t : List (Entry Sym)). ListsNew (chronicle p) n mark was was g t settled h first) (sym pools) (answer_as p n o mark was was settled settled g h first sp sn sw m.answers)),
+            subst (λ (t : List (Entry Sym)). IsAnswer (chronicle p) n mark (record { pool = t; settled = was; horizon = g }) (scope_of (chronicle p) settled came h) first) (sym (among_plain p o.plan sp e was had))
+                (subst (λ (t : List (Entry Sym)). IsAnswer (chronicle p) n mark (record { pool = was; settled = was; horizon = g }) (record { pool = t; settled = settled; horizon = h }) first) (sym pools) (answer_as p n o mark was was settled settled g h first sp sn sw m.answers)),
           )
       by true e =
           let m : IsMarked o x mark had came settled g h first = k had came settled st.date g (ahead_of o had came settled [] st.date g h (st.prompt e)) kept far few apart_came at_most dated dates in
           let pools = among_prompt p o.plan sp e settled came in (
             subst (λ (t : List (Entry Sym)). Stands x t t settled h h) (sym pools) m.stands,
-            subst (λ (t : List (Entry Sym)). ListsNew (chronicle p) n mark t was g (pool_among (chronicle p) settled came) settled h first) (sym (among_prompt p o.plan sp e was had))
-                (subst (λ (t : List (Entry Sym)). ListsNew (chronicle p) n mark had was g t settled h first) (sym pools) (answer_as p n o mark had was came settled g h first sp sn sw m.answers)),
+            subst (λ (t : List (Entry Sym)). IsAnswer (chronicle p) n mark (record { pool = t; settled = was; horizon = g }) (scope_of (chronicle p) settled came h) first) (sym (among_prompt p o.plan sp e was had))
+                (subst (λ (t : List (Entry Sym)). IsAnswer (chronicle p) n mark (record { pool = had; settled = was; horizon = g }) (record { pool = t; settled = settled; horizon = h }) first) (sym pools) (answer_as p n o mark had was came settled g h first sp sn sw m.answers)),
           )
 
   advanced_all : (focus : Bool) (ps : List Plan) (n : ℕ) (olds news : List StoreState) (answer : List Recognition)
       → AreStoresOf focus ps n olds → AllStandBy olds was had settled came [] d g h → AllFar olds g history.floor → AreAdvanced history h mark olds news answer
-      → AllStand ps news settled came h × ListsAllNew ps n mark (λ p. pool_among (chronicle p) was had) was g (λ p. pool_among (chronicle p) settled came) settled h answer
+      → AllStand ps news settled came h × ListsAllNew ps n mark (λ p. scope_of (chronicle p) was had g) (λ p. scope_of (chronicle p) settled came h) answer
   advanced_all focus [] n [] news answer of stand far k = (subst (λ (t : List StoreState). AllStand [] t settled came h) (sym k.0) tt, k.1)
   advanced_all focus [] n (o ∷ olds) news answer of stand far k = absurd of
   advanced_all focus (p ∷ ps) n [] news answer of stand far k = absurd of
@@ -410,7 +413,7 @@ module _ (seen new : EngineState) (mark : Mark) (answer : List Recognition) (sam
   of_pooled : AreStoresOf seen.focus (plans_of seen.plans) 0 marked.pooled
   of_pooled = stores_same seen.focus (plans_of seen.plans) 0 seen.stores marked.pooled of marked.same_pooled
 
-  after : AllStand (plans_of seen.plans) new.stores (s ++ (marked.settled).done) (s ++ w) new.horizon × ListsAllNew (plans_of seen.plans) 0 mark (λ p. pool_among (chronicle p) s had) s seen.horizon (λ p. pool_among (chronicle p) (s ++ (marked.settled).done) (s ++ w)) (s ++ (marked.settled).done) new.horizon answer
+  after : AllStand (plans_of seen.plans) new.stores (s ++ (marked.settled).done) (s ++ w) new.horizon × ListsAllNew (plans_of seen.plans) 0 mark (λ p. scope_of (chronicle p) s had seen.horizon) (λ p. scope_of (chronicle p) (s ++ (marked.settled).done) (s ++ w) new.horizon) answer
   after = advanced_all new.history mark s had (s ++ (marked.settled).done) (s ++ w) offers.0 seen.horizon new.horizon (before_parts seen.horizon s (marked.settled).done stands.settled_before done_after) (offers.1).history few_settled apart all_apart offers.2
       (λ e i. in_from_each (λ x. x.date < new.horizon) (s ++ (marked.settled).done) all_before e i) (in_dates (s ++ (marked.settled).done) up_now)
       seen.focus (plans_of seen.plans) 0 marked.between new.stores answer (stores_same seen.focus (plans_of seen.plans) 0 marked.pooled marked.between of_pooled (marked.settled).same) (offers.1).stores (offers.1).far marked.advanced
@@ -448,9 +451,9 @@ module _ (seen new : EngineState) (mark : Mark) (answer : List Recognition) (sam
   pub after_mark : AfterMark seen new mark s w answer
   after_mark = record {
     stands = subst (λ (t : List (Entry Sym)). StandsFor new (s ++ t) (since new.horizon w)) (sym now_before) (subst (λ (t : List (Entry Sym)). StandsFor new (s ++ (marked.settled).done) t) (sym now_since) stands_parted);
-    answers = subst (λ (t : List (Entry Sym)). ListsAllNew (plans_of seen.plans) 0 mark (pool_of seen.marked s w) s seen.horizon (pool_of new.marked (s ++ t) (since new.horizon w)) (s ++ t) new.horizon answer) (sym now_before)
-        (subst (λ (t : List (Entry Sym)). ListsAllNew (plans_of seen.plans) 0 mark (pool_of seen.marked s w) s seen.horizon (pool_of new.marked (s ++ (marked.settled).done) t) (s ++ (marked.settled).done) new.horizon answer) (sym now_since)
-        (subst (λ (t : List (Entry Sym)). ListsAllNew (plans_of seen.plans) 0 mark (pool_of seen.marked s w) s seen.horizon (λ p. pool_among (chronicle p) (s ++ (marked.settled).done) t) (s ++ (marked.settled).done) new.horizon answer) (sym now_arrived) after.1));
+    answers = subst (λ (t : List (Entry Sym)). ListsAllNew (plans_of seen.plans) 0 mark (scope_at seen.marked s w seen.horizon) (scope_at new.marked (s ++ t) (since new.horizon w) new.horizon) answer) (sym now_before)
+        (subst (λ (t : List (Entry Sym)). ListsAllNew (plans_of seen.plans) 0 mark (scope_at seen.marked s w seen.horizon) (scope_at new.marked (s ++ (marked.settled).done) t new.horizon) answer) (sym now_since)
+        (subst (λ (t : List (Entry Sym)). ListsAllNew (plans_of seen.plans) 0 mark (scope_at seen.marked s w seen.horizon) (λ p. scope_of (chronicle p) (s ++ (marked.settled).done) t new.horizon) answer) (sym now_arrived) after.1));
   }
 
 -- ---- the engine's fields
@@ -514,14 +517,14 @@ marked_from seen old news now rest fresh t h stopped mark answer view is later m
 
 -- ---- the end again
 
-none_newly : (c : Chronicle Sym) (n : ℕ) (mark : Mark) (pool s : List (Entry Sym)) (h : ℕ) (answer : List Recognition) → ListsNew c n mark pool s h pool s h answer → answer ≡ []
-none_newly c n mark pool s h [] l = refl
-none_newly c n mark pool s h (r ∷ answer) l = let k = (l.listed).each in absurd ((k.0).1 (k.0).0)
+none_newly : (c : Chronicle Sym) (n : ℕ) (mark : Mark) (scope : Scope Sym) (answer : List Recognition) → IsAnswer c n mark scope scope answer → answer ≡ []
+none_newly c n mark scope [] l = refl
+none_newly c n mark scope (r ∷ answer) l = let k = (l.listed).each in absurd ((k.0).1 (k.0).0)
 
-none_new : (ps : List Plan) (n : ℕ) (mark : Mark) (pool : Plan → List (Entry Sym)) (s : List (Entry Sym)) (h : ℕ) (answer : List Recognition) → ListsAllNew ps n mark pool s h pool s h answer → answer ≡ []
-none_new [] n mark pool s h answer k = k
-none_new (p ∷ ps) n mark pool s h answer k =
-    k.2 ∙ ap (λ (t : List Recognition). t ++ k.1) (none_newly (chronicle p) n mark (pool p) s h k.0 k.3) ∙ none_new ps (suc n) mark pool s h k.1 k.4
+none_new : (ps : List Plan) (n : ℕ) (mark : Mark) (scope : Plan → Scope Sym) (answer : List Recognition) → ListsAllNew ps n mark scope scope answer → answer ≡ []
+none_new [] n mark scope answer k = k
+none_new (p ∷ ps) n mark scope answer k =
+    k.2 ∙ ap (λ (t : List Recognition). t ++ k.1) (none_newly (chronicle p) n mark (scope p) k.0 k.3) ∙ none_new ps (suc n) mark scope k.1 k.4
 
 none_waiting : (n : ℕ) (ws : List (Entry Sym)) → AllByRecursion (IsWaiting n) ws → AllByRecursion (λ x. 2 ^ 42 ≤ x.date) ws → ws ≡ []
 none_waiting n [] h k = refl
@@ -535,11 +538,11 @@ end_again old new small at now mark s w answer stands m =
     let settled_then : arrived old.marked (s ++ w) ≡ s = ap (λ (t : List (Entry Sym)). arrived old.marked (s ++ t)) none ∙ ap (arrived old.marked) (append-nil s) ∙ arrived_all old.marked s stands.arrived_settled in
     let by_now : AllByRecursion (λ x. x.arrival < new.marked) s = subst (AllByRecursion (λ x. x.arrival < new.marked)) whole (m.stands).arrived_settled in
     let settled_now : arrived new.marked ((s ++ before new.horizon w) ++ since new.horizon w) ≡ s = ap (λ (t : List (Entry Sym)). arrived new.marked (t ++ since new.horizon w)) whole ∙ ap (λ (t : List (Entry Sym)). arrived new.marked (s ++ t)) none_since ∙ ap (arrived new.marked) (append-nil s) ∙ arrived_all new.marked s by_now in
-    none_new (plans_of old.plans) 0 mark (λ p. pool_among (chronicle p) s s) s old.horizon answer
-    (subst (λ (h : ℕ). ListsAllNew (plans_of old.plans) 0 mark (λ p. pool_among (chronicle p) s s) s old.horizon (λ p. pool_among (chronicle p) s s) s h answer) (now ∙ sym at)
-    (subst (λ (t : List (Entry Sym)). ListsAllNew (plans_of old.plans) 0 mark (λ p. pool_among (chronicle p) s s) s old.horizon (λ p. pool_among (chronicle p) t s) t new.horizon answer) whole
-    (subst (λ (t : List (Entry Sym)). ListsAllNew (plans_of old.plans) 0 mark (λ p. pool_among (chronicle p) s s) s old.horizon (λ p. pool_among (chronicle p) (s ++ before new.horizon w) t) (s ++ before new.horizon w) new.horizon answer) settled_now
-    (subst (λ (t : List (Entry Sym)). ListsAllNew (plans_of old.plans) 0 mark (λ p. pool_among (chronicle p) s t) s old.horizon (pool_of new.marked (s ++ before new.horizon w) (since new.horizon w)) (s ++ before new.horizon w) new.horizon answer) settled_then m.answers))))
+    none_new (plans_of old.plans) 0 mark (λ p. scope_of (chronicle p) s s old.horizon) answer
+    (subst (λ (h : ℕ). ListsAllNew (plans_of old.plans) 0 mark (λ p. scope_of (chronicle p) s s old.horizon) (λ p. scope_of (chronicle p) s s h) answer) (now ∙ sym at)
+    (subst (λ (t : List (Entry Sym)). ListsAllNew (plans_of old.plans) 0 mark (λ p. scope_of (chronicle p) s s old.horizon) (λ p. scope_of (chronicle p) t s new.horizon) answer) whole
+    (subst (λ (t : List (Entry Sym)). ListsAllNew (plans_of old.plans) 0 mark (λ p. scope_of (chronicle p) s s old.horizon) (λ p. scope_of (chronicle p) (s ++ before new.horizon w) t new.horizon) answer) settled_now
+    (subst (λ (t : List (Entry Sym)). ListsAllNew (plans_of old.plans) 0 mark (λ p. scope_of (chronicle p) s t old.horizon) (scope_at new.marked (s ++ before new.horizon w) (since new.horizon w) new.horizon) answer) settled_then m.answers))))
 
 pub again_by : (r : Result (List Recognition) Refused) (seen old new : EngineState) (mark : Mark) → seen ≡ old → IsEngine seen → OnOk r (HasMoved old new (2 ^ 42) (2 ^ 42)) → IfOk r (λ a. (s w : List (Entry Sym)) → StandsFor old s w → AfterMark old new mark s w a) → old.horizon ≡ 2 ^ 42 → IfOk r (λ a. (s w : List (Entry Sym)) → StandsFor old s w → a ≡ [])
 again_by (Ok a) seen old new mark view is moved marked at = λ s w stands.

@@ -9,10 +9,10 @@ use Rattle.crs_model.specs.declared.plan.Plan.{Plan}
 use Rattle.crs_model.specs.declared.plan.Plans.{Plans}
 use Rattle.crs_model.specs.Matching.{AreDistinct}
 use Rattle.crs_model.specs.Levels.{reads_levels}
-use Rattle.crs_model.specs.Open.{pool_among}
 use Rattle.crs_model.specs.Order.{arrived}
 use Rattle.crs_model.specs.Plans.{chronicle}
 use Rattle.crs_model.specs.Reach.{IsReachOfAll, IsSmallSpan}
+use Rattle.crs_model.specs.Scopes.{Scope, scope_of}
 use Rattle.crs_history.specs.Histories.{HistoryState, lowest, IsFarBack, StandsFor as HistoryStandsFor}
 use Rattle.crs_store.specs.Stores.{StoreState, Stands}
 
@@ -54,9 +54,9 @@ module _ {S : Type 0} where
     pub distinct : AreDistinct entries
     pub numbers : (k : ℕ) → (k < n) ↔ IsIn k (map (λ e. e.arrival) entries)
 
--- the entries that the assignments of a plan may take: the settled ones, and of a prompt chronicle those that were accepted by the last mark
-abbrev pub pool_of : ℕ → List (Entry Sym) → List (Entry Sym) → Plan → List (Entry Sym)
-pool_of marked settled waiting p = pool_among (chronicle p) settled (arrived marked (settled ++ waiting))
+-- what recognition of a plan's chronicle reads at h, where so many had been accepted by the last mark
+abbrev pub scope_at : ℕ → List (Entry Sym) → List (Entry Sym) → ℕ → Plan → Scope Sym
+scope_at marked settled waiting h p = scope_of (chronicle p) settled (arrived marked (settled ++ waiting)) h
 
 -- whether one of the plans is of a prompt chronicle
 abbrev pub has_prompt : Plans → Bool
@@ -70,7 +70,7 @@ not_arrived n entries = filter (λ e. not (nat_lt e.arrival n)) entries
 pub record IsStoreAt (focus : Bool) (marked : ℕ) (settled waiting : List (Entry Sym)) (h : ℕ) (p : Plan) (s : StoreState) : Type 0 where
   pub plan : s.plan ≡ p
   pub focus_is : s.focus ≡ reads_levels (chronicle p) focus
-  pub stands : Stands s (pool_of marked settled waiting p) (pool_of marked settled waiting p) settled h h
+  pub stands : Stands s (scope_at marked settled waiting h p).pool (scope_at marked settled waiting h p).pool settled h h
 
 -- The settled entries are dated before the horizon and the waiting ones at or after it. All are in key order, and have the arrival numbers below the count of accepted ones. The settled ones were accepted by the last mark. The buffer holds the waiting ones and, where some chronicle is prompt, those of them that were accepted since the last mark. The history stands for the settled ones, each plan's store for its pool and them, and the history goes far enough back for each plan.
 pub record StandsFor (e : EngineState) (settled waiting : List (Entry Sym)) : Type 0 where

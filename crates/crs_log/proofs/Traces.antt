@@ -7,9 +7,10 @@ use Rattle.crs_base.proofs.KeyOrder.{entry_total}
 use Rattle.crs_base.proofs.Words.{in_from_each}
 use Rattle.crs_model.specs.Models.{Chronicle}
 use Rattle.crs_model.specs.Order.{Lists, assignment_cmp}
+use Rattle.crs_model.specs.Scopes.{IsNewIn}
 use Rattle.crs_model.proofs.Unique.{same_members}
 use Rattle.crs_log.specs.Reading.{Given}
-use Rattle.crs_log.specs.Recognitions.{View, view_of, IsNewIn}
+use Rattle.crs_log.specs.Recognitions.{View, view_of, scope_in}
 use Rattle.crs_log.specs.Run.{Setting, State, Outcome, Passed, Refused, Accepted, Marked, outcomes}
 use Rattle.crs_log.specs.Trace.{Answer, answer_of, AreNew, AreAnswers, Effect, IsEffect, IsTrace}
 use Rattle.crs_log.proofs.Walks.{one_walk}
@@ -23,7 +24,7 @@ assignments_total = on_total (λ a. a.entries) (lists_total entry_total)
 one_new : (k : ℕ) (cs : List (Chronicle (List ℕ))) (was now : View) (a b : List Answer) → AreNew k cs was now a → AreNew k cs was now b → a ≡ b
 one_new k [] was now a b x y = x ∙ sym y
 one_new k (c ∷ cs) was now a b x y =
-    let new : x.0 ≡ y.0 = same_list assignments_total (IsNewIn c was now) x.0 y.0 x.2 y.2 in
+    let new : x.0 ≡ y.0 = same_list assignments_total (IsNewIn c (scope_in c was) (scope_in c now)) x.0 y.0 x.2 y.2 in
     let rest : x.1 ≡ y.1 = one_new (suc k) cs was now x.1 y.1 x.3 y.3 in
     x.4 ∙ (λ i. map (answer_of k c) (new i) ++ rest i) ∙ sym y.4
 

@@ -2,8 +2,9 @@
 use Rattle.std.specs.Prelude.{◌≡◌, ℕ, suc, List, [], ◌∷◌, ◌++◌, map, flat_map}
 use Rattle.crs_model.specs.Models.{Chronicle}
 use Rattle.crs_model.specs.Matching.{Assignment}
+use Rattle.crs_model.specs.Scopes.{ListsNew}
 use Rattle.crs_log.specs.Reading.{Given, number_of}
-use Rattle.crs_log.specs.Recognitions.{View, view_of, ListsNew}
+use Rattle.crs_log.specs.Recognitions.{View, view_of, scope_in}
 use Rattle.crs_log.specs.Run.{Setting, State, Outcome, Passed, Refused, Accepted, Marked, after_line}
 use Rattle.crs_log.specs.Walks.{Walks}
 
@@ -20,7 +21,7 @@ answer_of k c a = record { number = k; chronicle = c; assignment = a }
 abbrev pub AreNew : ℕ → List (Chronicle (List ℕ)) → View → View → List Answer → Type 0
 AreNew k [] was now answers = answers ≡ []
 AreNew k (c ∷ cs) was now answers =
-    (new : List (Assignment (List ℕ))) × (rest : List Answer) × ListsNew c was now new × AreNew (suc k) cs was now rest
+    (new : List (Assignment (List ℕ))) × (rest : List Answer) × ListsNew c (scope_in c was) (scope_in c now) new × AreNew (suc k) cs was now rest
     × (answers ≡ map (answer_of k c) new ++ rest)
 
 -- a mark is answered by what is new, where recognition read `was` before it and reads `now` behind it; no other line is answered

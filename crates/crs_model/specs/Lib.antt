@@ -5,6 +5,7 @@ pub mod Partial
 pub mod Bits
 pub mod Verdicts
 pub mod Open
+pub mod Scopes
 pub mod Images
 pub mod Steps
 pub mod Scans

@@ -158,7 +158,8 @@ module _ (old new : StoreState) (is : IsStore old) (history : HistoryState) (mar
       let same_one : b ≡ assignment_of r.0 = same_values (chronicle old.plan) is.proper.named pool pool b (assignment_of r.0) (k.0).assignment (recognised_of r.0 r.1).assignment (unwhole b.entries (assignment_of r.0).entries r.2) in
       subst (λ (t : Assignment Sym). IsIn t (map assignment_of answer)) (sym same_one) (in_map assignment_of answer r.0 (moved_in found answer moves.found.moved r.0 r.1))
 
-  answers : IsAnswer (chronicle old.plan) old.number mark was pool settled g h answer
+  answers : IsAnswer (chronicle old.plan) old.number mark (record { pool = was; settled = before g settled; horizon = g })
+      (record { pool = pool; settled = settled; horizon = h }) answer
   answers = record {
     listed = record {
       ascending = ascending pool apart found answer (each_from_in (IsOver_ pool) found (λ r i. (recognised_of r i).assignment.given)) image.distinct moves.found.moved moves.found.sorted;

@@ -10,8 +10,9 @@ use Rattle.crs_model.specs.Models.{Chronicle}
 use Rattle.crs_model.specs.Matching.{AreDistinct}
 use Rattle.crs_model.specs.Images.{IsImage}
 use Rattle.crs_model.specs.Steps.{GoesOn}
-use Rattle.crs_model.specs.Order.{Lists, assignment_cmp}
-use Rattle.crs_model.specs.Open.{IsNew, IsRecognisedWhole, before, whole}
+use Rattle.crs_model.specs.Order.{assignment_cmp}
+use Rattle.crs_model.specs.Scopes.{Scope, ListsNew}
+use Rattle.crs_model.specs.Open.{IsRecognisedWhole, before, whole}
 use Rattle.crs_model.specs.Partial.{Partial}
 use Rattle.crs_model.specs.Plans.{chronicle}
 use Rattle.crs_model.specs.Seen.{assignment_of, given}
@@ -35,15 +36,16 @@ pub record IsRecognitionOf (c : Chronicle Sym) (n : ℕ) (m : Mark) (r : Recogni
   pub binding : r.binding ≡ map Some (given r.binding)
   pub values : length (given r.binding) ≡ length c.variables
 
--- the answer has exactly the new ones, ascending by the lists of their entries' keys
-pub record IsAnswer (c : Chronicle Sym) (number : ℕ) (mark : Mark) (was pool entries : List (Entry Sym)) (g h : ℕ) (answer : List Recognition) : Type 0 where
-  pub listed : Lists assignment_cmp (IsNew c was (before g entries) g pool entries h) (map assignment_of answer)
+-- the answer has exactly the new ones, ascending by the lists of their entries' keys, each with the chronicle's number, the mark, an entry for each event and a symbol for each variable
+pub record IsAnswer (c : Chronicle Sym) (number : ℕ) (mark : Mark) (was now : Scope Sym) (answer : List Recognition) : Type 0 where
+  pub listed : ListsNew c was now (map assignment_of answer)
   pub each : AllByRecursion (IsRecognitionOf c number mark) answer
 
 -- after a mark whose horizon is h
 pub record IsMarked (old new : StoreState) (mark : Mark) (was pool entries : List (Entry Sym)) (g h : ℕ) (answer : List Recognition) : Type 0 where
   pub stands : Stands new pool pool entries h h
-  pub answers : IsAnswer (chronicle old.plan) old.number mark was pool entries g h answer
+  pub answers : IsAnswer (chronicle old.plan) old.number mark (record { pool = was; settled = before g entries; horizon = g })
+      (record { pool = pool; settled = entries; horizon = h }) answer
 
 -- where all is settled that comes before h, the history stands for it, it is fewer than 2^32 entries, dated before h and in the order of its dates, no two entries of the pool have one arrival number, and d isn't after h
 abbrev pub IsAdvanced : StoreState → HistoryState → ℕ → Mark → StoreState → List Recognition → Type 0

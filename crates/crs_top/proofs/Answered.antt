@@ -22,8 +22,9 @@ use Rattle.crs_model.specs.declared.recognition.Mark.{Mark}
 use Rattle.crs_model.specs.declared.recognition.Recognition.{Recognition}
 use Rattle.crs_model.specs.Models.{EventDef, Chronicle}
 use Rattle.crs_model.specs.Open.{IsNew, IsRecognised, pool_among}
-use Rattle.crs_log.specs.Recognitions.{View, ListsNew as ListsNewIn}
+use Rattle.crs_log.specs.Recognitions.{View, scope_in}
 use Rattle.crs_model.specs.Order.{Lists, assignment_cmp}
+use Rattle.crs_model.specs.Scopes.{Scope, scope_of, ListsNew}
 use Rattle.crs_model.specs.Plans.{chronicle, IsProper}
 use Rattle.crs_model.specs.Seen.{assignment_of, event_of, given}
 use Rattle.crs_model.specs.Renaming.{text_in, AreKnown, renamed_assignment, renamed_entry, IsChronicleOf, IsEntryOf}
@@ -31,8 +32,8 @@ use Rattle.crs_model.proofs.RenamedAssignments.{known_values, new_renamed}
 use Rattle.crs_model.proofs.RenamedWindows.{HasNoStar, no_stars}
 use Rattle.crs_model.proofs.Options.{some_and}
 use Rattle.crs_log.specs.Trace.{Answer, answer_of, AreNew}
-use Rattle.crs_store.specs.Answers.{IsRecognitionOf}
-use Rattle.crs_engine.specs.Marks.{ListsNew, ListsAllNew}
+use Rattle.crs_store.specs.Answers.{IsAnswer, IsRecognitionOf}
+use Rattle.crs_engine.specs.Marks.{ListsAllNew}
 use Rattle.crs_report.specs.Lines.{recognition_line}
 use Rattle.crs_report.specs.Printed.{chronicle_at, AreBound, IsPrintable, line_seen}
 use Rattle.crs_top.specs.Session.{HasText, chronicle_in, entries_in, line_in, ArePrintable}
@@ -137,6 +138,12 @@ module _ (texts : List (List ℕ)) (distinct : AreDistinct texts) where
     abbrev pool_now : Plan → List (Entry Sym)
     pool_now p = pool_among (chronicle p) now came
 
+    abbrev scope_was : Plan → Scope Sym
+    scope_was p = scope_of (chronicle p) was had g
+
+    abbrev scope_now : Plan → Scope Sym
+    scope_now p = scope_of (chronicle p) now came h
+
     abbrev view_was : View
     view_was = record { settled = entries_in texts was; arrived = entries_in texts had; horizon = g }
 
@@ -145,8 +152,8 @@ module _ (texts : List (List ℕ)) (distinct : AreDistinct texts) where
 
     -- the new ones of a plan are those of the chronicle with the symbols' texts
     new_here : (p : Plan) → IsProper p → IsChronicleOf (HasText texts) (chronicle p) → (number : ℕ) (answer : List Recognition)
-        → ListsNew (chronicle p) number mark (pool_was p) was g (pool_now p) now h answer
-        → ListsNewIn (chronicle_in texts p) view_was view_now (map (renamed_assignment (text_in texts)) (map assignment_of answer))
+        → IsAnswer (chronicle p) number mark (scope_was p) (scope_now p) answer
+        → ListsNew (chronicle_in texts p) (scope_in (chronicle_in texts p) view_was) (scope_in (chronicle_in texts p) view_now) (map (renamed_assignment (text_in texts)) (map assignment_of answer))
     new_here p proper of number answer l =
         let raw = new_renamed (text_in texts) (HasText texts) apart (chronicle p) of proper.named (stars_of p proper) (pool_now p) now (pool_was p) was h g
         (pool_known texts p now came known known_came) known (pool_known texts p was had known_was known_had) known_was (map assignment_of answer) l.listed in
@@ -174,11 +181,11 @@ module _ (texts : List (List ℕ)) (distinct : AreDistinct texts) where
     next_from : (number : ℕ) (p : Plan) (ps : List Plan) → StandFrom (p ∷ ps) number → StandFrom ps (suc number)
     next_from number p ps at k = let e : number + suc k ≡ suc number + k = omega arith in subst (λ n. chronicle_at plans n ≡ option_map chronicle (slice_get ps k)) e (at (suc k))
 
-    recognised_of : (p : Plan) (number : ℕ) (answer : List Recognition) → ListsNew (chronicle p) number mark (pool_was p) was g (pool_now p) now h answer → (r : Recognition) → IsIn r answer → IsRecognised (chronicle p) (pool_now p) now h (assignment_of r)
+    recognised_of : (p : Plan) (number : ℕ) (answer : List Recognition) → IsAnswer (chronicle p) number mark (scope_was p) (scope_now p) answer → (r : Recognition) → IsIn r answer → IsRecognised (chronicle p) (pool_now p) now h (assignment_of r)
     recognised_of p number answer l r i = (in_from_each (IsNew (chronicle p) (pool_was p) was g (pool_now p) now h) (map assignment_of answer) l.listed.each (assignment_of r) (in_map assignment_of answer r i)).0
 
     pub all_printable : (ps : List Plan) (number : ℕ) (answer : List Recognition) → StandFrom ps number → AllByRecursion IsProper ps → AllByRecursion (λ p. IsChronicleOf (HasText texts) (chronicle p)) ps
-        → ListsAllNew ps number mark pool_was was g pool_now now h answer → ArePrintable plans texts answer
+        → ListsAllNew ps number mark scope_was scope_now answer → ArePrintable plans texts answer
     all_printable [] number answer at proper of l = subst (ArePrintable plans texts) (sym l) tt
     all_printable (p ∷ ps) number answer at proper of l = subst (ArePrintable plans texts) (sym l.2)
         (all_append (λ r. IsSomeAnd (chronicle_at plans r.chronicle) (IsPrintable texts r)) l.0 l.1
@@ -186,7 +193,7 @@ module _ (texts : List (List ℕ)) (distinct : AreDistinct texts) where
         (all_printable ps (suc number) l.1 (next_from number p ps at) proper.1 of.1 l.4))
 
     pub answer_seen : (ps : List Plan) (number : ℕ) (answer : List Recognition) → StandFrom ps number → AllByRecursion IsProper ps → AllByRecursion (λ p. IsChronicleOf (HasText texts) (chronicle p)) ps
-        → ListsAllNew ps number mark pool_was was g pool_now now h answer
+        → ListsAllNew ps number mark scope_was scope_now answer
         → IsSeen texts plans mark number (map (chronicle_in texts) ps) view_was view_now answer
     answer_seen [] number answer at proper of l =
         record { answers = []; new = refl; lines = ap (flat_map (line_in plans texts)) l; notices = ap (map notice_of) l }
@@ -213,7 +220,7 @@ module _ (texts : List (List ℕ)) (distinct : AreDistinct texts) where
 
     -- each recognition has an entry, since each chronicle has an event
     pub all_filled : (ps : List Plan) (number : ℕ) (answer : List Recognition) → AllByRecursion IsProper ps
-        → ListsAllNew ps number mark pool_was was g pool_now now h answer → AllByRecursion HasEntry answer
+        → ListsAllNew ps number mark scope_was scope_now answer → AllByRecursion HasEntry answer
     all_filled [] number answer proper l = subst (AllByRecursion HasEntry) (sym l) tt
     all_filled (p ∷ ps) number answer proper l = subst (AllByRecursion HasEntry) (sym l.2)
         (all_append HasEntry l.0 l.1 (each_filled p proper.0 number mark l.0 l.3.each) (all_filled ps (suc number) l.1 proper.1 l.4))

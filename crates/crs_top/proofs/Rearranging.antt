@@ -12,7 +12,7 @@ use Rattle.crs_model.specs.Models.{Chronicle}
 use Rattle.crs_model.specs.Matching.{Assignment}
 use Rattle.crs_model.specs.Order.{dated_before, arrived, in_key_order}
 use Rattle.crs_model.specs.Open.{pool_among}
-use Rattle.crs_log.specs.Recognitions.{pool_of}
+use Rattle.crs_log.specs.Recognitions.{scope_in}
 use Rattle.crs_model.proofs.Ties.{ties}
 use Rattle.crs_model.proofs.Twins.{Twins}
 use Rattle.crs_model.proofs.TwinLists.{Paired, Reads, new_paired}
@@ -36,7 +36,7 @@ lines_same T t k c mark (x ∷ xs) (y ∷ ys) z = λ i. line_same T t c mark x y
 
 -- what a chronicle's recognition reads at two marks
 abbrev reads : Chronicle (List ℕ) → ℕ → ℕ → ℕ → ℕ → List LogEntry → Reads (List ℕ)
-reads c k m g h xs = record { was_pool = pool_of c (view k g xs); was = dated_before g xs; pool = pool_of c (view m h xs); now = dated_before h xs }
+reads c k m g h xs = record { was_pool = (scope_in c (view k g xs)).pool; was = dated_before g xs; pool = (scope_in c (view m h xs)).pool; now = dated_before h xs }
 
 pool_paired : (T : LogEntry → LogEntry → Type 0) (c : Chronicle (List ℕ)) (xs came ys other : List LogEntry) → AllZip T xs ys → AllZip T came other → AllZip T (pool_among c xs came) (pool_among c ys other)
 pool_paired T c xs came ys other z y = by c.prompt

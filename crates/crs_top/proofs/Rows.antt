@@ -16,7 +16,8 @@ use Rattle.crs_model.specs.Partial.{dates_of}
 use Rattle.crs_log.specs.Reading.{numbered}
 use Rattle.crs_log.specs.Run.{State, Outcome, Accepted, Marked, at_start, after_lines, settled}
 use Rattle.crs_log.specs.Trace.{Answer, Effect, AreNew, answer_of}
-use Rattle.crs_log.specs.Recognitions.{ListsNew, view_of}
+use Rattle.crs_model.specs.Scopes.{ListsNew, scope_of}
+use Rattle.crs_log.specs.Recognitions.{view_of}
 use Rattle.crs_top.specs.Texts.{LogEntry, Frame, setting_of, IsLogText}
 
 abbrev plain : List ℕ → List ℕ → EventDef (List ℕ)
@@ -142,7 +143,7 @@ only look (x ∷ (y ∷ (z ∷ zs))) h g = absurd h.1.1
 same : (es : List LogEntry) (vs : List (List ℕ)) (fs : List LogEntry) (ws : List (List ℕ)) → es ≡ fs → vs ≡ ws → ◌≡◌ {A = Assignment (List ℕ)} (record { entries = es; values = vs }) (record { entries = fs; values = ws })
 same es vs fs ws e f = cc
 
-new : ListsNew model (record { settled = []; arrived = []; horizon = 0 }) (record { settled = both; arrived = both; horizon = 13 }) (assignment ∷ [])
+new : ListsNew model (scope_of model [] [] 0) (scope_of model both both 13) (assignment ∷ [])
 new = record {
   ascending = (tt, tt);
   each = ((recognised, λ r. r.assignment.given.0), tt);
