@@ -140,6 +140,7 @@ fn chronicle(alloc: Global) -> Result<Chronicle, AllocError> {
     differs.push((0, 1))?;
     Ok(Chronicle {
         name: Sym(0),
+        prompt: false,
         line: 1,
         events: List::new(alloc),
         free: List::new(alloc),

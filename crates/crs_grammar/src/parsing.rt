@@ -6,7 +6,8 @@ ghost use Rattle.crs_grammar.specs.SeenStatements as see;
 ghost use Rattle.crs_grammar.specs.Statements as said;
 
 use crate::statements::{
-    Anchor, Body, Declaration, Distance, Event, Heading, Pattern, Shift, Statement, Term, Unread, Window,
+    Anchor, Body, Declaration, Distance, Event, Heading, Pattern, Shift, Statement, Term, Unread,
+    Window,
 };
 use crate::words::Token;
 use crs_base::{integer, is_symbol, number};
