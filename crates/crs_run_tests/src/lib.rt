@@ -4,4 +4,8 @@
 #[cfg(test)]
 mod calm_runs;
 #[cfg(test)]
+mod failing_calls;
+#[cfg(test)]
+mod rows;
+#[cfg(test)]
 mod runs;

@@ -1,6 +1,10 @@
-ghost use Rattle.std.specs.Prelude.{◌≡◌, ◌<◌, ◌≤◌, ◌+◌, ◌^◌, IfOk};
+//! Runs of each command: worked logs, words, limits, printed models, drills and pages.
+ghost use Rattle.std.specs.Prelude.{◌≡◌, IfOk};
 ghost use Rattle.crs_desk.specs.Memory.{memory_inputs};
 
+use crate::rows::{
+    MODELS, boxed, desk_of, ends_so, lines_of, models_alone, row_ends_so, rows_end_so, words_in,
+};
 use crs_desk::MemoryDesk;
 use crs_report::{CountByModel, FirstLast, FirstN, Listener, LongestSpan};
 use crs_top::{Limits, STANDARD, Status, run_with};
@@ -8,111 +12,8 @@ use std::alloc::{AllocError, Global};
 use std::process::Abort;
 use std::test::Fail;
 
-const MODELS: &str =
-    "message a 0\nmessage b 0\nchronicle c {\n  event(a, t1)\n  event(b, t2)\n  t2 - t1 in [1, 5]\n}\n";
-
 const USAGE: &str =
     "usage: crs run [--focus] [--summary] [--tally KINDS] MODELS LOG\n       crs model [--minimal] MODELS\n       crs drill [--focus] SEED N\n       crs import CSV\n";
-
-/// The text with a line end in place of each slash.
-fn lines_of(alloc: Global, text: &str) -> Result<Vec<u8>, AllocError> {
-    let mut lines = Vec::new(alloc);
-    for byte in text.bytes() {
-        lines.push(if byte == b'/' { b'\n' } else { byte })?;
-    }
-    Ok(lines)
-}
-
-fn words_in(alloc: Global, line: &str) -> Result<Vec<String>, AllocError> {
-    let mut words = Vec::new(alloc);
-    for word in line.split(' ') {
-        words.push(String::from_str(alloc, word)?)?;
-    }
-    Ok(words)
-}
-
-/// A desk that holds the models alone.
-fn models_alone(alloc: Global, models: &str) -> Result<MemoryDesk, AllocError>
-    ensures { IfOk result (λ d. memory_inputs d ≡ 0) }
-{
-    let mut desk = MemoryDesk::new(alloc);
-    desk.add_file("m", models.as_bytes())?;
-    Ok(desk)
-}
-
-/// A desk that holds the models and a log of these bytes.
-fn desk_of(alloc: Global, models: &str, log: &[u8]) -> Result<MemoryDesk, AllocError>
-    ensures { IfOk result (λ d. memory_inputs d ≡ 0) }
-{
-    let mut desk = models_alone(alloc, models)?;
-    desk.add_file("l", log)?;
-    Ok(desk)
-}
-
-/// Runs the words over a desk, for no listeners.
-fn run(alloc: Global, words: &[String], limits: Limits, desk: &mut MemoryDesk) -> Status
-    requires { memory_inputs desk.old < 2 ^ 31 }
-    ensures { memory_inputs desk.new ≤ memory_inputs desk.old + 2 }
-{
-    run_with(alloc, words, limits, desk, Vec::new(alloc))
-}
-
-/// Fails where a run over a desk has another status or another output, which is written with slashes
-/// for line ends.
-fn ends_so(
-    rt: &impl Abort,
-    alloc: Global,
-    words: &str,
-    limits: Limits,
-    desk: &mut MemoryDesk,
-    status: Status,
-    output: &str,
-) -> Result<(), Fail>
-    requires { memory_inputs desk.old < 2 ^ 30 }
-    ensures { memory_inputs desk.new ≤ memory_inputs desk.old + 2 }
-{
-    let words = words_in(alloc, words)?;
-    let ended = run(alloc, words.as_slice(), limits, desk);
-    assert!(rt; ended == status, "{output}: {ended:?}");
-    let lines = lines_of(alloc, output)?;
-    assert!(rt; desk.written() == lines.as_slice(), "{output}");
-    Ok(())
-}
-
-/// The same of a row: a log and its output, parted by a bar, with slashes for line ends. A piece of no
-/// bytes stands for reads of any length.
-fn row_ends_so(
-    rt: &impl Abort,
-    alloc: Global,
-    words: &str,
-    models: &str,
-    piece: usize,
-    status: Status,
-    row: &str,
-) -> Result<(), Fail> {
-    let (log, output) = row.split_once('|').ok_or("row")?;
-    let log = lines_of(alloc, log)?;
-    let mut desk = desk_of(alloc, models, &log)?;
-    if 0 < piece {
-        desk.set_piece(piece);
-    }
-    ends_so(rt, alloc, words, STANDARD, &mut desk, status, output)
-}
-
-fn rows_end_so(
-    rt: &impl Abort,
-    alloc: Global,
-    words: &str,
-    models: &str,
-    piece: usize,
-    status: Status,
-    rows: &str,
-) -> Result<(), Fail> {
-    for row in rows.lines() {
-        row_ends_so(rt, alloc, words, models, piece, status, row)?;
-    }
-    Ok(())
-}
 
 #[test]
 fn worked_logs(rt: HostRuntime) -> Result<(), Fail> {
@@ -159,46 +60,6 @@ const QUIET: &str =
 /// Two events near a free point.
 const FREE: &str =
     "message a 0\nmessage b 0\nchronicle f {\nevent(a, t1)\nevent(b, t2)\npoint z\nt1 - z in [0, 3]\nt2 - z in [0, 3]\n}\n";
-
-/// Both events as soon as they are accepted.
-const PROMPT: &str =
-    "message a 0\nmessage b 0\nprompt chronicle p {\nevent(a, t1)\nevent(b, t2)\nt2 - t1 in [1, 5]\n}\n";
-
-/// The same of an event and what doesn't follow it.
-const PROMPT_QUIET: &str =
-    "message a 0\nmessage b 0\nprompt chronicle q {\nevent(a, t1)\nnoevent(b, (t1 + 1, t1 + 10))\n}\n";
-
-#[test]
-fn worked_logs_of_prompt_chronicles(rt: HostRuntime) -> Result<(), Fail> {
-    let alloc = rt.alloc();
-    let rows = [
-        (
-            PROMPT,
-            "run --summary m l",
-            "delay 2/10 a/12 b/clock 12/clock 15/|p at 12 t1=10 t2=12/summary entries 2 refused 0 recognitions 1 kept 2 peak 3/",
-        ),
-        (
-            PROMPT_QUIET,
-            "run m l",
-            "delay 2/3 a/clock 3/clock 14/clock 15/|q at 15 t1=3/",
-        ),
-        (
-            PROMPT,
-            "run m l",
-            "delay 5/12 b/clock 12/10 a/clock 13/|p at 13 t1=10 t2=12/",
-        ),
-        (
-            PROMPT,
-            "run --focus m l",
-            "delay 5/12 b/clock 12/10 a/clock 13/|p at 13 t1=10 t2=12/",
-        ),
-    ];
-    for (models, words, row) in rows {
-        row_ends_so(&rt, alloc, words, models, 1, Status::Done, row)?;
-        row_ends_so(&rt, alloc, words, models, 4096, Status::Done, row)?;
-    }
-    Ok(())
-}
 
 #[test]
 fn worked_logs_of_other_models(rt: HostRuntime) -> Result<(), Fail> {
@@ -293,36 +154,6 @@ fn small_limits(rt: HostRuntime) -> Result<(), Fail> {
     Ok(())
 }
 
-/// A desk of a log at which the open, the read of the log and the write of these numbers fail.
-fn failing_desk(alloc: Global, open: u64, read: u64, write: u64) -> Result<MemoryDesk, AllocError>
-    ensures { IfOk result (λ d. memory_inputs d ≡ 0) }
-{
-    let log = b"1 a\n3 b\nclock 4\n5 a\n6 b\nclock 7\n8 a\n";
-    let mut desk = desk_of(alloc, MODELS, log)?;
-    desk.set_piece(16);
-    desk.fail_open(open)?;
-    desk.fail_read("l", read)?;
-    desk.fail_write(write)?;
-    Ok(desk)
-}
-
-#[test]
-fn failing_calls(rt: HostRuntime) -> Result<(), Fail> {
-    let alloc = rt.alloc();
-    let output = "c at 4 t1=1 t2=3/c at 7 t1=1 t2=6/c at 7 t1=5 t2=6/";
-    for (open, read, write, status, lines) in [
-        (1, 9, 9, Status::ReadFault, ""),
-        (2, 9, 9, Status::ReadFault, ""),
-        (9, 3, 9, Status::ReadFault, output),
-        (9, 9, 1, Status::WriteFault, ""),
-        (9, 9, 9, Status::Done, output),
-    ] {
-        let mut desk = failing_desk(alloc, open, read, write)?;
-        ends_so(&rt, alloc, "run m l", STANDARD, &mut desk, status, lines)?;
-    }
-    Ok(())
-}
-
 #[test]
 fn missing_files(rt: HostRuntime) -> Result<(), Fail> {
     let alloc = rt.alloc();
@@ -356,7 +187,7 @@ fn prints(
     status: Status,
     output: &str,
 ) -> Result<(), Fail> {
-    let mut desk = models_alone(alloc, models)?;
+    let mut desk = models_alone(alloc, models.as_bytes())?;
     ends_so(rt, alloc, words, STANDARD, &mut desk, status, output)
 }
 
@@ -484,7 +315,17 @@ fn models_without_levels(rt: HostRuntime) -> Result<(), Fail> {
         b"# battery unit, day 112\ndelay 5\n100 charge[b1]: (full, part)\n100 charge[b2]: (full, part)\n110 heater_on[b1]\n112 heater_on[b2]\nclock 115\n120 heater_off[b2]\n131 charge[b1]: (part, low)\n129 telemetry[frame7]\nclock 135\n140 charge[b2]: (part, low)\n142 low_volt[b1,p1]\n138 low_volt[b1,p2]\nclock 145\n139 low_volt[b1,p1]\n\n150 heater_on[b1]\n152 low_volt[b1,p1]\n155 low_volt[b1,p2]\nclock 160\n160 charge[b1]: (low, part)\n161 low_volt[b1,p1]\nclock 166\n170 charge[b1]: (part, low)\n171 charge[b1]: (broken)\n172 charge[b1]: (low, empty)\nclock 180\n200 heater_off[b1]\nend\n";
     let told =
         "drain at 145 t1=110 t2=131 ?b=b1\nline 16 late 139 140\nundervolt at 166 t1=138 t2=155 ?b=b1 ?p=p2\nundervolt at 166 t1=142 t2=152 ?b=b1 ?p=p1\nline 26 form\nline 27 value\ndrain at 180 t1=110 t2=170 ?b=b1\ndrain at 180 t1=150 t2=170 ?b=b1\nsummary entries 16 refused 3 recognitions 5 kept 2 peak 9\n";
-    for words in ["run --summary m l", "run m l --summary --focus"] {
+    let tallied = format!(in alloc;
+        "{told}tally count 3 2\ntally span 110 170\ntally longest 60 0 110\ntally fewer 5\n"
+    )?;
+    for (words, output) in [
+        ("run --summary m l", told),
+        ("run m l --summary --focus", told),
+        (
+            "run --summary --tally count,span,longest,fewer m l",
+            tallied.as_str(),
+        ),
+    ] {
         let mut desk = desk_of(alloc, battery, day)?;
         ends_so(
             &rt,
@@ -493,18 +334,10 @@ fn models_without_levels(rt: HostRuntime) -> Result<(), Fail> {
             STANDARD,
             &mut desk,
             Status::Refusals,
-            told,
+            output,
         )?;
     }
     Ok(())
-}
-
-/// A listener in a box.
-fn boxed<L: Listener>(
-    alloc: Global,
-    listener: Result<L, AllocError>,
-) -> Result<Box<L>, AllocError> {
-    Ok(Box::new(alloc, listener?)?)
 }
 
 /// Runs the words over a log, and compares the output with what listeners of all kinds write behind it.
