@@ -9,3 +9,5 @@ mod failing_calls;
 mod rows;
 #[cfg(test)]
 mod runs;
+#[cfg(test)]
+mod windows;
