@@ -4,6 +4,8 @@
 #[cfg(test)]
 mod calm_runs;
 #[cfg(test)]
+mod delays;
+#[cfg(test)]
 mod failing_calls;
 #[cfg(test)]
 mod rows;
