@@ -8,6 +8,8 @@ mod delays;
 #[cfg(test)]
 mod failing_calls;
 #[cfg(test)]
+mod hostile;
+#[cfg(test)]
 mod prompt_runs;
 #[cfg(test)]
 mod rows;
