@@ -143,6 +143,51 @@ impl Listener for Wanting {
     }
 }
 
+/// A listener that counts, and has memory for its first recognition alone.
+#[derive(Drop)]
+struct OnceOnly {
+    alloc: Global,
+    figures: List<u64>,
+    told: bool,
+}
+
+impl OnceOnly {
+    fn new(alloc: Global) -> Result<OnceOnly, AllocError> {
+        Ok(OnceOnly {
+            alloc,
+            figures: List::new(alloc),
+            told: false,
+        })
+    }
+}
+
+impl Listener for OnceOnly {
+    ghost kind = { λ _. 0 };
+
+    ghost figures = { λ l. l.figures };
+
+    fn kind(&self) -> u32 {
+        0
+    }
+
+    fn figures(&self) -> &List<u64> {
+        &self.figures
+    }
+
+    fn tell(&mut self, r: &Recognition) -> Result<Next, AllocError> {
+        if self.told {
+            return Err(AllocError);
+        }
+        count(self.alloc, &mut self.figures, r)?;
+        self.told = true;
+        Ok(Next::Stay)
+    }
+
+    fn page(&self) -> Result<Text, AllocError> {
+        page_line(self.alloc, 0, self.figures.as_slice())
+    }
+}
+
 /// A listener of kind 3 with more figures than that kind has.
 #[derive(Drop)]
 struct Odd {
@@ -253,6 +298,22 @@ fn want_of_memory_stops_at_its_listener(rt: HostRuntime) -> Result<(), Fail> {
     assert!(rt; have_pages(alloc, listeners.as_slice(), pages)?);
     keep_kinds(&mut listeners, &[false, true, true]);
     assert!(rt; have_pages(alloc, listeners.as_slice(), b"tally longest\n")?);
+    Ok(())
+}
+
+#[test]
+fn a_leaver_before_the_want_of_memory_is_dropped(rt: HostRuntime) -> Result<(), Fail> {
+    let alloc = rt.alloc();
+    let mut listeners: Vec<Box<dyn Listener>> = Vec::new(alloc);
+    listeners.push(boxed(alloc, FirstN::new(alloc, 2))?)?;
+    listeners.push(boxed(alloc, OnceOnly::new(alloc))?)?;
+    listeners.push(boxed(alloc, CountByModel::new(alloc))?)?;
+    tell(alloc, &mut listeners, 0)?;
+    let pages = b"tally fewer 1\ntally count 1\ntally count 1\n";
+    assert!(rt; have_pages(alloc, listeners.as_slice(), pages)?);
+    assert!(rt; tell(alloc, &mut listeners, 0).is_err());
+    let pages = b"tally count 1\ntally count 1\n";
+    assert!(rt; have_pages(alloc, listeners.as_slice(), pages)?);
     Ok(())
 }
 
