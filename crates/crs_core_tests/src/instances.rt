@@ -101,13 +101,19 @@ fn shares_its_parts(rt: HostRuntime) -> Result<(), Fail> {
     let alloc = rt.alloc();
     let plan = a_then_b(alloc)?;
     let root = Instance::root(alloc, &plan)?;
+    let other = Instance::root(alloc, &plan)?;
     assert!(rt; root.share()?.shares_all(&root));
+    assert!(rt; !other.shares_all(&root));
+    assert!(rt; !root.shares_rest(&root));
     let first = shared(alloc, 0, 10, 0)?;
     let fork = fork_apart::<Brand>(Blank::new(1), &root, &plan, 0, &first)?;
     assert!(rt; fork.is_some());
     if let Some(fork) = fork {
         assert_eq!(rt; fork.bound(), 1);
         assert!(rt; fork.shares_rest(&root));
+        assert!(rt; !fork.shares_rest(&other));
+        assert!(rt; !fork.shares_rest(&fork));
+        assert!(rt; !fork.shares_all(&root));
         assert!(rt; fork.share()?.shares_all(&fork));
     }
     assert_eq!(rt; root.bound(), 0);
