@@ -12,6 +12,10 @@ fn words_of(alloc: Global, text: &str) -> Result<Vec<String>, AllocError> {
     Ok(words)
 }
 
+fn cite_word(cite: bool) -> &'static str {
+    if cite { "cited " } else { "" }
+}
+
 fn run_word(focus: bool, summary: bool) -> &'static str {
     match (focus, summary) {
         (false, false) => "run",
@@ -28,13 +32,15 @@ fn drill_word(focus: bool) -> &'static str {
 fn shown_run(
     alloc: Global,
     word: &str,
+    cite: bool,
     kinds: [bool; 4],
     models: &str,
     log: &str,
 ) -> Result<String, AllocError> {
+    let cited = cite_word(cite);
     match kinds.contains(&true) {
-        true => format!(in alloc; "{word} {kinds:?} {models} {log}"),
-        false => format!(in alloc; "{word} {models} {log}"),
+        true => format!(in alloc; "{cited}{word} {kinds:?} {models} {log}"),
+        false => format!(in alloc; "{cited}{word} {models} {log}"),
     }
 }
 
@@ -47,10 +53,18 @@ fn shown_command(alloc: Global, command: Command<'_>) -> Result<String, AllocErr
         Command::Run {
             focus,
             summary,
+            cite,
             tally,
             models,
             log,
-        } => shown_run(alloc, run_word(focus, summary), tally.kinds(), models, log),
+        } => shown_run(
+            alloc,
+            run_word(focus, summary),
+            cite,
+            tally.kinds(),
+            models,
+            log,
+        ),
         Command::Print { listing, models } => format!(in alloc; "{listing:?} {models}"),
         Command::Drill { focus, seed, lines } => {
             shown_drill(alloc, drill_word(focus), seed, lines)
@@ -125,6 +139,10 @@ run --focus=x m l | none
 run --focus m | none
 run -- --focus l | run --focus l
 --focus run m l | none
+run --cite m l | cited run m l
+run m --cite l --summary | cited summary m l
+run --cite m l --cite | none
+run --cite=x m l | none
 ",
     )
 }
@@ -223,7 +241,7 @@ import --minimal t | none
 
 #[test]
 fn the_usage_text_has_a_line_for_each_command(rt: HostRuntime) {
-    let text = b"usage: crs run [--focus] [--summary] [--tally KINDS] MODELS LOG\n\
+    let text = b"usage: crs run [--focus] [--summary] [--cite] [--tally KINDS] MODELS LOG\n\
         \x20      crs model [--minimal] MODELS\n\
         \x20      crs drill [--focus] SEED N\n\
         \x20      crs import CSV\n\

@@ -3,14 +3,14 @@ ghost use Rattle.std.specs.Prelude.{◌≡◌, ◌<◌, IfOk, IsTrue, IsSomeAnd,
 ghost use Rattle.std.specs.List.{AllByRecursion};
 ghost use Rattle.crs_model.specs.Bindings.{PatternIsBelow};
 ghost use Rattle.crs_model.specs.Seen.{chronicle_of, pattern_of};
-ghost use Rattle.crs_report.specs.Printed.{chronicle_at};
+ghost use Rattle.crs_report.specs.Printed.{chronicle_at, IsPrintable};
 
 use crs_base::{Entry, List, Steps, Sym, SymList, Symbols, Text, is_symbol};
 use crs_model::{
     Binding, Chronicle, EventDef, Mark, ModelWord, Pattern, Plan, Plans, Recognition, Term,
     bind_vars, fits,
 };
-use crs_report::{Fault, Summary, line_of, model_line, refusal_line, summary_line};
+use crs_report::{Fault, Summary, cited_line_of, line_of, model_line, refusal_line, summary_line};
 use crs_stn::Network;
 use std::alloc::{AllocError, Global};
 use std::marker::Brand;
@@ -217,8 +217,25 @@ fn are_bound(binding: &Binding) -> bool
     }
 }
 
+/// The line of a recognition, in which its entries are cited or not.
+fn told_line(
+    alloc: Global,
+    plans: &Plans,
+    symbols: &Symbols,
+    r: &Recognition,
+    cite: bool,
+) -> Result<Text, AllocError>
+    requires { IsSomeAnd (chronicle_at plans.now r.now.chronicle) (IsPrintable symbols.now.texts r.now) }
+{
+    if cite {
+        cited_line_of(alloc, plans, symbols, r)
+    } else {
+        line_of(alloc, plans, symbols, r)
+    }
+}
+
 /// The line of a recognition of the undervolt.
-fn undervolt_line(alloc: Global, symbols: &Symbols, mark: Mark) -> Result<Text, Fail>
+fn undervolt_line(alloc: Global, symbols: &Symbols, mark: Mark, cite: bool) -> Result<Text, Fail>
     requires { length symbols.now.texts ≡ 8 }
 {
     let chronicle = undervolt(alloc)?;
@@ -234,7 +251,7 @@ fn undervolt_line(alloc: Global, symbols: &Symbols, mark: Mark) -> Result<Text, 
         entries,
         binding,
     };
-    Ok(line_of(alloc, &plans, symbols, &r)?)
+    Ok(told_line(alloc, &plans, symbols, &r, cite)?)
 }
 
 #[test]
@@ -256,9 +273,13 @@ fn a_recognition_has_its_line(rt: HostRuntime) -> Result<(), Fail> {
         assert!(rt; symbols.intern(text).is_ok());
     }
     assert!(rt; symbols.len() == 8);
-    let line = undervolt_line(alloc, &symbols, Mark::Clock(166))?;
+    let line = undervolt_line(alloc, &symbols, Mark::Clock(166), false)?;
     assert!(rt; line.bytes() == b"undervolt at 166 t1=138 t2=155 ?b=b1 ?p=p2\n".as_slice());
-    let line = undervolt_line(alloc, &symbols, Mark::Finish)?;
+    let line = undervolt_line(alloc, &symbols, Mark::Clock(166), true)?;
+    assert!(rt;
+        line.bytes() == b"undervolt at 166 t1=138 t2=155 ?b=b1 ?p=p2 cites 0 1\n".as_slice()
+    );
+    let line = undervolt_line(alloc, &symbols, Mark::Finish, false)?;
     assert!(rt; line.bytes() == b"undervolt at end t1=138 t2=155 ?b=b1 ?p=p2\n".as_slice());
     Ok(())
 }

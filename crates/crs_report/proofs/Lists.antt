@@ -27,3 +27,9 @@ pub kept : {B F : Type 0} {R : F → B → Bool → F → Type 0} (seen : B → 
     → IsFiltered R f olds news
     → ((b : B) (is : Bool) (f' : F) → R f b is f' → (is ≡ is_chosen chosen (seen b).0) × (f' ≡ f)) → map seen news ≡ keep_members chosen (map seen olds)
 kept {R} seen chosen f olds news k h = ap (map seen) (filter_same R (λ b. is_chosen chosen (seen b).0) f h olds news k) ∙ map-filter seen (λ m. is_chosen chosen m.0) olds
+
+-- a line is written piece by piece
+pub written_line : (out one two three four name at mark points values cites feed : List ℕ) → one ≡ out ++ name ++ at ++ mark
+    → two ≡ one ++ points → three ≡ two ++ values → four ≡ three ++ cites ++ feed
+    → four ≡ out ++ (name ++ at ++ mark ++ points ++ values ++ cites ++ feed)
+written_line out one two three four name at mark points values cites feed a b c d = rw (d, c, b, a) (simp append_assoc)

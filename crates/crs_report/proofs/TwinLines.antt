@@ -1,5 +1,5 @@
--- The line of an assignment tells no arrival numbers.
-use Rattle.std.proofs.Common.{◌≡◌, ℕ, List, [], ◌∷◌, ◌++◌, refl}
+-- The line of an assignment tells no arrival numbers, unless its entries are cited.
+use Rattle.std.proofs.Common.{◌≡◌, ℕ, false, List, [], ◌∷◌, ◌++◌, refl}
 use Rattle.std.specs.Prelude.{flat_map, zip, decimal, codes}
 use Rattle.std.specs.List.{AllZip}
 use Rattle.crs_base.specs.Entry.{Entry}
@@ -21,7 +21,7 @@ module _ (T : Entry (List ℕ) → Entry (List ℕ) → Type 0) (t : Twins T) wh
       λ i. (codes " " ++ v.point ++ codes "=" ++ decimal ((t.same x y z.0).date i)) ++ points_same vs xs ys z.1 i
 
   pub line_same : (c : Chronicle (List ℕ)) (mark : Mark) (a b : Assignment (List ℕ)) → Paired T a b
-      → recognition_line c mark a ≡ recognition_line c mark b
+      → recognition_line false c mark a ≡ recognition_line false c mark b
   line_same c mark a b p = λ i.
       c.name ++ codes " at " ++ mark_text mark ++ points_same c.events a.entries b.entries p.entries i
-      ++ flat_map value_text (zip c.variables (p.values i)) ++ 10 ∷ []
+      ++ flat_map value_text (zip c.variables (p.values i)) ++ [] ++ 10 ∷ []

@@ -1,5 +1,5 @@
 -- The lines that a run writes. Each ends with a line feed, and numbers are decimal.
-use Rattle.std.specs.Prelude.{ℕ, List, [], ◌∷◌, ◌++◌, codes, decimal, flat_map, zip}
+use Rattle.std.specs.Prelude.{ℕ, Bool, false, true, List, [], ◌∷◌, ◌++◌, codes, decimal, flat_map, zip}
 use Rattle.crs_base.specs.Entry.{Entry}
 use Rattle.crs_model.specs.declared.models.ModelWord.{ModelWord}
 use Rattle.crs_model.specs.declared.models.ModelWord.TheVariants.{Form as FormWord, Twice as TwiceWord, Name as NameWord, Arity as ArityWord, Value as ValueWord, Variable as VariableWord, Point as PointWord, Bound as BoundWord, Window as WindowWord, Limit as LimitWord, Events as EventsWord, Unbound as UnboundWord, Inconsistent as InconsistentWord, Size as SizeWord}
@@ -23,10 +23,21 @@ point_text p = codes " " ++ p.0.point ++ codes "=" ++ decimal p.1.date
 abbrev pub value_text : List ℕ × List ℕ → List ℕ
 value_text p = codes " ?" ++ p.0 ++ codes "=" ++ p.1
 
--- the chronicle's name and the mark, each event's point and date in event order, each variable and its value in order
-abbrev pub recognition_line : Chronicle (List ℕ) → Mark → Assignment (List ℕ) → List ℕ
-recognition_line c mark a =
-    c.name ++ codes " at " ++ mark_text mark ++ flat_map point_text (zip c.events a.entries) ++ flat_map value_text (zip c.variables a.values) ++ 10 ∷ []
+-- ` NUMBER`: an entry's arrival number
+abbrev pub number_text : Entry (List ℕ) → List ℕ
+number_text e = codes " " ++ decimal e.arrival
+
+-- ` cites` and the arrival number of each event's entry in event order, where entries are cited
+abbrev pub cites_text : Bool → List (Entry (List ℕ)) → List ℕ
+cites_text false entries = []
+cites_text true entries = codes " cites" ++ flat_map number_text entries
+
+-- the chronicle's name and the mark, each event's point and date in event order, each variable and its value in order, and with `cite` the
+-- entries' numbers
+abbrev pub recognition_line : (cite : Bool) → Chronicle (List ℕ) → Mark → Assignment (List ℕ) → List ℕ
+recognition_line cite c mark a =
+    c.name ++ codes " at " ++ mark_text mark ++ flat_map point_text (zip c.events a.entries) ++ flat_map value_text (zip c.variables a.values)
+    ++ cites_text cite a.entries ++ 10 ∷ []
 
 -- why a line was refused
 abbrev pub fault_text : Fault → List ℕ

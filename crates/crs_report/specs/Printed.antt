@@ -1,5 +1,5 @@
 -- What is printed of a recognition, by the texts of a table.
-use Rattle.std.specs.Prelude.{◌≡◌, ◌≤◌, ◌<◌, ℕ, List, length, map, slice_get, Option, option_map, IsSomeAnd}
+use Rattle.std.specs.Prelude.{◌≡◌, ◌≤◌, ◌<◌, ℕ, Bool, List, length, map, slice_get, Option, option_map, IsSomeAnd}
 use Rattle.std.specs.List.{AllByRecursion}
 use Rattle.crs_base.specs.declared.symbols.Sym.{Sym}
 use Rattle.crs_model.specs.declared.plan.Plans.{Plans}
@@ -27,6 +27,6 @@ pub record IsPrintable (texts : List (List ℕ)) (r : Recognition) (c : Chronicl
   pub each : length r.binding ≡ length c.variables
   pub values : AreBound texts r.binding
 
--- the recognition's line
-abbrev pub line_seen : List (List ℕ) → Recognition → Chronicle Sym → List ℕ
-line_seen texts r c = recognition_line (renamed_chronicle (text_in texts) c) r.mark (renamed_assignment (text_in texts) (assignment_of r))
+-- the recognition's line, in which its entries are cited or not
+abbrev pub line_seen : (cite : Bool) → List (List ℕ) → Recognition → Chronicle Sym → List ℕ
+line_seen cite texts r c = recognition_line cite (renamed_chronicle (text_in texts) c) r.mark (renamed_assignment (text_in texts) (assignment_of r))

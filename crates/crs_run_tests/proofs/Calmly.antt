@@ -13,7 +13,7 @@ none_rose (inr r) = omega (arith, r)
 pub completes_calmly : (most : Most) (old : Told) (command : Option Command) (fault : Type 0) (status : Status)
     → CompletesCommand most old command fault status → (fault → ⊥) → CompletesCommand most old command ⊥ status
 completes_calmly most old None fault status h n = λ _. h n
-completes_calmly most old (Some (Run focus summary tally models log)) fault status h n = record {
+completes_calmly most old (Some (Run focus summary cite tally models log)) fault status h n = record {
   accepted = λ f a l _. h.accepted f a l n;
   too_long = λ f a l _. h.too_long f a l n;
   refused = λ line word k _. h.refused line word k n;

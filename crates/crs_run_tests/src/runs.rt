@@ -13,7 +13,7 @@ use std::process::Abort;
 use std::test::Fail;
 
 const USAGE: &str =
-    "usage: crs run [--focus] [--summary] [--tally KINDS] MODELS LOG\n       crs model [--minimal] MODELS\n       crs drill [--focus] SEED N\n       crs import CSV\n";
+    "usage: crs run [--focus] [--summary] [--cite] [--tally KINDS] MODELS LOG\n       crs model [--minimal] MODELS\n       crs drill [--focus] SEED N\n       crs import CSV\n";
 
 #[test]
 fn worked_logs(rt: HostRuntime) -> Result<(), Fail> {
@@ -45,6 +45,16 @@ delay 1/10 a/11 b[x]/11 b/clock 13/|line 3 arity/c at 13 t1=10 t2=11/
             Status::Refusals,
             refusals,
         )?;
+    }
+    Ok(())
+}
+
+#[test]
+fn cited_entries(rt: HostRuntime) -> Result<(), Fail> {
+    let alloc = rt.alloc();
+    let row = "10 a/12 b/clock 13/11 a/|c at 13 t1=10 t2=12 cites 0 1/line 4 late 11 13/";
+    for words in ["run --cite m l", "run --cite --focus m l"] {
+        row_ends_so(&rt, alloc, words, MODELS, 0, Status::Refusals, row)?;
     }
     Ok(())
 }

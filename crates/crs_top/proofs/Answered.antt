@@ -44,11 +44,11 @@ use Rattle.crs_top.specs.Written.{HasEntry}
 
 -- The recognitions of a mark's answer stand for assignments, with the symbols' texts: exactly those that are new, printed as the answer is,
 -- and listeners are told the same of both.
-pub record IsSeen (texts : List (List ℕ)) (plans : Plans) (mark : Mark) (k : ℕ) (cs : List (Chronicle (List ℕ))) (was now : View)
+pub record IsSeen (cite : Bool) (texts : List (List ℕ)) (plans : Plans) (mark : Mark) (k : ℕ) (cs : List (Chronicle (List ℕ))) (was now : View)
     (answer : List Recognition) : Type 0 where
   pub answers : List Answer
   pub new : AreNew k cs was now answers
-  pub lines : flat_map (line_in plans texts) answer ≡ flat_map (answer_line mark) answers
+  pub lines : flat_map (line_in cite plans texts) answer ≡ flat_map (answer_line cite mark) answers
   pub notices : map notice_of answer ≡ map notice_in answers
 
 module _ (texts : List (List ℕ)) (p : Plan) (settled came : List (Entry Sym)) where
@@ -100,15 +100,15 @@ module _ (texts : List (List ℕ)) (distinct : AreDistinct texts) where
     }
 
     -- the lines of the recognitions of the chronicle are those of the assignments
-    lines_are : (plans : Plans) (number : ℕ) (mark : Mark) (answer : List Recognition) → chronicle_at plans number ≡ Some (chronicle p) → AllByRecursion (IsRecognitionOf (chronicle p) number mark) answer
-        → flat_map (line_in plans texts) answer
-        ≡ flat_map (answer_line mark) (map (answer_of number (chronicle_in texts p)) (map (renamed_assignment (text_in texts)) (map assignment_of answer)))
-    lines_are plans number mark [] at h = refl
-    lines_are plans number mark (r ∷ answer) at h =
+    lines_are : (cite : Bool) (plans : Plans) (number : ℕ) (mark : Mark) (answer : List Recognition) → chronicle_at plans number ≡ Some (chronicle p) → AllByRecursion (IsRecognitionOf (chronicle p) number mark) answer
+        → flat_map (line_in cite plans texts) answer
+        ≡ flat_map (answer_line cite mark) (map (answer_of number (chronicle_in texts p)) (map (renamed_assignment (text_in texts)) (map assignment_of answer)))
+    lines_are cite plans number mark [] at h = refl
+    lines_are cite plans number mark (r ∷ answer) at h =
         let here : chronicle_at plans r.chronicle ≡ Some (chronicle p) = ap (chronicle_at plans) h.0.chronicle ∙ at in
-        let line : line_in plans texts r ≡ recognition_line (chronicle_in texts p) mark (renamed_assignment (text_in texts) (assignment_of r)) =
-        ap (λ o. option_map_or (line_seen texts r) o []) here ∙ ap (λ m. recognition_line (chronicle_in texts p) m (renamed_assignment (text_in texts) (assignment_of r))) h.0.mark in
-        λ i. line i ++ lines_are plans number mark answer at h.1 i
+        let line : line_in cite plans texts r ≡ recognition_line cite (chronicle_in texts p) mark (renamed_assignment (text_in texts) (assignment_of r)) =
+        ap (λ o. option_map_or (line_seen cite texts r) o []) here ∙ ap (λ m. recognition_line cite (chronicle_in texts p) m (renamed_assignment (text_in texts) (assignment_of r))) h.0.mark in
+        λ i. line i ++ lines_are cite plans number mark answer at h.1 i
 
   -- what listeners are told of recognitions is told of their assignments
   dates_are : (es : List (Rc CodeEntry Global))
@@ -192,15 +192,15 @@ module _ (texts : List (List ℕ)) (distinct : AreDistinct texts) where
         (each_printable p number l.0 proper.0 of.0 (first_at number p ps at) l.3.each (recognised_of p number l.0 l.3))
         (all_printable ps (suc number) l.1 (next_from number p ps at) proper.1 of.1 l.4))
 
-    pub answer_seen : (ps : List Plan) (number : ℕ) (answer : List Recognition) → StandFrom ps number → AllByRecursion IsProper ps → AllByRecursion (λ p. IsChronicleOf (HasText texts) (chronicle p)) ps
+    pub answer_seen : (cite : Bool) (ps : List Plan) (number : ℕ) (answer : List Recognition) → StandFrom ps number → AllByRecursion IsProper ps → AllByRecursion (λ p. IsChronicleOf (HasText texts) (chronicle p)) ps
         → ListsAllNew ps number mark scope_was scope_now answer
-        → IsSeen texts plans mark number (map (chronicle_in texts) ps) view_was view_now answer
-    answer_seen [] number answer at proper of l =
-        record { answers = []; new = refl; lines = ap (flat_map (line_in plans texts)) l; notices = ap (map notice_of) l }
-    answer_seen (p ∷ ps) number answer at proper of l =
+        → IsSeen cite texts plans mark number (map (chronicle_in texts) ps) view_was view_now answer
+    answer_seen cite [] number answer at proper of l =
+        record { answers = []; new = refl; lines = ap (flat_map (line_in cite plans texts)) l; notices = ap (map notice_of) l }
+    answer_seen cite (p ∷ ps) number answer at proper of l =
         let new = map (renamed_assignment (text_in texts)) (map assignment_of l.0) in
         let first = map (answer_of number (chronicle_in texts p)) new in
-        let rest = answer_seen ps (suc number) l.1 (next_from number p ps at) proper.1 of.1 l.4 in
+        let rest = answer_seen cite ps (suc number) l.1 (next_from number p ps at) proper.1 of.1 l.4 in
         record {
           answers = first ++ rest.answers;
           new = (
@@ -210,9 +210,9 @@ module _ (texts : List (List ℕ)) (distinct : AreDistinct texts) where
             rest.new,
             refl,
           );
-          lines = ap (flat_map (line_in plans texts)) l.2 ∙ flat_map-append (line_in plans texts) l.0 l.1
-              ∙ (λ i. lines_are p proper.0 of.0 plans number mark l.0 (first_at number p ps at) l.3.each i ++ rest.lines i)
-              ∙ sym (flat_map-append (answer_line mark) first rest.answers);
+          lines = ap (flat_map (line_in cite plans texts)) l.2 ∙ flat_map-append (line_in cite plans texts) l.0 l.1
+              ∙ (λ i. lines_are p proper.0 of.0 cite plans number mark l.0 (first_at number p ps at) l.3.each i ++ rest.lines i)
+              ∙ sym (flat_map-append (answer_line cite mark) first rest.answers);
           notices = ap (map notice_of) l.2 ∙ map-append notice_of l.0 l.1
               ∙ (λ i. notices_are p number mark l.0 l.3.each i ++ rest.notices i)
               ∙ sym (map-append notice_in first rest.answers);

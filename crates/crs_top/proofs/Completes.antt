@@ -1,5 +1,5 @@
 -- A run that meets no fault ends well.
-use Rattle.std.proofs.Common.{◌≡◌, ◌∙◌, sym, refl, subst, ap, inl, inr, ℕ, List, [], ◌∷◌, arith}
+use Rattle.std.proofs.Common.{◌≡◌, ◌∙◌, sym, refl, subst, ap, inl, inr, ℕ, Bool, List, [], ◌∷◌, arith}
 use Rattle.std.specs.List.{AllByRecursion}
 use Rattle.crs_desk.specs.Desk.{Told}
 use Rattle.crs_stn.specs.Bound.{IsConsistent}
@@ -31,36 +31,36 @@ not_faulty symbols text m line word a (inr h) =
     none_inconsistent h.0.chronicles line (subst (AllByRecursion (λ c. IsConsistent c.bounds)) (ap (λ (p : Models (List ℕ) × List (List ℕ)). p.0.chronicles) pair) a.consistent) h.4
 
 -- a text that is accepted isn't refused
-pub not_both : (symbols entries : ℕ) (text : List ℕ) (f : Frame) (line : ℕ) (word : ModelWord) → IsAccepted symbols entries text f → IsFaulty symbols text line word → ⊥
-not_both symbols entries text f line word a = not_faulty symbols text f.models line word (record { texts = f.texts; read = a.read; consistent = a.consistent })
+pub not_both : (cite : Bool) (symbols entries : ℕ) (text : List ℕ) (f : Frame) (line : ℕ) (word : ModelWord) → IsAccepted cite symbols entries text f → IsFaulty symbols text line word → ⊥
+not_both cite symbols entries text f line word a = not_faulty symbols text f.models line word (record { texts = f.texts; read = a.read; consistent = a.consistent })
 
-module _ (base now : ℕ) (tail : Tail) (most : Most) (old new : Told) (models log : List ℕ) (fault : Type 0) where
+module _ (base now : ℕ) (cite : Bool) (tail : Tail) (most : Most) (old new : Told) (models log : List ℕ) (fault : Type 0) where
   abbrev Text : List ℕ
   Text = bytes_of old models
 
-  pub completes : (status : Status) → Runs base now tail most old models log status new → (status ≡ ReadFault → fault) → (status ≡ WriteFault → fault) → Completes most old models log fault status
+  pub completes : (status : Status) → Runs base now cite tail most old models log status new → (status ≡ ReadFault → fault) → (status ≡ WriteFault → fault) → Completes cite most old models log fault status
   completes Done r rf wf = record {
     accepted = λ f a l n. inl refl;
     too_long = λ f a l n. absurd (omega (arith, r.6.outcome.1, r.6.outcome.2, l));
-    refused = λ line word h n. absurd (not_both most.symbols most.entries Text r.6.outcome.3.0 line word r.6.outcome.3.1 h);
+    refused = λ line word h n. absurd (not_both cite most.symbols most.entries Text r.6.outcome.3.0 line word r.6.outcome.3.1 h);
   }
   completes Refusals r rf wf = record {
     accepted = λ f a l n. inr (inl refl);
     too_long = λ f a l n. absurd (omega (arith, r.6.outcome.1, r.6.outcome.2, l));
-    refused = λ line word h n. absurd (not_both most.symbols most.entries Text r.6.outcome.3.0 line word r.6.outcome.3.1 h);
+    refused = λ line word h n. absurd (not_both cite most.symbols most.entries Text r.6.outcome.3.0 line word r.6.outcome.3.1 h);
   }
   completes Memory r rf wf = record { accepted = λ f a l n. inr (inr refl); too_long = λ f a l n. inr refl; refused = λ line word h n. inr refl }
   completes Words r rf wf = record { accepted = λ f a l n. absurd r.6.outcome; too_long = λ f a l n. absurd r.6.outcome; refused = λ line word h n. absurd r.6.outcome }
   completes Rejected r rf wf =
       let o = r.6.outcome.2.1 in
-      let no : (f : Frame) → IsAccepted most.symbols most.entries Text f → ⊥ = λ f a. not_both most.symbols most.entries Text f o.0 o.1 a o.2 in
+      let no : (f : Frame) → IsAccepted cite most.symbols most.entries Text f → ⊥ = λ f a. not_both cite most.symbols most.entries Text f o.0 o.1 a o.2 in
       record { accepted = λ f a l n. absurd (no f a); too_long = λ f a l n. absurd (no f a); refused = λ line word h n. inl refl }
   completes ReadFault r rf wf = record { accepted = λ f a l n. absurd (n (rf refl)); too_long = λ f a l n. absurd (n (rf refl)); refused = λ line word h n. absurd (n (rf refl)) }
   completes WriteFault r rf wf = record { accepted = λ f a l n. absurd (n (wf refl)); too_long = λ f a l n. absurd (n (wf refl)); refused = λ line word h n. absurd (n (wf refl)) }
   completes TooLong r rf wf = record {
     accepted = λ f a l n. absurd (omega (arith, r.6.log_read.within, r.6.outcome.1, l));
     too_long = λ f a l n. inl refl;
-    refused = λ line word h n. absurd (not_both most.symbols most.entries Text r.6.outcome.2.0 line word r.6.outcome.2.1 h);
+    refused = λ line word h n. absurd (not_both cite most.symbols most.entries Text r.6.outcome.2.0 line word r.6.outcome.2.1 h);
   }
 
 module _ (base now symbols : ℕ) (listing : Listing) (old new : Told) (models : List ℕ) (fault : Type 0) where

@@ -1,5 +1,5 @@
 -- Drills that end.
-use Rattle.std.proofs.Common.{◌≡◌, ◌⊎◌, ◌∙◌, sym, refl, subst, inl, inr, ℕ, ◌<◌, Bool, List, length, Ok, arith}
+use Rattle.std.proofs.Common.{◌≡◌, ◌⊎◌, ◌∙◌, sym, refl, subst, inl, inr, ℕ, ◌<◌, Bool, false, List, length, Ok, arith}
 use Rattle.crs_base.specs.Lines.{lines_of}
 use Rattle.crs_desk.specs.Desk.{Told}
 use Rattle.crs_drill.specs.Drill.{drill_text}
@@ -55,15 +55,16 @@ drill_refused focus most seed lines old new (At line word) status h r = inr (inl
 drill_refused focus most seed lines old new NoMemory status h r = inr (inr r)
 
 -- a text is accepted as the models of one frame
-pub one_frame : (symbols entries : ℕ) (text : List ℕ) (f g : Frame) → IsAccepted symbols entries text f → IsAccepted symbols entries text g → f ≡ g
-one_frame symbols entries text f g a b =
+pub one_frame : (cite : Bool) (symbols entries : ℕ) (text : List ℕ) (f g : Frame) → IsAccepted cite symbols entries text f → IsAccepted cite symbols entries text g → f ≡ g
+one_frame cite symbols entries text f g a b =
     let one : Models (List ℕ) × List (List ℕ) = (f.models, f.texts) in
     let other : Models (List ℕ) × List (List ℕ) = (g.models, g.texts) in
     let read : Ok one ≡ Ok other = sym a.read ∙ b.read in
     let pair : one ≡ other = cc in
     let s : f.symbols ≡ g.symbols = a.symbols_are ∙ sym b.symbols_are in
     let n : f.entries ≡ g.entries = a.entries_are ∙ sym b.entries_are in
-    λ i. record { models = (pair i).0; texts = (pair i).1; symbols = s i; entries = n i }
+    let c : f.cite ≡ g.cite = a.cite_is ∙ sym b.cite_is in
+    λ i. record { models = (pair i).0; texts = (pair i).1; symbols = s i; entries = n i; cite = c i }
 
 module _ (focus : Bool) (most : Most) (seed lines : ℕ) (old new : Told) (fault : Type 0) (status : Status)
     (wf : status ≡ WriteFault → fault) where
@@ -74,26 +75,26 @@ module _ (focus : Bool) (most : Most) (seed lines : ℕ) (old new : Told) (fault
   said due text (inl s) n = inl s.0
   said due text (inr s) n = elim s.0 [ inl e ↦ absurd (n (wf e)) | inr e ↦ inr e ]
 
-  completes_sum : (g : Frame) → IsAccepted most.symbols most.entries drill_models_text g → SumsUp focus g most.bytes log old status new
+  completes_sum : (g : Frame) → IsAccepted false most.symbols most.entries drill_models_text g → SumsUp focus g most.bytes log old status new
       → CompletesDrill most seed lines fault status
   completes_sum g b (inl k) = record {
     accepted = λ f a l n. said (ended_as (some_refused f log)) k.1.0
-        (subst (λ (x : Frame). Says (ended_as (some_refused x log)) old k.1.0 status new) (one_frame most.symbols most.entries drill_models_text g f b a) k.1.2) n;
+        (subst (λ (x : Frame). Says (ended_as (some_refused x log)) old k.1.0 status new) (one_frame false most.symbols most.entries drill_models_text g f b a) k.1.2) n;
     too_long = λ f a l n. absurd (omega (arith, l, k.0));
-    refused = λ line word h n. absurd (not_both most.symbols most.entries drill_models_text g line word b h);
+    refused = λ line word h n. absurd (not_both false most.symbols most.entries drill_models_text g line word b h);
   }
   completes_sum g b (inr (inl k)) = record {
     accepted = λ f a l n. absurd (omega (arith, l, k.0));
     too_long = λ f a l n. inl k.1;
-    refused = λ line word h n. absurd (not_both most.symbols most.entries drill_models_text g line word b h);
+    refused = λ line word h n. absurd (not_both false most.symbols most.entries drill_models_text g line word b h);
   }
   completes_sum g b (inr (inr w)) = record { accepted = λ f a l n. inr w.0; too_long = λ f a l n. inr w.0; refused = λ line word h n. inr w.0 }
 
   pub completes_drill : Drills focus most seed lines old status new → CompletesDrill most seed lines fault status
   completes_drill (inl h) = completes_sum h.0 h.1 h.2
   completes_drill (inr (inl h)) = record {
-    accepted = λ f a l n. absurd (not_both most.symbols most.entries drill_models_text f h.1.0 h.1.1 a h.1.2);
-    too_long = λ f a l n. absurd (not_both most.symbols most.entries drill_models_text f h.1.0 h.1.1 a h.1.2);
+    accepted = λ f a l n. absurd (not_both false most.symbols most.entries drill_models_text f h.1.0 h.1.1 a h.1.2);
+    too_long = λ f a l n. absurd (not_both false most.symbols most.entries drill_models_text f h.1.0 h.1.1 a h.1.2);
     refused = λ line word k n. said _ h.0 h.2 n;
   }
   completes_drill (inr (inr w)) = record { accepted = λ f a l n. inr w.0; too_long = λ f a l n. inr w.0; refused = λ line word h n. inr w.0 }

@@ -214,6 +214,7 @@ accepted f x s r room e due new table en a running texts limit seen known st =
       most = a.same_limit ∙ r.most;
       few = omega (arith, length-append s.accepted (entry_of_event (length s.accepted) e ∷ []));
       most_here = r.most_here;
+      cite = r.cite;
       ended = r.ended;
       peaked = subst (λ (b : Bool). IsPeaked b f.models.chronicles (view_of (with_entry s (entry_of_event (length s.accepted) e) e)) x.counts.peak)
           (sym a.same_focus)

@@ -271,7 +271,7 @@ module _ (c : Setting) (room : IsRoomy c) where
       (λ u on. made_fine n (k + 1) behind u (kind_stages unit at h) on (omega arith) (omega (arith, same)))) m
 
 -- at the limits of the program the log of any seed is read without a refusal
-pub none_refused : (f : Frame) (seed lines : ℕ) → lines ≤ 1000000 → IsAccepted (2 ^ 20) (2 ^ 32 - 1) drill_models_text f
+pub none_refused : (f : Frame) (seed lines : ℕ) → lines ≤ 1000000 → IsAccepted false (2 ^ 20) (2 ^ 32 - 1) drill_models_text f
     → some_refused f (drill_text seed lines) ≡ false
 none_refused f seed lines few a =
     let names : f.models.names ≡ drill_names = sym (ap names_in a.read) ∙ names_read in

@@ -23,7 +23,7 @@ use Rattle.crs_top.specs.declared.session.Session.{Session}
 use Rattle.crs_top.specs.Session.{Represents, Brings, BringsAll, line_in}
 use Rattle.crs_top.specs.declared.session.Counts.{Counts}
 use Rattle.crs_top.specs.Tallies.{AllLive, Counted, with_mark, with_refused}
-use Rattle.crs_top.specs.Texts.{Frame, setting_of, fault_of}
+use Rattle.crs_top.specs.Texts.{Frame, setting_of, fault_of, answer_line}
 use Rattle.crs_top.specs.Written.{Written, with_text, with_answer}
 use Rattle.crs_report.specs.Lines.{refusal_line}
 use Rattle.crs_report.specs.Listeners.{notice_of}
@@ -100,7 +100,7 @@ module _ (f : Frame) (x : Session) (s : State) (r : Represents f x s) (new : Eng
       → x.engine.horizon ≤ h
       → AfterMark x.engine new mark r.entries.settled r.entries.waiting answer
       → h ≤ end_date
-      → more ≡ with_answer out (flat_map (line_in new.plans x.symbols.texts) answer) answer
+      → more ≡ with_answer out (flat_map (line_in x.cite new.plans x.symbols.texts) answer) answer
       → Brings f x.engine.focus x.counts (record x { engine = new; ended = here; counts = counts_then }) n (view_of s)
       (record s { last = t; horizon = h; ended = there; marked = length s.accepted }, Marked mark) out more
   mark_brings mark t h here there n out more same m rises after reached written =
@@ -115,7 +115,8 @@ module _ (f : Frame) (x : Session) (s : State) (r : Represents f x s) (new : Eng
         same_focus = m.same_focus;
         answers = seen.answers;
         are_new = seen.new;
-        written = ap (λ (w : Written). w.text) written ∙ (λ i. out.text ++ seen.lines i);
+        written = ap (λ (w : Written). w.text) written ∙ (λ i. out.text ++ seen.lines i)
+            ∙ (λ i. out.text ++ flat_map (answer_line (r.cite i) mark) seen.answers);
         found = answer;
         notices = seen.notices;
         filled = answer_filled f x s r new mark answer h m.same_plans moved rises m.marked after;
@@ -128,7 +129,7 @@ module _ (f : Frame) (x : Session) (s : State) (r : Represents f x s) (new : Eng
 
   -- a clock brings its mark
   pub clock_brings : (t n : ℕ) (out more : Written) → t < 2 ^ 40 → nat_lt t x.engine.last ≡ false → HasMoved x.engine new t (t - x.engine.delay)
-      → AfterMark x.engine new (Clock t) r.entries.settled r.entries.waiting answer → more ≡ with_answer out (flat_map (line_in new.plans x.symbols.texts) answer) answer
+      → AfterMark x.engine new (Clock t) r.entries.settled r.entries.waiting answer → more ≡ with_answer out (flat_map (line_in x.cite new.plans x.symbols.texts) answer) answer
       → Brings f x.engine.focus x.counts (record x { engine = new; counts = counts_then }) n (view_of s)
       (after_ordered (setting_of f) s (items.Clock t)) out more
   clock_brings t n out more small fine m after written =
@@ -142,7 +143,7 @@ module _ (f : Frame) (x : Session) (s : State) (r : Represents f x s) (new : Eng
 
   -- an end brings its mark
   pub end_brings : (n : ℕ) (out more : Written) → HasMoved x.engine new (2 ^ 42) (2 ^ 42)
-      → AfterMark x.engine new Finish r.entries.settled r.entries.waiting answer → more ≡ with_answer out (flat_map (line_in new.plans x.symbols.texts) answer) answer
+      → AfterMark x.engine new Finish r.entries.settled r.entries.waiting answer → more ≡ with_answer out (flat_map (line_in x.cite new.plans x.symbols.texts) answer) answer
       → Brings f x.engine.focus x.counts (record x { engine = new; ended = true; counts = counts_then }) n (view_of s)
       (after_ordered (setting_of f) s items.Finish) out more
   end_brings n out more m after written =

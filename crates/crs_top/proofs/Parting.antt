@@ -35,12 +35,12 @@ view k h xs = record { settled = dated_before h xs; arrived = in_key_order (arri
 
 -- the lines of a mark's answers
 abbrev pub IsMarkText : List (Chronicle (List ℕ)) → Mark → View → View → List ℕ → Type 0
-IsMarkText cs mark was now text = (answers : List Answer) × AreNew 0 cs was now answers × (text ≡ flat_map (answer_line mark) answers)
+IsMarkText cs mark was now text = (answers : List Answer) × AreNew 0 cs was now answers × (text ≡ flat_map (answer_line false mark) answers)
 
 -- what is written for a line that is met in the state s and leaves `after`
 abbrev IsLineText : List (Chronicle (List ℕ)) → ℕ → State → State × Outcome → List ℕ → Type 0
 IsLineText cs n s after text =
-    (answers : List Answer) × AreAnswers cs (view_of s) (view_of after.0) after.1 answers × (text ≡ line_text n after.1 answers)
+    (answers : List Answer) × AreAnswers cs (view_of s) (view_of after.0) after.1 answers × (text ≡ line_text false n after.1 answers)
 
 abbrev pub taken : Verdict → ℕ → ℕ
 taken Other n = 0
@@ -197,19 +197,19 @@ module _ (c : Setting) (cs : List (Chronicle (List ℕ))) where
       unless n s items (Is item) s.ended s run.Order (after_ordered c s item) (steps_ordered n s items item k)
 
   effect_text : (s next : State) (g : Given) (e : Effect) → IsEffect c cs s g e next
-      → IsLineText cs e.number s (after_line c s g) (line_text e.number e.outcome e.answers)
+      → IsLineText cs e.number s (after_line c s g) (line_text false e.number e.outcome e.answers)
   effect_text s next g e h =
       let answers : AreAnswers cs (view_of s) (view_of next) e.outcome e.answers =
       subst (λ (v : View). AreAnswers cs v (view_of next) e.outcome e.answers) h.was
       (subst (λ (v : View). AreAnswers cs e.was v e.outcome e.answers) h.now h.answers) in
-      subst (λ (a : State × Outcome). IsLineText cs e.number s a (line_text e.number e.outcome e.answers)) (sym h.becomes)
+      subst (λ (a : State × Outcome). IsLineText cs e.number s a (line_text false e.number e.outcome e.answers)) (sym h.becomes)
       (e.answers, answers, refl)
 
   -- what is written for lines of which none is refused is written for their parts
   pub parted_text : (n : ℕ) (s : State) (ls : List Line) (es : List Effect) (last : State)
       → list_any is_refused (outcomes c s (given_lines line_limit n ls)) ≡ false
       → IsTrace c cs s (given_lines line_limit n ls) es last
-      → IsPartsText (parts_of s.delay (items_of ls)) s.horizon s.marked s.accepted (text_of es)
+      → IsPartsText (parts_of s.delay (items_of ls)) s.horizon s.marked s.accepted (text_of false es)
   parted_text n s [] [] last r t = refl
   parted_text n s [] (e ∷ es) last r t = absurd t
   parted_text n s (l ∷ ls) [] last r t = absurd t
@@ -224,4 +224,4 @@ module _ (c : Setting) (cs : List (Chronicle (List ℕ))) where
       subst (Steps e.number s (items_of ls) (what_of (bytes_of l))) (sym (given_line_law c s (n + 1) l))
       (unless e.number s (items_of ls) (what_of (bytes_of l)) (is_long l) s run.TooLong (after_what c s (what_of (bytes_of l)))
       (steps_what e.number s (items_of ls) (what_of (bytes_of l)) (line_read (bytes_of l)))) in
-      steps fine.0 (line_text e.number e.outcome e.answers) (text_of es) (text_of (e ∷ es)) (effect_text s t.0 g e t.1) rest refl
+      steps fine.0 (line_text false e.number e.outcome e.answers) (text_of false es) (text_of false (e ∷ es)) (effect_text s t.0 g e t.1) rest refl

@@ -1,5 +1,5 @@
 -- What a text that is accepted prepares.
-use Rattle.std.proofs.Common.{◌≡◌, ◌∙◌, ap, sym, refl, subst, inl, inr, ℕ, ◌≤◌, List, [], ◌∷◌, map, length, Ok, arith, false}
+use Rattle.std.proofs.Common.{◌≡◌, ◌∙◌, ap, sym, refl, subst, inl, inr, ℕ, ◌≤◌, Bool, List, [], ◌∷◌, map, length, Ok, arith, false}
 use Rattle.std.specs.List.{AllByRecursion}
 use Rattle.std.specs.declared.rc.Rc.{Rc}
 use Rattle.std.proofs.Common.{Global}
@@ -78,11 +78,11 @@ by_value F [] h = tt
 by_value F (r ∷ rs) h = (h.0, by_value F rs h.1)
 
 -- the models of a text, as they were read and compiled
-module _ (symbols entries : ℕ) (text : List ℕ) (m : CodeModels) (table : Table) (plans : Plans)
+module _ (cite : Bool) (symbols entries : ℕ) (text : List ℕ) (m : CodeModels) (table : Table) (plans : Plans)
     (is : AreReadIn symbols text m table)
     (names : plans.names ≡ m.names) (chronicles : chronicles_in plans.plans ≡ m.chronicles) (made : AllByRecursion IsProper (plans_of plans)) where
   abbrev pub frame : Frame
-  frame = record { models = renamed_models (text_in table.texts) (models_of m); texts = table.texts; symbols = symbols; entries = entries }
+  frame = record { models = renamed_models (text_in table.texts) (models_of m); texts = table.texts; symbols = symbols; entries = entries; cite = cite }
 
   chronicles_are : frame.models.chronicles ≡ map (chronicle_in table.texts) (plans_of plans)
   chronicles_are = ap (λ (cs : List CodeChronicle). map (renamed_chronicle (text_in table.texts)) (map chronicle_of cs)) (sym chronicles) ∙ sym (chronicles_by table.texts (plans_of plans))
@@ -90,12 +90,13 @@ module _ (symbols entries : ℕ) (text : List ℕ) (m : CodeModels) (table : Tab
   consistent : AllByRecursion (λ c. IsConsistent c.bounds) frame.models.chronicles
   consistent = consistent_models table.texts m plans.plans chronicles made
 
-  pub accepted : IsAccepted symbols entries text frame
+  pub accepted : IsAccepted cite symbols entries text frame
   accepted = record {
     read = is.read;
     consistent = consistent;
     symbols_are = refl;
     entries_are = refl;
+    cite_is = refl;
   }
 
   has_models : HasModels frame plans table
@@ -128,7 +129,7 @@ module _ (symbols entries : ℕ) (text : List ℕ) (m : CodeModels) (table : Tab
   -- the session at the start
   pub represented : (e : EngineState) (peak : ℕ) → peak ≡ kept_of e → e.plans ≡ plans → e.delay ≡ 0 → e.last ≡ 0 → e.horizon ≡ 0
       → e.accepted ≡ 0 → e.marked ≡ 0 → e.limit ≡ entries → e.stopped ≡ false → StandsFor e [] []
-      → Represents frame (record { engine = e; symbols = table; entries = entries; ended = false; counts = record { refused = 0; recognitions = 0; peak = peak } }) (at_start table.texts)
+      → Represents frame (record { engine = e; symbols = table; entries = entries; cite = cite; ended = false; counts = record { refused = 0; recognitions = 0; peak = peak } }) (at_start table.texts)
   represented e peak is_kept p delay last horizon count at_none most running stands = record {
     models = has_models_by e p;
     entries = no_entries e stands;
@@ -143,6 +144,7 @@ module _ (symbols entries : ℕ) (text : List ℕ) (m : CodeModels) (table : Tab
     most = most;
     few = omega arith;
     most_here = refl;
+    cite = refl;
     ended = refl;
     peaked = (
       held_by e,

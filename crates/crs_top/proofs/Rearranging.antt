@@ -28,7 +28,7 @@ use Rattle.crs_top.proofs.Parting.{view, IsMarkText, weight, Follow, IsMarkedTex
 
 lines_same : (T : LogEntry → LogEntry → Type 0) → Twins T → (k : ℕ) (c : Chronicle (List ℕ)) (mark : Mark) (xs ys : List (Assignment (List ℕ)))
     → AllZip (Paired T) xs ys
-    → flat_map (answer_line mark) (map (answer_of k c) xs) ≡ flat_map (answer_line mark) (map (answer_of k c) ys)
+    → flat_map (answer_line false mark) (map (answer_of k c) xs) ≡ flat_map (answer_line false mark) (map (answer_of k c) ys)
 lines_same T t k c mark [] [] z = refl
 lines_same T t k c mark [] (y ∷ ys) z = absurd z
 lines_same T t k c mark (x ∷ xs) [] z = absurd z
@@ -50,17 +50,17 @@ one_mark : (T : LogEntry → LogEntry → Type 0) → Twins T → (xs ys : List 
     → ((h : ℕ) → AllZip T (dated_before h xs) (dated_before h ys))
     → (k l m n : ℕ) → AllZip T (in_key_order (arrived k xs)) (in_key_order (arrived l ys)) → AllZip T (in_key_order (arrived m xs)) (in_key_order (arrived n ys))
     → (number : ℕ) (cs : List (Chronicle (List ℕ))) (mark : Mark) (g h : ℕ) (a b : List Answer) → AreNew number cs (view k g xs) (view m h xs) a
-    → AreNew number cs (view l g ys) (view n h ys) b → flat_map (answer_line mark) a ≡ flat_map (answer_line mark) b
-one_mark T t xs ys z k l m n had came number [] mark g h a b p q = ap (flat_map (answer_line mark)) (p ∙ sym q)
+    → AreNew number cs (view l g ys) (view n h ys) b → flat_map (answer_line false mark) a ≡ flat_map (answer_line false mark) b
+one_mark T t xs ys z k l m n had came number [] mark g h a b p q = ap (flat_map (answer_line false mark)) (p ∙ sym q)
 one_mark T t xs ys z k l m n had came number (c ∷ cs) mark g h a b p q =
     let new =
     new_paired T t (reads c k m g h xs) (reads c l n g h ys)
     (record { was_pool = pool_paired T c (dated_before g xs) (in_key_order (arrived k xs)) (dated_before g ys) (in_key_order (arrived l ys)) (z g) had; was = z g; pool = pool_paired T c (dated_before h xs) (in_key_order (arrived m xs)) (dated_before h ys) (in_key_order (arrived n ys)) (z h) came; now = z h })
     c g h p.0 q.0 p.2 q.2 in
     let rest = one_mark T t xs ys z k l m n had came (suc number) cs mark g h p.1 q.1 p.3 q.3 in
-    ap (flat_map (answer_line mark)) p.4 ∙ flat_map-append (answer_line mark) (map (answer_of number c) p.0) p.1
+    ap (flat_map (answer_line false mark)) p.4 ∙ flat_map-append (answer_line false mark) (map (answer_of number c) p.0) p.1
     ∙ (λ i. lines_same T t number c mark p.0 q.0 new i ++ rest i)
-    ∙ sym (ap (flat_map (answer_line mark)) q.4 ∙ flat_map-append (answer_line mark) (map (answer_of number c) q.0) q.1)
+    ∙ sym (ap (flat_map (answer_line false mark)) q.4 ∙ flat_map-append (answer_line false mark) (map (answer_of number c) q.0) q.1)
 
 module _ (c : Setting) (cs : List (Chronicle (List ℕ))) where
   -- the accepted entries of two runs that say all as often
@@ -157,12 +157,12 @@ module _ (c : Setting) (cs : List (Chronicle (List ℕ))) where
       (λ h k l e a b u v. one_text ps qs z.1 h k l p.0 q.0 n e a b u v) a b p.2 other
 
 pub rearranged_logs_have_one_text : RearrangedLogsHaveOneText
-rearranged_logs_have_one_text f xs ys a b r s z p q =
+rearranged_logs_have_one_text f xs ys a b plain r s z p q =
     let c : Setting = setting_of f in
     let cs : List (Chronicle (List ℕ)) = f.models.chronicles in
     let start : Match c cs [] [] = record { left = none_accepted; right = none_accepted; ties = λ z. refl } in
-    let same : text_of p.0 ≡ text_of q.0 =
+    let same : text_of false p.0 ≡ text_of false q.0 =
     one_text c cs (parts_of 0 (items_of xs)) (parts_of 0 (items_of ys)) z 0 0 0 [] [] start (record { left = omega arith; right = omega arith; early = λ z. refl })
-    (text_of p.0) (text_of q.0)
+    (text_of false p.0) (text_of false q.0)
     (parted_text c cs 0 (at_start f.texts) xs p.0 p.1 r p.2) (parted_text c cs 0 (at_start f.texts) ys q.0 q.1 s q.2) in
-    p.3 ∙ same ∙ sym q.3
+    p.3 ∙ ap (λ (cite : Bool). text_of cite p.0) plain ∙ same ∙ sym (q.3 ∙ ap (λ (cite : Bool). text_of cite q.0) plain)

@@ -44,6 +44,7 @@ frame = record {
   texts = codes "a" ∷ codes "b" ∷ codes "c" ∷ codes "t1" ∷ codes "t2" ∷ [];
   symbols = 100;
   entries = 100;
+  cite = false;
 }
 
 abbrev lf : List ℕ

@@ -1,5 +1,5 @@
 -- The whole of a run, by its parts.
-use Rattle.std.proofs.Common.{◌≡◌, ◌∙◌, ap, sym, refl, inl, inr, ℕ, ◌+◌, ◌<◌, ◌≤◌, ◌^◌, List, [], ◌∷◌, ◌++◌, length, arith, append-nil, append_assoc, add-one}
+use Rattle.std.proofs.Common.{◌≡◌, ◌∙◌, ap, sym, refl, inl, inr, ℕ, ◌+◌, ◌<◌, ◌≤◌, ◌^◌, Bool, List, [], ◌∷◌, ◌++◌, length, arith, append-nil, append_assoc, add-one}
 use Rattle.std.specs.Option.{unwrap_or}
 use Rattle.std.proofs.lemmas.List.{take-append-le}
 use Rattle.crs_desk.specs.Desk.{Told, Stream, file_of}
@@ -16,14 +16,14 @@ use Rattle.crs_top.specs.Texts.{Frame}
 use Rattle.crs_top.proofs.Loads.{nothing_read_of}
 
 -- a run that ended with the models printed nothing
-ended_outcome : (tail : Tail) (most : Most) (models log : List ℕ) (n i k : ℕ) (old : List ℕ) (status : Status) (new : List ℕ) → n ≤ 1 → LoadOutcome (2 ^ 20) (λ text. ⊥) (IsModelLine (IsFaulty most.symbols models)) models n k old status new
-    → Outcome tail most models log n i k 0 old status new
-ended_outcome tail most models log n i k old Done new le h = absurd h.2.1
-ended_outcome tail most models log n i k old Refusals new le h = absurd h
-ended_outcome tail most models log n i k old Words new le h = absurd h
-ended_outcome tail most models log n i k old Rejected new le h = h
-ended_outcome tail most models log n i k old ReadFault new le h = inl (omega (arith, le), h)
-ended_outcome tail most models log n i k old WriteFault new le h = inr (
+ended_outcome : (cite : Bool) (tail : Tail) (most : Most) (models log : List ℕ) (n i k : ℕ) (old : List ℕ) (status : Status) (new : List ℕ) → n ≤ 1 → LoadOutcome (2 ^ 20) (λ text. ⊥) (IsModelLine (IsFaulty most.symbols models)) models n k old status new
+    → Outcome cite tail most models log n i k 0 old status new
+ended_outcome cite tail most models log n i k old Done new le h = absurd h.2.1
+ended_outcome cite tail most models log n i k old Refusals new le h = absurd h
+ended_outcome cite tail most models log n i k old Words new le h = absurd h
+ended_outcome cite tail most models log n i k old Rejected new le h = h
+ended_outcome cite tail most models log n i k old ReadFault new le h = inl (omega (arith, le), h)
+ended_outcome cite tail most models log n i k old WriteFault new le h = inr (
   h.0,
   h.1,
   elim h.2 [
@@ -31,8 +31,8 @@ ended_outcome tail most models log n i k old WriteFault new le h = inr (
     | inr r ↦ r
   ],
 )
-ended_outcome tail most models log n i k old Memory new le (inl e) = inl e
-ended_outcome tail most models log n i k old Memory new le (inr h) = inr (inr (
+ended_outcome cite tail most models log n i k old Memory new le (inl e) = inl e
+ended_outcome cite tail most models log n i k old Memory new le (inr h) = inr (inr (
   h.0,
   h.1,
   elim h.2 [
@@ -40,11 +40,11 @@ ended_outcome tail most models log n i k old Memory new le (inr h) = inr (inr (
     | inr r ↦ r
   ],
 ))
-ended_outcome tail most models log n i k old TooLong new le h = absurd h
+ended_outcome cite tail most models log n i k old TooLong new le h = absurd h
 
-pub run_ended : (base now : ℕ) (tail : Tail) (most : Most) (old new : Told) (models log : List ℕ) (status : Status) → EndsWithInput base now (2 ^ 20) (λ text. ⊥) (IsModelLine (IsFaulty most.symbols (bytes_of old models))) old models status new
-    → Runs base now tail most old models log status new
-run_ended base now tail most old new models log status h =
+pub run_ended : (base now : ℕ) (cite : Bool) (tail : Tail) (most : Most) (old new : Told) (models log : List ℕ) (status : Status) → EndsWithInput base now (2 ^ 20) (λ text. ⊥) (IsModelLine (IsFaulty most.symbols (bytes_of old models))) old models status new
+    → Runs base now cite tail most old models log status new
+run_ended base now cite tail most old new models log status h =
     let d = h.4.did in (
       h.0,
       h.1,
@@ -67,31 +67,31 @@ run_ended base now tail most old new models log status h =
         log_read = nothing_read_of (base + 1) most.bytes (h.1 < 2) (bytes_of old log);
         failed = h.4.failed;
         prompt = λ e. absurd (omega (arith, e, d.few));
-        outcome = ended_outcome tail most (bytes_of old models) (bytes_of old log) h.0 h.1 h.2 old.written status new.written (omega (arith, d.few)) h.4.outcome;
+        outcome = ended_outcome cite tail most (bytes_of old models) (bytes_of old log) h.0 h.1 h.2 old.written status new.written (omega (arith, d.few)) h.4.outcome;
       },
     )
 
-read_outcome : (tail : Tail) (most : Most) (f : Frame) (models log : List ℕ) (n i k t : ℕ) (old new : List ℕ) (status : Status) → n ≡ 2 → IsAccepted most.symbols most.entries models f → k ≡ length models
-    → LogOutcome tail f log most.bytes t old status new → Outcome tail most models log n i k t old status new
-read_outcome tail most f models log n i k t old new Done two a e o = (two, o.0, o.1, (f, a, e, (o.2, o.3)))
-read_outcome tail most f models log n i k t old new Refusals two a e o = (two, o.0, o.1, (f, a, e, (o.2, o.3)))
-read_outcome tail most f models log n i k t old new Words two a e o = absurd o
-read_outcome tail most f models log n i k t old new Rejected two a e o = absurd o
-read_outcome tail most f models log n i k t old new ReadFault two a e o = inr (two, (λ _. o.0), (f, a, e, o.1))
-read_outcome tail most f models log n i k t old new TooLong two a e o = (two, o.0, (f, a, e, o.1))
-read_outcome tail most f models log n i k t old new WriteFault two a e o = inl (two, (f, a, e, o))
-read_outcome tail most f models log n i k t old new Memory two a e o = inr (inl (two, (f, a, e, o)))
+read_outcome : (cite : Bool) (tail : Tail) (most : Most) (f : Frame) (models log : List ℕ) (n i k t : ℕ) (old new : List ℕ) (status : Status) → n ≡ 2 → IsAccepted cite most.symbols most.entries models f → k ≡ length models
+    → LogOutcome tail f log most.bytes t old status new → Outcome cite tail most models log n i k t old status new
+read_outcome cite tail most f models log n i k t old new Done two a e o = (two, o.0, o.1, (f, a, e, (o.2, o.3)))
+read_outcome cite tail most f models log n i k t old new Refusals two a e o = (two, o.0, o.1, (f, a, e, (o.2, o.3)))
+read_outcome cite tail most f models log n i k t old new Words two a e o = absurd o
+read_outcome cite tail most f models log n i k t old new Rejected two a e o = absurd o
+read_outcome cite tail most f models log n i k t old new ReadFault two a e o = inr (two, (λ _. o.0), (f, a, e, o.1))
+read_outcome cite tail most f models log n i k t old new TooLong two a e o = (two, o.0, (f, a, e, o.1))
+read_outcome cite tail most f models log n i k t old new WriteFault two a e o = inl (two, (f, a, e, o))
+read_outcome cite tail most f models log n i k t old new Memory two a e o = inr (inl (two, (f, a, e, o)))
 
-followed_outcome : (tail : Tail) (most : Most) (f : Frame) (models log : List ℕ) (n i k t : ℕ) (old new : List ℕ) (status : Status) → IsAccepted most.symbols most.entries models f → k ≡ length models
-    → FollowOutcome tail f log most.bytes n i t old status new → Outcome tail most models log (n + 1) (i + 1) k t old status new
-followed_outcome tail most f models log n i k t old new status a e (inl o) = read_outcome tail most f models log (n + 1) (i + 1) k t old new status (omega (arith, o.0)) a e o.2
-followed_outcome tail most f models log n i k t old new status a e (inr (inl o)) =
+followed_outcome : (cite : Bool) (tail : Tail) (most : Most) (f : Frame) (models log : List ℕ) (n i k t : ℕ) (old new : List ℕ) (status : Status) → IsAccepted cite most.symbols most.entries models f → k ≡ length models
+    → FollowOutcome tail f log most.bytes n i t old status new → Outcome cite tail most models log (n + 1) (i + 1) k t old status new
+followed_outcome cite tail most f models log n i k t old new status a e (inl o) = read_outcome cite tail most f models log (n + 1) (i + 1) k t old new status (omega (arith, o.0)) a e o.2
+followed_outcome cite tail most f models log n i k t old new status a e (inr (inl o)) =
     rw (o.3) (inr (omega (arith, o.0), (λ h. absurd (omega (arith, o.1, h))), (f, a, e, ([], rw (o.2) ([], at_start f.texts, refl, refl), o.4 ∙ sym (append-nil old)))))
-followed_outcome tail most f models log n i k t old new status a e (inr (inr o)) = rw (o.1) (inl o.2)
+followed_outcome cite tail most f models log n i k t old new status a e (inr (inr o)) = rw (o.1) (inl o.2)
 
-pub run_followed : (base now mid_count : ℕ) (tail : Tail) (most : Most) (f : Frame) (old mid new : Told) (models log : List ℕ) (k n i t : ℕ) (more turns : List Turn) (status : Status) → Loaded base mid_count (2 ^ 20) old models 1 1 k more mid
-    → k ≡ length (bytes_of old models) → IsAccepted most.symbols most.entries (bytes_of old models) f → Followed mid_count now tail f most.bytes mid log n i t turns status new → Runs base now tail most old models log status new
-run_followed base now mid_count tail most f old mid new models log k n i t more turns status l e a h =
+pub run_followed : (base now mid_count : ℕ) (cite : Bool) (tail : Tail) (most : Most) (f : Frame) (old mid new : Told) (models log : List ℕ) (k n i t : ℕ) (more turns : List Turn) (status : Status) → Loaded base mid_count (2 ^ 20) old models 1 1 k more mid
+    → k ≡ length (bytes_of old models) → IsAccepted cite most.symbols most.entries (bytes_of old models) f → Followed mid_count now tail f most.bytes mid log n i t turns status new → Runs base now cite tail most old models log status new
+run_followed base now mid_count cite tail most f old mid new models log k n i t more turns status l e a h =
     let o = l.did in
     let d = h.did in
     let same : bytes_of mid log ≡ bytes_of old log = ap (λ (x : List (List ℕ × List ℕ)). unwrap_or (file_of x log) []) o.files in
@@ -117,6 +117,6 @@ run_followed base now mid_count tail most f old mid new models log k n i t more 
         log_read = record { unread = λ z. r.unread (omega (arith, z)); within = r.within; most = r.most; rises = r.rises; rooms = r.rooms };
         failed = λ z. h.failed (omega (arith, z));
         prompt = λ _. (f, a, e, rw (same, l.written) at h.prompt);
-        outcome = followed_outcome tail most f (bytes_of old models) (bytes_of old log) n i k t old.written new.written status a e (rw (same, l.written) at h.outcome);
+        outcome = followed_outcome cite tail most f (bytes_of old models) (bytes_of old log) n i k t old.written new.written status a e (rw (same, l.written) at h.outcome);
       },
     )

@@ -53,6 +53,7 @@ noted f x s r = record {
   most = r.most;
   few = r.few;
   most_here = r.most_here;
+  cite = r.cite;
   ended = r.ended;
   peaked = r.peaked;
 }
@@ -84,6 +85,7 @@ delayed f x s d r = record {
   most = r.most;
   few = r.few;
   most_here = r.most_here;
+  cite = r.cite;
   ended = r.ended;
   peaked = r.peaked;
 }
@@ -237,10 +239,10 @@ module _ (f : Frame) (x : Session) (s : State) (r : Represents f x s) (new : Eng
       subst (λ (v : View). P f.models.chronicles (view_of s) v) then b
 
   -- its recognitions stand for what is new
-  pub mark_seen : IsSeen x.symbols.texts new.plans mark 0 f.models.chronicles (view_of s) view_then answer
-  mark_seen = subst (λ (p : Plans). IsSeen x.symbols.texts p mark 0 f.models.chronicles (view_of s) view_then answer) (sym kept)
-      (with_views (λ cs was then. IsSeen x.symbols.texts x.engine.plans mark 0 cs was then answer)
-      (answer_seen x.symbols.texts r.models.distinct x.engine.plans mark r.entries.settled had now came x.engine.horizon new.horizon known_now known_was known_came known_had
+  pub mark_seen : IsSeen x.cite x.symbols.texts new.plans mark 0 f.models.chronicles (view_of s) view_then answer
+  mark_seen = subst (λ (p : Plans). IsSeen x.cite x.symbols.texts p mark 0 f.models.chronicles (view_of s) view_then answer) (sym kept)
+      (with_views (λ cs was then. IsSeen x.cite x.symbols.texts x.engine.plans mark 0 cs was then answer)
+      (answer_seen x.symbols.texts r.models.distinct x.engine.plans mark r.entries.settled had now came x.engine.horizon new.horizon known_now known_was known_came known_had x.cite
       (plans_of x.engine.plans) 0 answer (stand_from x.engine.plans) r.models.proper r.models.chronicles_in after.answers))
 
   pub answer_filled : AllByRecursion HasEntry answer
@@ -271,6 +273,7 @@ module _ (f : Frame) (x : Session) (s : State) (r : Represents f x s) (new : Eng
     most = m.same_limit ∙ r.most;
     few = r.few;
     most_here = r.most_here;
+    cite = r.cite;
     ended = same;
     peaked = peaked;
   }

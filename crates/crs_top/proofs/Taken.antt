@@ -74,8 +74,8 @@ live_append R [] ws (x ∷ xs) ys a b = absurd a
 live_append R (v ∷ vs) ws [] ys a b = absurd a
 live_append R (v ∷ vs) ws (x ∷ xs) ys a b = (a.0, live_append R vs ws xs ys a.1 b)
 
-text_append : (es ds : List Effect) → text_of (es ++ ds) ≡ text_of es ++ text_of ds
-text_append es ds = flat_map-append (λ (e : Effect). line_text e.number e.outcome e.answers) es ds
+text_append : (cite : Bool) (es ds : List Effect) → text_of cite (es ++ ds) ≡ text_of cite es ++ text_of cite ds
+text_append cite es ds = flat_map-append (λ (e : Effect). line_text cite e.number e.outcome e.answers) es ds
 
 notices_append : (es ds : List Effect) → notices_of (es ++ ds) ≡ notices_of es ++ notices_of ds
 notices_append es ds = ap (map notice_in) (flat_map-append (λ (e : Effect). e.answers) es ds) ∙ map-append notice_in (answers_in es) (answers_in ds)
@@ -111,7 +111,7 @@ takes_one f x new s g out more r brings =
           (record { number = refl; becomes = refl; was = refl; now = refl; answers = b.are_new });
       state = b.state;
       same_focus = b.same_focus;
-      written = b.written ∙ ap (λ (t : List ℕ). out.text ++ t) (sym (append-nil (line_text (number_of g) after.1 b.answers)));
+      written = b.written ∙ ap (λ (t : List ℕ). out.text ++ t) (sym (append-nil (line_text f.cite (number_of g) after.1 b.answers)));
       found = b.found;
       notices = b.notices ∙ ap (map notice_in) (sym (append-nil b.answers));
       filled = b.filled;
@@ -130,8 +130,8 @@ takes_both f focus start x new s xs ys out mid more t u = record {
   trace = walk_append (IsEffect (setting_of f) f.models.chronicles) s t.last u.last xs ys t.effects u.effects t.trace u.trace;
   state = u.state;
   same_focus = u.same_focus ∙ t.same_focus;
-  written = u.written ∙ ap (λ (w : List ℕ). w ++ text_of u.effects) t.written ∙ append_assoc out.text (text_of t.effects) (text_of u.effects)
-      ∙ ap (λ (w : List ℕ). out.text ++ w) (sym (text_append t.effects u.effects));
+  written = u.written ∙ ap (λ (w : List ℕ). w ++ text_of f.cite u.effects) t.written ∙ append_assoc out.text (text_of f.cite t.effects) (text_of f.cite u.effects)
+      ∙ ap (λ (w : List ℕ). out.text ++ w) (sym (text_append f.cite t.effects u.effects));
   found = t.found ++ u.found;
   notices = map-append notice_of t.found u.found ∙ (λ i. t.notices i ++ u.notices i) ∙ sym (notices_append t.effects u.effects);
   filled = all_append HasEntry t.found u.found t.filled u.filled;

@@ -64,7 +64,7 @@ unrefused base now members old new words status d = by (command_of words) refl d
   where
     by : (o : Option Command) → command_of words ≡ o → Does base now standard members old o status new → IsUnrefused old o status new
     by None e d = tt
-    by (Some (Run focus summary tally models log)) e d = tt
+    by (Some (Run focus summary cite tally models log)) e d = tt
     by (Some (Print listing models)) e d = tt
     by (Some (Drill focus seed lines)) e d = let b = drill_bounds words focus seed lines e in drill_clean focus seed lines old new status b.few d.0
     by (Some (Import table)) e d = tt

@@ -36,8 +36,8 @@ none_loaded base limit old name = record {
 pub wants : (base : ℕ) (most : Most) (members : List Member) (old : Told) (command : Option Command) → Does base base most members old command Memory old
 wants base most members old None =
     (inr (inr refl, (0, record { files = refl; opened = refl; left = refl; turns = refl; within = omega arith; written = sym (append-nil old.written) })), refl)
-wants base most members old (Some (Run focus summary tally models log)) =
-    run_ended base base (tail_of focus summary (keep_members (kinds_of tally) members)) most old old models log Memory
+wants base most members old (Some (Run focus summary cite tally models log)) =
+    run_ended base base cite (tail_of focus summary (keep_members (kinds_of tally) members)) most old old models log Memory
     (ends_wanting base base (2 ^ 20) (λ text. ⊥) (IsModelLine (IsFaulty most.symbols (bytes_of old models))) old models
     0 0 0 [] old (none_loaded base (2 ^ 20) old models) (omega arith))
 wants base most members old (Some (Drill focus seed lines)) = (inr (inr (refl, refl)), refl)

@@ -17,8 +17,8 @@ use Rattle.crs_top.specs.Drills.{Drills, CompletesDrill, RefusesNothing}
 -- writes the usage text and nothing else
 abbrev pub Does : ℕ → ℕ → Most → List Member → Told → Option Command → Status → Told → Type 0
 Does base now most members old None status new = Says Words old usage_text status new × (now ≡ base)
-Does base now most members old (Some (Run focus summary tally models log)) status new =
-    Runs base now (tail_of focus summary (keep_members (kinds_of tally) members)) most old models log status new
+Does base now most members old (Some (Run focus summary cite tally models log)) status new =
+    Runs base now cite (tail_of focus summary (keep_members (kinds_of tally) members)) most old models log status new
 Does base now most members old (Some (Print listing models)) status new = Prints base now most.symbols listing old models status new
 Does base now most members old (Some (Drill focus seed lines)) status new = Drills focus most seed lines old status new × (now ≡ base)
 Does base now most members old (Some (Import table)) status new = Imports base now old table status new
@@ -26,7 +26,7 @@ Does base now most members old (Some (Import table)) status new = Imports base n
 -- without a fault of the outside it ends as its input says, unless memory is wanting
 abbrev pub CompletesCommand : Most → Told → Option Command → Type 0 → Status → Type 0
 CompletesCommand most old None fault status = (fault → ⊥) → (status ≡ Words) ⊎ (status ≡ Memory)
-CompletesCommand most old (Some (Run focus summary tally models log)) fault status = Completes most old models log fault status
+CompletesCommand most old (Some (Run focus summary cite tally models log)) fault status = Completes cite most old models log fault status
 CompletesCommand most old (Some (Print listing models)) fault status = CompletesPrint most.symbols old models fault status
 CompletesCommand most old (Some (Drill focus seed lines)) fault status = CompletesDrill most seed lines fault status
 CompletesCommand most old (Some (Import table)) fault status = CompletesImport old table fault status
@@ -34,7 +34,7 @@ CompletesCommand most old (Some (Import table)) fault status = CompletesImport o
 -- of a drill no line is refused, at the limits of the program
 abbrev pub IsUnrefused : Told → Option Command → Status → Told → Type 0
 IsUnrefused old None status new = Unit {0}
-IsUnrefused old (Some (Run focus summary tally models log)) status new = Unit {0}
+IsUnrefused old (Some (Run focus summary cite tally models log)) status new = Unit {0}
 IsUnrefused old (Some (Print listing models)) status new = Unit {0}
 IsUnrefused old (Some (Drill focus seed lines)) status new = RefusesNothing old status new
 IsUnrefused old (Some (Import table)) status new = Unit {0}

@@ -1,5 +1,5 @@
 -- What a drill does to a desk that tells its contents: it runs the models of drills over a made log, and writes the summary line alone.
-use Rattle.std.specs.Prelude.{◌≡◌, ◌⊎◌, ℕ, ◌<◌, ◌≤◌, Bool, List, length}
+use Rattle.std.specs.Prelude.{◌≡◌, ◌⊎◌, ℕ, ◌<◌, ◌≤◌, Bool, false, List, length}
 use Rattle.crs_desk.specs.Desk.{Told}
 use Rattle.crs_drill.specs.Drill.{drill_text}
 use Rattle.crs_drill.specs.DrillModels.{drill_models_text}
@@ -34,17 +34,17 @@ SumsUp focus f limit log old status new =
 -- the models of drills are accepted, and the log is summed up, with the levels of events read or not; or their refusal is written
 abbrev pub Drills : Bool → Most → ℕ → ℕ → Told → Status → Told → Type 0
 Drills focus most seed lines old status new =
-    ((f : Frame) × IsAccepted most.symbols most.entries drill_models_text f
+    ((f : Frame) × IsAccepted false most.symbols most.entries drill_models_text f
     × SumsUp focus f most.bytes (drill_text seed lines) old status new)
     ⊎ ((text : List ℕ) × IsModelLine (IsFaulty most.symbols drill_models_text) text × Says Rejected old text status new)
     ⊎ IsWanting old status new
 
 -- Where no fault rose, the status is that of a run over this log, unless memory is wanting.
 pub record CompletesDrill (most : Most) (seed lines : ℕ) (fault : Type 0) (status : Status) : Type 0 where
-  pub accepted : (f : Frame) → IsAccepted most.symbols most.entries drill_models_text f → length (drill_text seed lines) < most.bytes
+  pub accepted : (f : Frame) → IsAccepted false most.symbols most.entries drill_models_text f → length (drill_text seed lines) < most.bytes
       → (fault → ⊥)
       → (status ≡ ended_as (some_refused f (drill_text seed lines))) ⊎ (status ≡ Memory)
-  pub too_long : (f : Frame) → IsAccepted most.symbols most.entries drill_models_text f → most.bytes ≤ length (drill_text seed lines)
+  pub too_long : (f : Frame) → IsAccepted false most.symbols most.entries drill_models_text f → most.bytes ≤ length (drill_text seed lines)
       → (fault → ⊥)
       → (status ≡ TooLong) ⊎ (status ≡ Memory)
   pub refused : (line : ℕ) (word : ModelWord) → IsFaulty most.symbols drill_models_text line word → (fault → ⊥)

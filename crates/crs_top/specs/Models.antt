@@ -1,5 +1,5 @@
 -- When a models text is accepted, and by which line and word it is refused.
-use Rattle.std.specs.Prelude.{◌≡◌, ◌⊎◌, ℕ, List, [], ◌∷◌, Ok, Err}
+use Rattle.std.specs.Prelude.{◌≡◌, ◌⊎◌, ℕ, Bool, List, [], ◌∷◌, Ok, Err}
 use Rattle.std.specs.List.{AllByRecursion}
 use Rattle.crs_stn.specs.Bound.{IsConsistent}
 use Rattle.crs_model.specs.declared.models.ModelWord.{ModelWord}
@@ -8,12 +8,13 @@ use Rattle.crs_model.specs.Models.{Chronicle, Models}
 use Rattle.crs_parse.specs.Meant.{models_read}
 use Rattle.crs_top.specs.Texts.{Frame}
 
--- The text means the models of the frame: it has no fault, and whole dates meet each chronicle's bounds.
-pub record IsAccepted (symbols entries : ℕ) (text : List ℕ) (f : Frame) : Type 0 where
+-- The text means the models of the frame: it has no fault, and whole dates meet each chronicle's bounds. Its lines cite entries or not.
+pub record IsAccepted (cite : Bool) (symbols entries : ℕ) (text : List ℕ) (f : Frame) : Type 0 where
   pub read : models_read symbols [] text ≡ Ok (f.models, f.texts)
   pub consistent : AllByRecursion (λ c. IsConsistent c.bounds) f.models.chronicles
   pub symbols_are : f.symbols ≡ symbols
   pub entries_are : f.entries ≡ entries
+  pub cite_is : f.cite ≡ cite
 
 -- The text means these models by the rules of models: it has no fault, and whole dates meet each chronicle's bounds.
 pub record AreModelsIn (symbols : ℕ) (text : List ℕ) (m : Models (List ℕ)) : Type 0 where

@@ -20,10 +20,10 @@ pub record AreReadIn (symbols : ℕ) (text : List ℕ) (m : CodeModels) (table :
   pub distinct : AreDistinct table.texts
   pub limit : table.limit ≡ symbols
 
--- the session stands for the start of a run with the models that the text means, and reads the levels of events or not
-pub record IsPrepared (focus : Bool) (symbols entries : ℕ) (text : List ℕ) (x : Session) : Type 0 where
+-- the session stands for the start of a run with the models that the text means, and reads the levels of events and cites entries, or not
+pub record IsPrepared (focus cite : Bool) (symbols entries : ℕ) (text : List ℕ) (x : Session) : Type 0 where
   pub frame : Frame
-  pub accepted : IsAccepted symbols entries text frame
+  pub accepted : IsAccepted cite symbols entries text frame
   pub represents : Represents frame x (at_start frame.texts)
   pub uncounted : IsUncounted x
   pub focus_is : x.engine.focus ≡ focus

@@ -67,8 +67,8 @@ AreRearranged xs ys = AllZip IsRearranged (parts_of 0 (items_of xs)) (parts_of 0
 abbrev pub NoneIsRefused : Frame → List Line → Type 0
 NoneIsRefused f lines = list_any is_refused (outcomes (setting_of f) (at_start f.texts) (numbered lines)) ≡ false
 
--- what is written for two logs without refused lines that are rearranged is the same
+-- what is written for two logs without refused lines that are rearranged is the same, where entries aren't cited: their numbers tell the order
 abbrev pub RearrangedLogsHaveOneText : Type 0
 RearrangedLogsHaveOneText =
-    (f : Frame) (xs ys : List Line) (a b : List ℕ) → NoneIsRefused f xs → NoneIsRefused f ys → AreRearranged xs ys
+    (f : Frame) (xs ys : List Line) (a b : List ℕ) → f.cite ≡ false → NoneIsRefused f xs → NoneIsRefused f ys → AreRearranged xs ys
     → IsTextOf f xs a → IsTextOf f ys b → a ≡ b

@@ -78,6 +78,7 @@ pub record Represents (f : Frame) (x : Session) (s : State) : Type 0 where
   pub most : x.engine.limit ≡ f.entries
   pub few : length s.accepted ≤ f.entries
   pub most_here : x.entries ≡ f.entries
+  pub cite : x.cite ≡ f.cite
   pub ended : s.ended ≡ x.ended
   pub peaked : IsPeaked x.engine.focus f.models.chronicles (view_of s) x.counts.peak
 
@@ -99,7 +100,7 @@ pub record Brings (f : Frame) (focus : Bool) (old : Counts) (new : Session) (n :
   pub same_focus : new.engine.focus ≡ focus
   pub answers : List Answer
   pub are_new : AreAnswers f.models.chronicles was (view_of after.0) after.1 answers
-  pub written : more.text ≡ out.text ++ line_text n after.1 answers
+  pub written : more.text ≡ out.text ++ line_text f.cite n after.1 answers
   pub found : List Recognition
   pub notices : map notice_of found ≡ map notice_in answers
   pub filled : AllByRecursion HasEntry found
@@ -113,9 +114,9 @@ abbrev pub BringsAll : Session → Session → ℕ → (Frame → State → Stat
 BringsAll old new n after out more = (f : Frame) (s : State) → Represents f old s
     → Brings f old.engine.focus old.counts new n (view_of s) (after f s) out more
 
--- the line of a recognition, by the texts of the table; none where there is no chronicle of its number
-abbrev pub line_in : Plans → List (List ℕ) → Recognition → List ℕ
-line_in plans texts r = option_map_or (line_seen texts r) (chronicle_at plans r.chronicle) []
+-- the line of a recognition, in which its entries are cited or not, by the texts of the table; none where there is no chronicle of its number
+abbrev pub line_in : (cite : Bool) → Plans → List (List ℕ) → Recognition → List ℕ
+line_in cite plans texts r = option_map_or (line_seen cite texts r) (chronicle_at plans r.chronicle) []
 
 abbrev pub ArePrintable : Plans → List (List ℕ) → List Recognition → Type 0
 ArePrintable plans texts rs = AllByRecursion (λ r. IsSomeAnd (chronicle_at plans r.chronicle) (IsPrintable texts r)) rs

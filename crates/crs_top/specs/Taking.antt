@@ -23,7 +23,7 @@ pub record Takes (f : Frame) (focus : Bool) (old : Counts) (new : Session) (s : 
   pub trace : IsTrace (setting_of f) f.models.chronicles s told effects last
   pub state : Represents f new last
   pub same_focus : new.engine.focus ≡ focus
-  pub written : more.text ≡ out.text ++ text_of effects
+  pub written : more.text ≡ out.text ++ text_of f.cite effects
   pub found : List Recognition
   pub notices : map notice_of found ≡ notices_of effects
   pub filled : AllByRecursion HasEntry found

@@ -28,26 +28,29 @@ fault_of run.Value = faults.Value
 fault_of (run.Full limit) = faults.Full limit
 fault_of (run.Values limit) = faults.Values limit
 
-abbrev pub answer_line : Mark → Answer → List ℕ
-answer_line mark a = recognition_line a.chronicle mark a.assignment
+-- the line of an answer, in which its entries are cited or not
+abbrev pub answer_line : (cite : Bool) → Mark → Answer → List ℕ
+answer_line cite mark a = recognition_line cite a.chronicle mark a.assignment
 
 -- what is written for the line of this number, by what became of it: a refusal, or the lines of a mark's answers
-abbrev pub line_text : ℕ → Outcome → List Answer → List ℕ
-line_text n Passed answers = []
-line_text n (Refused fault) answers = refusal_line n (fault_of fault)
-line_text n (Accepted entry) answers = []
-line_text n (Marked mark) answers = flat_map (answer_line mark) answers
+abbrev pub line_text : (cite : Bool) → ℕ → Outcome → List Answer → List ℕ
+line_text cite n Passed answers = []
+line_text cite n (Refused fault) answers = refusal_line n (fault_of fault)
+line_text cite n (Accepted entry) answers = []
+line_text cite n (Marked mark) answers = flat_map (answer_line cite mark) answers
 
 -- what is written for lines, by what they bring
-abbrev pub text_of : List Effect → List ℕ
-text_of effects = flat_map (λ e. line_text e.number e.outcome e.answers) effects
+abbrev pub text_of : (cite : Bool) → List Effect → List ℕ
+text_of cite effects = flat_map (λ e. line_text cite e.number e.outcome e.answers) effects
 
--- what a log is read with: the names, chronicles and symbols of the models, and the limits on symbols and entries
+-- what a log is read with: the names, chronicles and symbols of the models, the limits on symbols and entries, and whether the entries of
+-- recognitions are cited
 pub record Frame : Type 0 where
   pub models : Models (List ℕ)
   pub texts : List (List ℕ)
   pub symbols : ℕ
   pub entries : ℕ
+  pub cite : Bool
 
 abbrev pub setting_of : Frame → Setting
 setting_of f = record { names = f.models.names; symbols = f.symbols; entries = f.entries }
@@ -58,7 +61,7 @@ IsTraceOf f lines effects last = IsTrace (setting_of f) f.models.chronicles (at_
 
 -- the text of what they bring
 abbrev pub IsTextOf : Frame → List Line → List ℕ → Type 0
-IsTextOf f lines text = (effects : List Effect) × (last : State) × IsTraceOf f lines effects last × (text ≡ text_of effects)
+IsTextOf f lines text = (effects : List Effect) × (last : State) × IsTraceOf f lines effects last × (text ≡ text_of f.cite effects)
 
 -- what is written for a whole log
 abbrev pub IsLogText : Frame → List ℕ → List ℕ → Type 0

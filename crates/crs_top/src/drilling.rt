@@ -44,7 +44,7 @@ pub fn drill<D: Desk>(
     ensures told { D.tells ≡ true → Drills focus (most_of limits) seed lines (D.told desk.old) result (D.told desk.new) }
 {
     // nobody else chooses the symbols of a made log, so any seed will do
-    match prepare(alloc, drill_models(), focus, limits, 0) {
+    match prepare(alloc, drill_models(), focus, false, limits, 0) {
         Ok(mut session) => sum_up(alloc, desk, &mut session, seed, lines, limits.bytes),
         Err(refused) => refuse(alloc, desk, refused),
     }

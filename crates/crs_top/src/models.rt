@@ -12,15 +12,17 @@ use crs_model::ModelRefused;
 use std::alloc::Global;
 
 /// A session at the start of a log, with the models that the text means. With focus the levels of
-/// events are read. The table that the log's symbols will go into hashes them from the seed.
+/// events are read, and with cite the entries of recognitions are cited. The table that the log's
+/// symbols will go into hashes them from the seed.
 pub fn prepare(
     alloc: Global,
     text: &[u8],
     focus: bool,
+    cite: bool,
     limits: Limits,
     seed: u64,
 ) -> Result<Session, ModelRefused>
-    ensures ok { IfOk result (IsPrepared focus limits.symbols limits.entries text.now) }
+    ensures ok { IfOk result (IsPrepared focus cite limits.symbols limits.entries text.now) }
     ensures refused { IfErr result (IsFaultyText limits.symbols text.now) }
 {
     let (models, symbols) = read_text(alloc, text, limits.symbols, seed)?;
@@ -31,6 +33,7 @@ pub fn prepare(
         engine,
         symbols,
         entries: limits.entries,
+        cite,
         ended: false,
         counts: Counts {
             refused: 0,

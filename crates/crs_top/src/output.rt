@@ -42,17 +42,18 @@ impl Output {
         push_refusal_line(&mut self.text, number, fault)
     }
 
-    /// Writes the lines of recognitions, in order.
+    /// Writes the lines of recognitions, in order, in which their entries are cited or not.
     pub fn push_answer(
         &mut self,
         plans: &Plans,
         symbols: &Symbols,
         answer: List<Recognition>,
+        cite: bool,
     ) -> Result<(), AllocError>
         requires { ArePrintable plans.now symbols.now.texts answer }
-        ensures { OnOk result (self.new ≡ with_answer self.old (flat_map (line_in plans.now symbols.now.texts) answer) answer) }
+        ensures { OnOk result (self.new ≡ with_answer self.old (flat_map (line_in cite plans.now symbols.now.texts) answer) answer) }
     {
-        push_lines(&mut self.text, plans, symbols, answer.as_slice())?;
+        push_lines(&mut self.text, plans, symbols, answer.as_slice(), cite)?;
         self.found.append(answer)
     }
 
@@ -72,18 +73,19 @@ impl Output {
     }
 }
 
-/// Writes the lines of recognitions, in order.
+/// Writes the lines of recognitions, in order, in which their entries are cited or not.
 fn push_lines(
     out: &mut Vec<u8>,
     plans: &Plans,
     symbols: &Symbols,
     answer: &[Recognition],
+    cite: bool,
 ) -> Result<(), AllocError>
     requires { ArePrintable plans.now symbols.now.texts answer.now }
-    ensures { OnOk result (out.new.items ≡ out.old.items ++ flat_map (line_in plans.now symbols.now.texts) answer.now) }
+    ensures { OnOk result (out.new.items ≡ out.old.items ++ flat_map (line_in cite plans.now symbols.now.texts) answer.now) }
 {
     for r in answer {
-        push_line_of(out, plans, symbols, r)?;
+        push_line_of(out, plans, symbols, r, cite)?;
     }
     Ok(())
 }

@@ -74,6 +74,7 @@ pub fn run_with<D: Desk>(
                 Command::Run {
                     focus,
                     summary,
+                    cite,
                     tally,
                     models,
                     log,
@@ -89,6 +90,7 @@ pub fn run_with<D: Desk>(
                 limits,
                 focus,
                 summary,
+                cite,
                 &mut listeners,
             )
         }
@@ -111,6 +113,7 @@ fn recognise<D: Desk>(
     limits: Limits,
     focus: bool,
     summary: bool,
+    cite: bool,
     listeners: &mut Vec<Box<dyn Listener>>,
 ) -> Status
     requires { D.inputs desk.old < 2 ^ 31 }
@@ -118,13 +121,13 @@ fn recognise<D: Desk>(
     ensures causes { HasCauses (D.in_faults desk.old) (D.in_faults desk.new) (D.out_faults desk.old) (D.out_faults desk.new) result }
     ensures least { D.inputs desk.old ≤ D.inputs desk.new }
     ensures most { D.inputs desk.new ≤ D.inputs desk.old + 2 }
-    ensures told { D.tells ≡ true → Runs (D.inputs desk.old) (D.inputs desk.new) (tail_of focus summary (map (λ b. (kind b, figures b)) listeners.old.items)) (most_of limits) (D.told desk.old) models.now log.now result (D.told desk.new) }
+    ensures told { D.tells ≡ true → Runs (D.inputs desk.old) (D.inputs desk.new) cite (tail_of focus summary (map (λ b. (kind b, figures b)) listeners.old.items)) (most_of limits) (D.told desk.old) models.now log.now result (D.told desk.new) }
 {
     let text = match load(alloc, desk, models, MODELS_LIMIT, MODELS_TOO_LONG) {
         Ok(text) => text,
         Err(status) => return status,
     };
-    match prepare(alloc, text.as_slice(), focus, limits, desk.seed()) {
+    match prepare(alloc, text.as_slice(), focus, cite, limits, desk.seed()) {
         Ok(mut session) => follow(
             alloc,
             desk,

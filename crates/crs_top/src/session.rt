@@ -24,6 +24,8 @@ pub struct Session {
     pub symbols: Symbols,
     /// The most entries that are accepted.
     pub entries: u32,
+    /// Whether the entries of recognitions are cited.
+    pub cite: bool,
     /// Whether an `end` was accepted.
     pub ended: bool,
     pub counts: Counts,

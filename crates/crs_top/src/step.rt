@@ -60,7 +60,12 @@ fn take_clock<L: Ledger>(
     match session.engine.clock(t, &mut Steps::<L>::new(blank)) {
         Ok(answer) => {
             session.count_mark(answer.len());
-            out.push_answer(session.engine.plans(), &session.symbols, answer)
+            out.push_answer(
+                session.engine.plans(),
+                &session.symbols,
+                answer,
+                session.cite,
+            )
         }
         Err(Refused::Back { t, last }) => refuse(session, number, Fault::Back { t, last }, out),
         Err(_) => Err(AllocError),
@@ -84,7 +89,12 @@ fn take_end<L: Ledger>(
         Ok(answer) => {
             session.ended = true;
             session.count_mark(answer.len());
-            out.push_answer(session.engine.plans(), &session.symbols, answer)
+            out.push_answer(
+                session.engine.plans(),
+                &session.symbols,
+                answer,
+                session.cite,
+            )
         }
         Err(_) => Err(AllocError),
     }

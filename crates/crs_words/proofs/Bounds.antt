@@ -39,16 +39,16 @@ word_bounded low high k (Some w) e = number_bounded low high k (number_of w) e
 -- a drill's numbers are within their bounds
 abbrev IsFine : Option Command → Type 0
 IsFine None = Unit {0}
-IsFine (Some (Run focus summary tally models log)) = Unit {0}
+IsFine (Some (Run focus summary cite tally models log)) = Unit {0}
 IsFine (Some (Print listing models)) = Unit {0}
 IsFine (Some (Drill focus seed lines)) = IsDrill seed lines
 IsFine (Some (Import table)) = Unit {0}
 
-run_fine : (focus summary : Bool) (tally : Option Tally) (o p : Option (List ℕ)) → IsFine (run_of focus summary tally o p)
-run_fine focus summary (Some t) (Some m) (Some l) = tt
-run_fine focus summary (Some t) (Some m) None = tt
-run_fine focus summary (Some t) None p = tt
-run_fine focus summary None o p = tt
+run_fine : (focus summary cite : Bool) (tally : Option Tally) (o p : Option (List ℕ)) → IsFine (run_of focus summary cite tally o p)
+run_fine focus summary cite (Some t) (Some m) (Some l) = tt
+run_fine focus summary cite (Some t) (Some m) None = tt
+run_fine focus summary cite (Some t) None p = tt
+run_fine focus summary cite None o p = tt
 
 print_fine : (listing : Listing) (o : Option (List ℕ)) → IsFine (print_of listing o)
 print_fine listing (Some m) = tt
@@ -80,7 +80,7 @@ command_fine [] = tt
 command_fine (name ∷ rest) =
     either_fine (bytes_eq name (codes "run")) _ _
     (read_fine run_in (rows_in run_app (name ∷ rest))
-    (λ rows. run_fine (is_given (codes "focus") rows) (is_given (codes "summary") rows) (tally_of (first_of (codes "tally") rows))
+    (λ rows. run_fine (is_given (codes "focus") rows) (is_given (codes "summary") rows) (is_given (codes "cite") rows) (tally_of (first_of (codes "tally") rows))
     (first_of (codes "models") rows) (first_of (codes "log") rows)))
     (either_fine (bytes_eq name (codes "model")) _ _
     (read_fine model_in (rows_in model_app (name ∷ rest))

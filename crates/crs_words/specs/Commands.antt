@@ -14,17 +14,18 @@ use Rattle.crs_words.specs.declared.command.Command.{Command as CodeCommand}
 use Rattle.crs_words.specs.declared.command.Command.TheVariants as code
 
 -- to recognise the models of the first name in the log of the second, with the levels of events read or not, with the numbers of the run
--- behind it or without, and with the pages of listeners; to print the models of a name; to write the numbers of a run over the made log of
--- so many lines that a seed gives, with the levels of events read or not; to write the table of a name as a log
+-- behind it or without, with the entries of each recognition cited or not, and with the pages of listeners; to print the models of a name;
+-- to write the numbers of a run over the made log of so many lines that a seed gives, with the levels of events read or not; to write the
+-- table of a name as a log
 pub data Command : Type 0 where
-  Run : (focus summary : Bool) → (tally : Tally) → (models log : List ℕ) → Command
+  Run : (focus summary cite : Bool) → (tally : Tally) → (models log : List ℕ) → Command
   Print : (listing : Listing) → (models : List ℕ) → Command
   Drill : (focus : Bool) → (seed lines : ℕ) → Command
   Import : (table : List ℕ) → Command
 
 -- a command of the program
 abbrev pub command_seen : CodeCommand → Command
-command_seen (code.Run focus summary tally models log) = Run focus summary tally models.now log.now
+command_seen (code.Run focus summary cite tally models log) = Run focus summary cite tally models.now log.now
 command_seen (code.Print listing models) = Print listing models.now
 command_seen (code.Drill focus seed lines) = Drill focus seed lines
 command_seen (code.Import table) = Import table.now
@@ -44,15 +45,15 @@ rows_in app words = if is_empty (fault_of app words) then Some (matches_of app w
 abbrev pub read_by : App → (List Row → Option Command) → List (List ℕ) → Option Command
 read_by app command words = option_and_then command (rows_in app words)
 
-abbrev pub run_of : (focus summary : Bool) → Option Tally → Option (List ℕ) → Option (List ℕ) → Option Command
-run_of focus summary (Some tally) (Some models) (Some log) = Some (Run focus summary tally models log)
-run_of focus summary (Some tally) (Some models) None = None
-run_of focus summary (Some tally) None log = None
-run_of focus summary None models log = None
+abbrev pub run_of : (focus summary cite : Bool) → Option Tally → Option (List ℕ) → Option (List ℕ) → Option Command
+run_of focus summary cite (Some tally) (Some models) (Some log) = Some (Run focus summary cite tally models log)
+run_of focus summary cite (Some tally) (Some models) None = None
+run_of focus summary cite (Some tally) None log = None
+run_of focus summary cite None models log = None
 
 abbrev pub run_in : List Row → Option Command
 run_in rows =
-    run_of (is_given (codes "focus") rows) (is_given (codes "summary") rows) (tally_of (first_of (codes "tally") rows))
+    run_of (is_given (codes "focus") rows) (is_given (codes "summary") rows) (is_given (codes "cite") rows) (tally_of (first_of (codes "tally") rows))
     (first_of (codes "models") rows) (first_of (codes "log") rows)
 
 abbrev pub listing_of : Bool → Listing
@@ -103,5 +104,5 @@ command_of (name ∷ rest) =
 -- what is written where the words are no command
 abbrev pub usage_text : List ℕ
 usage_text =
-    codes "usage: crs run [--focus] [--summary] [--tally KINDS] MODELS LOG\n" ++ codes "       crs model [--minimal] MODELS\n"
+    codes "usage: crs run [--focus] [--summary] [--cite] [--tally KINDS] MODELS LOG\n" ++ codes "       crs model [--minimal] MODELS\n"
     ++ codes "       crs drill [--focus] SEED N\n" ++ codes "       crs import CSV\n"

@@ -39,18 +39,19 @@ fn plain_command<'a>(alloc: Global, name: &'a str) -> Command<'a>
         .disable_version_flag(true)
 }
 
-/// `run [--focus] [--summary] [--tally KINDS]`
+/// `run [--focus] [--summary] [--cite] [--tally KINDS]`
 fn run_options<'a>(alloc: Global) -> Result<Command<'a>, AllocError>
     ensures { IfOk result (λ c. app_of c ≡ run_options) }
 {
     let command = plain_command(alloc, "run")
         .arg(flag_of(alloc, "focus"))?
         .arg(flag_of(alloc, "summary"))?
+        .arg(flag_of(alloc, "cite"))?
         .arg(valued_of(alloc, "tally"))?;
     Ok(command)
 }
 
-/// `run [--focus] [--summary] [--tally KINDS] MODELS LOG`
+/// `run [--focus] [--summary] [--cite] [--tally KINDS] MODELS LOG`
 pub(crate) fn run_command<'a>(alloc: Global) -> Result<Command<'a>, AllocError>
     ensures { IfOk result (λ c. app_of c ≡ run_app) }
 {

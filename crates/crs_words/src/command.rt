@@ -31,12 +31,13 @@ impl Tally {
 /// What the program was asked for. Names are those of files.
 #[derive(Clone, Copy, Debug)]
 pub enum Command<'a> {
-    /// To recognise the models in the log, with the levels of events read or not, and to write the
-    /// numbers of the run behind it where a summary is asked for, and then the pages of the
-    /// listeners that are.
+    /// To recognise the models in the log, with the levels of events read or not and with the entries
+    /// of each recognition cited or not, and to write the numbers of the run behind it where a summary
+    /// is asked for, and then the pages of the listeners that are.
     Run {
         focus: bool,
         summary: bool,
+        cite: bool,
         tally: Tally,
         models: &'a str,
         log: &'a str,

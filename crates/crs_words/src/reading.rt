@@ -84,12 +84,14 @@ fn run_of<'a>(matches: &ArgMatches<'a>, tally: Option<Tally>) -> Option<Command<
 {
     let focus = is_given(matches, "focus");
     let summary = is_given(matches, "summary");
+    let cite = is_given(matches, "cite");
     let tally = tally?;
     let models = word_of(matches, "models")?;
     let log = word_of(matches, "log")?;
     Some(Command::Run {
         focus,
         summary,
+        cite,
         tally,
         models,
         log,

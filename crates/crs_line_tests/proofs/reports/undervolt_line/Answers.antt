@@ -4,8 +4,8 @@ use Rattle.crs_model.specs.Seen.{event_of}
 use Rattle.crs_line_tests.proofs.Known.{known_by, through}
 use Rattle.crs_line_tests.proofs.reports.undervolt_line.Goals as goal
 
-pub line_of-requires : goal.line_of-requires
-line_of-requires c = rw c.in_ok-plans.ensures (record {
+pub told_line-requires : goal.told_line-requires
+told_line-requires c = rw c.in_ok-plans.ensures (record {
   name = omega (arith, c.in_ok-chronicle.ensures.name, c.requires);
   points = through (λ s. s.0 < length c.args.symbols.now.texts) (λ v. v.point) (map event_of c.in_ok-chronicle.chronicle.events)
       (through (λ v. v.point.0 < length c.args.symbols.now.texts) event_of c.in_ok-chronicle.chronicle.events

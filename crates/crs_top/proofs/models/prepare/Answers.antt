@@ -26,10 +26,10 @@ returns-clause-ok c =
     let e = c.in_ok-plans.ensures in
     let n = c.in_ok-engine.ensures in
     record {
-      frame = frame c.args.limits.symbols c.args.limits.entries c.args.text.now m table plans r e.names e.chronicles e.plans;
-      accepted = accepted c.args.limits.symbols c.args.limits.entries c.args.text.now m table plans r e.names e.chronicles e.plans;
+      frame = frame c.args.cite c.args.limits.symbols c.args.limits.entries c.args.text.now m table plans r e.names e.chronicles e.plans;
+      accepted = accepted c.args.cite c.args.limits.symbols c.args.limits.entries c.args.text.now m table plans r e.names e.chronicles e.plans;
       represents =
-          represented c.args.limits.symbols c.args.limits.entries c.args.text.now m table plans r e.names e.chronicles e.plans c.in_ok-engine.engine c.kept-peak.result c.kept-peak.ensures n.new.same_plans n.new.no_delay n.new.no_clock n.new.at_start n.new.none_accepted n.new.none_marked n.new.same_limit n.new.running n.stands;
+          represented c.args.cite c.args.limits.symbols c.args.limits.entries c.args.text.now m table plans r e.names e.chronicles e.plans c.in_ok-engine.engine c.kept-peak.result c.kept-peak.ensures n.new.same_plans n.new.no_delay n.new.no_clock n.new.at_start n.new.none_accepted n.new.none_marked n.new.same_limit n.new.running n.stands;
       uncounted = record { refused = refl; recognitions = refl; peak = c.kept-peak.ensures };
       focus_is = n.new.same_focus;
     }

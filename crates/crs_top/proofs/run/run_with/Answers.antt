@@ -26,13 +26,13 @@ returns-in-Ok-Some-Run-clause-told g c = λ t.
     let asked = rw (c.in-Ok-Some-Run.field-0-is, c.in-Ok-Some-Run.field-0-0-is) at c.in-Ok-Some-Run.ensures in
     let kept = c.keep_kinds.ensures ∙ ap (λ (chosen : List Bool). keep_members chosen (map (λ b. ((goal.Listener-dyn g (b.vtable, b.value)).kind b.value, (goal.Listener-dyn g (b.vtable, b.value)).figures b.value)) c.args.listeners.items)) c.kinds.ensures in
     rw (sym asked) (subst (λ (members : List Member). Runs (g.D.Desk.inputs c.args.desk.now) (g.D.Desk.inputs c.recognise.new.desk)
-    (tail_of c.in-Ok-Some-Run.focus c.in-Ok-Some-Run.summary members) (most_of c.args.limits) (g.D.Desk.told c.args.desk.now) c.in-Ok-Some-Run.models.now
+    c.in-Ok-Some-Run.cite (tail_of c.in-Ok-Some-Run.focus c.in-Ok-Some-Run.summary members) (most_of c.args.limits) (g.D.Desk.told c.args.desk.now) c.in-Ok-Some-Run.models.now
     c.in-Ok-Some-Run.log.now c.recognise.result (g.D.Desk.told c.recognise.new.desk)) kept (c.recognise.ensures.told t))
 
 pub returns-in-Ok-Some-Run-clause-complete : goal.returns-in-Ok-Some-Run-clause-complete
 returns-in-Ok-Some-Run-clause-complete g c = λ t.
     let asked = rw (c.in-Ok-Some-Run.field-0-is, c.in-Ok-Some-Run.field-0-0-is) at c.in-Ok-Some-Run.ensures in
-    rw (sym asked) (completes (g.D.Desk.inputs c.args.desk.now) (g.D.Desk.inputs c.recognise.new.desk) _
+    rw (sym asked) (completes (g.D.Desk.inputs c.args.desk.now) (g.D.Desk.inputs c.recognise.new.desk) _ _
     (most_of c.args.limits)
     (g.D.Desk.told c.args.desk.now) (g.D.Desk.told c.recognise.new.desk) c.in-Ok-Some-Run.models.now c.in-Ok-Some-Run.log.now
     (Rose (g.D.Desk.in_faults c.args.desk.now) (g.D.Desk.in_faults c.recognise.new.desk)

@@ -47,13 +47,13 @@ returns-in-Ok g c =
       counts = with_mark x.counts n (kept_of new);
     }) c.len.ensures) in
     IfOk-weaker c.push_answer.result
-    (λ _. c.push_answer.new.self ≡ with_answer c.args.out.now (flat_map (line_in c.plans.result.now y.symbols.texts) c.in-Ok.answer) c.in-Ok.answer)
+    (λ _. c.push_answer.new.self ≡ with_answer c.args.out.now (flat_map (line_in y.cite c.plans.result.now y.symbols.texts) c.in-Ok.answer) c.in-Ok.answer)
     (λ _. BringsAll x y c.args.number
     (λ f s. after_ordered (setting_of f) s (Clock c.args.t)) c.args.out.now c.push_answer.new.self)
     (λ _ h f s r.
-    let w : c.push_answer.new.self ≡ with_answer c.args.out.now (flat_map (line_in new.plans x.symbols.texts) c.in-Ok.answer) c.in-Ok.answer =
+    let w : c.push_answer.new.self ≡ with_answer c.args.out.now (flat_map (line_in x.cite new.plans x.symbols.texts) c.in-Ok.answer) c.in-Ok.answer =
     h ∙ (λ i. with_answer c.args.out.now (flat_map
-    (line_in ((c.plans.ensures ∙ ap (λ z. z.engine.plans) c.count_mark.ensures) i)
+    (line_in (ap (λ z. z.cite) c.count_mark.ensures i) ((c.plans.ensures ∙ ap (λ z. z.engine.plans) c.count_mark.ensures) i)
     (ap (λ z. z.symbols.texts) c.count_mark.ensures i)) c.in-Ok.answer) c.in-Ok.answer) in
     subst (λ (z : Session). Brings f x.engine.focus x.counts z c.args.number (view_of s)
     (after_ordered (setting_of f) s (Clock c.args.t)) c.args.out.now c.push_answer.new.self) then
