@@ -7,7 +7,7 @@ use Rattle.crs_base.specs.Entry.{Entry}
 use Rattle.crs_base.proofs.KeyOrder.{key_exact}
 use Rattle.crs_model.specs.Order.{put_in_order}
 use Rattle.crs_buffer.specs.declared.held.Held.{Held}
-use Rattle.crs_buffer.specs.Held.{held_cmp, entry_in, entries_of}
+use Rattle.crs_buffer.specs.HeldOrder.{held_cmp, entry_in, entries_of}
 use Rattle.crs_buffer.specs.Entries.{IsNewKey}
 
 by_answer : (k x : Held) (xs : List Held) (o : Ordering) → (o ≡ Equal → ⊥) → entries_of (insert_key held_cmp xs k) ≡ put_in_order (entry_in k) (entries_of xs)

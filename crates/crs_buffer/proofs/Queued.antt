@@ -10,7 +10,7 @@ use Rattle.crs_base.specs.Entry.{Entry}
 use Rattle.crs_model.specs.Order.{put_in_order}
 use Rattle.crs_buffer.proofs.Inserted.{inserted}
 use Rattle.crs_buffer.specs.declared.held.Held.{Held}
-use Rattle.crs_buffer.specs.Held.{held_cmp, held_total, entry_in, entries_of}
+use Rattle.crs_buffer.specs.HeldOrder.{held_cmp, held_total, entry_in, entries_of}
 use Rattle.crs_buffer.specs.Entries.{IsNewKey}
 use Rattle.crs_buffer.specs.Queues.{ComesBefore, ComesAfter, IsTaken}
 

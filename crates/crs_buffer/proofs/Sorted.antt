@@ -7,7 +7,7 @@ use Rattle.crs_base.specs.Entry.{Entry, entry_cmp, IsInKeyOrder}
 use Rattle.crs_base.specs.declared.symbols.Sym.{Sym}
 use Rattle.crs_base.proofs.KeyOrder.{date_of_less}
 use Rattle.crs_buffer.specs.declared.held.Held.{Held}
-use Rattle.crs_buffer.specs.Held.{held_cmp, entry_in, entries_of}
+use Rattle.crs_buffer.specs.HeldOrder.{held_cmp, entry_in, entries_of}
 use Rattle.crs_buffer.specs.Entries.{released, left}
 
 all_below : (x : Held) (ks : List Held) → AllByRecursion (λ y. held_cmp x y ≡ Less) ks → AllByRecursion (λ e. entry_cmp (entry_in x) e

@@ -3,7 +3,7 @@ use Rattle.std.specs.Prelude.{◌≡◌, List}
 use Rattle.std.specs.List.{AllByRecursion}
 use Rattle.std.specs.declared.cmp.Ordering.TheVariants.{Less, Greater}
 use Rattle.crs_buffer.specs.declared.held.Held.{Held}
-use Rattle.crs_buffer.specs.Held.{held_cmp, entry_in, entries_of}
+use Rattle.crs_buffer.specs.HeldOrder.{held_cmp, entry_in, entries_of}
 use Rattle.crs_buffer.specs.Entries.{IsNewKey}
 
 -- k comes before all of them

@@ -29,7 +29,7 @@ impl Model for Buffer {
     ghost use Rattle.std.specs.List.Sorted.{IsStrictlySortedBy};
     ghost use Rattle.crs_base.specs.declared.symbols.Sym.{Sym};
     ghost use Rattle.crs_base.specs.Entry.{Entry as LogEntry};
-    ghost use Rattle.crs_buffer.specs.Held.{entries_of, held_cmp};
+    ghost use Rattle.crs_buffer.specs.HeldOrder.{entries_of, held_cmp};
 
     ghost Value = { List (LogEntry Sym) };
 

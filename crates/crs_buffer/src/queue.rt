@@ -4,7 +4,7 @@ ghost use Rattle.std.specs.List.{AllByRecursion, insert};
 ghost use Rattle.std.specs.List.Sorted.{IsStrictlySortedBy};
 ghost use Rattle.std.specs.BTreeSet.{insert_key};
 ghost use Rattle.std.specs.declared.cmp.Ordering.TheVariants.{Less, Equal, Greater};
-ghost use Rattle.crs_buffer.specs.Held.{held_cmp};
+ghost use Rattle.crs_buffer.specs.HeldOrder.{held_cmp};
 ghost use Rattle.crs_buffer.specs.Queues.{ComesAfter, ComesBefore, IsTaken};
 
 use crate::held::Held;

@@ -16,7 +16,7 @@ use Rattle.crs_model.specs.Models.{Term, EventDef, Pattern, Window, Chronicle}
 use Rattle.crs_model.specs.Bindings.{PatternIsBelow}
 use Rattle.crs_model.specs.Proper.{pattern_has}
 use Rattle.crs_model.specs.ProperModels.{Suits, IsDeclared, IsProperAnchor, IsProperBody, IsProperWindow, IsProperEvent, IsProperChronicle, AreProper}
-use Rattle.crs_model.specs.Seen.{kind_of, name_of, pattern_of, event_of, window_of, chronicle_of, models_of}
+use Rattle.crs_model.specs.SeenModels.{kind_of, name_of, pattern_of, event_of, window_of, chronicle_of, models_of}
 use Rattle.crs_compile.specs.Minimal.{IsPrintable}
 
 -- two messages without terms

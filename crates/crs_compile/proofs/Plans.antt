@@ -10,7 +10,7 @@ use Rattle.crs_base.specs.declared.symbols.Sym.{Sym}
 use Rattle.crs_model.specs.Models.{Name}
 use Rattle.crs_model.specs.ProperModels.{AreShort, IsProperChronicle}
 use Rattle.crs_model.specs.Plans.{IsProper}
-use Rattle.crs_model.specs.Seen.{chronicle_of}
+use Rattle.crs_model.specs.SeenModels.{chronicle_of}
 use Rattle.crs_compile.specs.Compiled.{IsAdded, ClosesFirst, IsRefusal}
 
 -- the plans are those of the first chronicles, and `rest` are the others

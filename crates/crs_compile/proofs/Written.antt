@@ -7,7 +7,7 @@ use Rattle.crs_stn.specs.Table.{most_of, IsEarliestByBounds}
 use Rattle.crs_model.specs.declared.chronicle.EventDef.{EventDef as CodeEvent}
 use Rattle.crs_model.specs.declared.plan.Plan.{Plan}
 use Rattle.crs_model.specs.Plans.{chronicle, IsProper}
-use Rattle.crs_model.specs.Seen.{event_of}
+use Rattle.crs_model.specs.SeenModels.{event_of}
 use Rattle.crs_compile.specs.Minimal.{head_text, pair_lines, earliest_text, plan_text, points_of, point_count, IsChronicleText, Appends}
 
 counted : (events : List CodeEvent) → length (map event_of events) ≡ length events

@@ -1,3 +1,3 @@
 pub mod Compiled
 pub mod Minimal
-pub mod Laws
+pub mod PlanLaws

@@ -4,7 +4,7 @@ ghost use Rattle.crs_base.specs.declared.symbols.Sym.{Sym};
 ghost use Rattle.crs_model.specs.Models.{Name};
 ghost use Rattle.crs_model.specs.ProperModels.{AreShort, IsProperChronicle, AreProper};
 ghost use Rattle.crs_model.specs.Plans.{IsProper};
-ghost use Rattle.crs_model.specs.Seen.{chronicle_of, models_of};
+ghost use Rattle.crs_model.specs.SeenModels.{chronicle_of, models_of};
 ghost use Rattle.crs_model.specs.Reach.{IsReachOfAll};
 ghost use Rattle.crs_compile.specs.Compiled.{IsAdded, plans_in, chronicles_in, IsRefusal, refusal_of};
 

@@ -1,4 +1,4 @@
-ghost use Rattle.crs_compile.specs.Laws.{ReachIsOne, MinimalTextIsOne};
+ghost use Rattle.crs_compile.specs.PlanLaws.{ReachIsOne, MinimalTextIsOne};
 
 /// There is one reach for given least bounds.
 pub fn reach_is_one()

@@ -3,7 +3,7 @@ ghost use Rattle.std.specs.List.{AllByRecursion};
 ghost use Rattle.crs_stn.specs.Network.{negated};
 ghost use Rattle.crs_stn.specs.Table.{most_of};
 ghost use Rattle.crs_model.specs.Plans.{IsProper};
-ghost use Rattle.crs_model.specs.Seen.{chronicle_of};
+ghost use Rattle.crs_model.specs.SeenModels.{chronicle_of};
 ghost use Rattle.crs_compile.specs.Compiled.{plans_in, chronicles_in};
 ghost use Rattle.crs_model.specs.Renaming.{text_in, AreKnown};
 ghost use Rattle.crs_compile.specs.Minimal.{end_text, pair_line, lines_of_point, pair_lines, date_text, head_text, earliest_text, points_of, IsChronicleText, IsMinimalText, IsPrintable, Appends};

@@ -1,7 +1,7 @@
 ghost use Rattle.std.specs.Prelude.{◌≡◌, ◌⊎◌, ◌<◌, ◌≤◌, List, length, map, Some};
 ghost use Rattle.std.specs.List.{AllByRecursion};
 ghost use Rattle.crs_stn.specs.Table.{most_of};
-ghost use Rattle.crs_model.specs.Seen.{anchor_of, window_of, chronicle_of};
+ghost use Rattle.crs_model.specs.SeenModels.{anchor_of, window_of, chronicle_of};
 ghost use Rattle.crs_model.specs.ProperModels.{IsProperAnchor};
 ghost use Rattle.crs_model.specs.Reach.{IsLongest, IsZero, span_of, IsSpanFrom, IsPairSpan, IsStartSpan, IsReachOf, IsReachOfAll, IsSmallSpan};
 ghost use Rattle.crs_compile.specs.Compiled.{plans_in};

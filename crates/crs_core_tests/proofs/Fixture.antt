@@ -23,7 +23,7 @@ use Rattle.crs_model.specs.ProperModels.{Suits, AreShort, IsProperEvent, IsPrope
 use Rattle.crs_model.specs.Bindings.{TermIsBelow, PatternIsBelow}
 use Rattle.crs_model.specs.Reach.{Bounds, IsZero, IsPairSpan, IsStartSpan, IsReach, IsSmallSpan}
 use Rattle.crs_model.specs.Plans.{chronicle, IsProper}
-use Rattle.crs_model.specs.Seen.{term_of, event_of, set_of, window_of}
+use Rattle.crs_model.specs.SeenModels.{term_of, event_of, set_of, window_of}
 use Rattle.crs_instance.specs.declared.fit.Fit.{Fit}
 use Rattle.crs_instance.specs.declared.fit.Fit.TheVariants.{Yes, No}
 use Rattle.crs_instance.specs.Instances.{InstanceState, IsOf, IsAnswered}

@@ -1,7 +1,7 @@
 //! Patterns: what they match, the symbols that they bind, and the bindings that a chronicle allows.
 ghost use Rattle.std.specs.Prelude.{◌≡◌, ◌<◌, ◌≤◌, length, IfOk, IfSome};
 ghost use Rattle.crs_model.specs.Bindings.{PatternIsBelow};
-ghost use Rattle.crs_model.specs.Seen.{pattern_of};
+ghost use Rattle.crs_model.specs.SeenModels.{pattern_of};
 
 use crs_base::{Entry, List, Steps, Sym, SymList, Text};
 use crs_model::{Binding, Chronicle, Pattern, Term, VarSet, accepts, allowed, bind_vars, fits};

@@ -4,7 +4,7 @@ use Rattle.std.proofs.lemmas.List.{get_or-map, map-set}
 use Rattle.std.proofs.lemmas.List.{drop-drop, take_at, nil_from_length, set-get_or}
 use Rattle.crs_desk.specs.Desk.{Told, Stream, stream_at, Comes}
 use Rattle.crs_desk.specs.Memory.{stream_of, reads_so_far}
-use Rattle.crs_desk.specs.Schedule.{raised}
+use Rattle.crs_desk.specs.FailingCalls.{raised}
 use Rattle.crs_desk.specs.declared.memory.Input.{Input}
 
 pub stream_is : {A : Type 0} (f : A → Stream) (xs : List A) (i : ℕ) (x : A) → i < length xs → x ≡ get_or xs i x

@@ -4,4 +4,4 @@ pub mod FailingRead
 pub mod File
 pub mod Memory
 pub mod ReadAll
-pub mod Schedule
+pub mod FailingCalls

@@ -5,7 +5,7 @@ use Rattle.std.specs.declared.alloc.Global.{Global}
 use Rattle.crs_desk.specs.Desk.{Told, Stream}
 use Rattle.crs_desk.specs.File.{pair_of}
 use Rattle.crs_desk.specs.FailingRead.{call_of}
-use Rattle.crs_desk.specs.Schedule.{Schedule}
+use Rattle.crs_desk.specs.FailingCalls.{Schedule}
 use Rattle.crs_desk.specs.declared.memory.MemoryDesk.{MemoryDesk}
 use Rattle.crs_desk.specs.declared.memory.Input.{Input}
 

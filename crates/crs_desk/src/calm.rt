@@ -99,7 +99,7 @@ impl Desk for CalmDesk {
     ghost use Rattle.std.specs.Prelude.{length, true};
     ghost use Rattle.crs_desk.specs.Desk.{Opens, Reads, Writes, stream_at};
     ghost use Rattle.crs_desk.specs.Calm.{calm_told, calm_inputs, calm_piece, calm_faults, sources_counted};
-    ghost use Rattle.crs_desk.specs.Schedule.{moved_of};
+    ghost use Rattle.crs_desk.specs.FailingCalls.{moved_of};
 
     ghost in_faults = { calm_faults };
 

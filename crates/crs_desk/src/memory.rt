@@ -41,7 +41,7 @@ pub struct MemoryDesk {
 
 impl MemoryDesk {
     ghost use Rattle.crs_desk.specs.Memory.{memory_told, memory_inputs, memory_schedule, memory_in_faults, memory_out_faults, IsScheduled};
-    ghost use Rattle.crs_desk.specs.Schedule.{untouched};
+    ghost use Rattle.crs_desk.specs.FailingCalls.{untouched};
 
     /// A desk without files.
     pub fn new(alloc: Global) -> MemoryDesk
@@ -132,7 +132,7 @@ impl Desk for MemoryDesk {
     ghost use Rattle.std.specs.Prelude.{length, true};
     ghost use Rattle.crs_desk.specs.Desk.{HasCause, Opens, Reads, Writes, stream_at};
     ghost use Rattle.crs_desk.specs.Memory.{memory_told, memory_inputs, memory_schedule, memory_in_faults, memory_out_faults, inputs_counted};
-    ghost use Rattle.crs_desk.specs.Schedule.{raised_by, moved_of, open_fails, read_fails, write_fails, FailsWhere, after_open, after_read, after_write};
+    ghost use Rattle.crs_desk.specs.FailingCalls.{raised_by, moved_of, open_fails, read_fails, write_fails, FailsWhere, after_open, after_read, after_write};
 
     ghost in_faults = { memory_in_faults };
 

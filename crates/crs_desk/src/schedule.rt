@@ -1,6 +1,6 @@
 // When a desk in memory fails, and how much it moves at once.
 ghost use Rattle.std.specs.Prelude.{◌≡◌, map};
-ghost use Rattle.crs_desk.specs.Schedule.{is_failing_read, moved_of};
+ghost use Rattle.crs_desk.specs.FailingCalls.{is_failing_read, moved_of};
 ghost use Rattle.crs_desk.specs.FailingRead.{call_of};
 
 /// The number of a read that fails, counted from 1 for each input of the name.

@@ -1,4 +1,4 @@
 pub mod Engines
-pub mod Refusals
+pub mod EngineRefusals
 pub mod Marks
 pub mod Moves

@@ -8,7 +8,7 @@ ghost use Rattle.crs_model.specs.Plans.{IsProper};
 ghost use Rattle.crs_model.specs.declared.recognition.Mark.TheVariants.{Clock, Finish};
 ghost use Rattle.crs_engine.specs.Engines.{EngineState, StandsFor, IsNewEngine, HasAccepted, HasMoved, kept_of, reaches_of, floor_at};
 ghost use Rattle.crs_model.specs.Reach.{IsReachOfAll};
-ghost use Rattle.crs_engine.specs.Refusals.{test_refusal, accept_refusal, clock_refusal, finish_refusal, answer_by, IsRefusedAs};
+ghost use Rattle.crs_engine.specs.EngineRefusals.{test_refusal, accept_refusal, clock_refusal, finish_refusal, answer_by, IsRefusedAs};
 ghost use Rattle.crs_engine.specs.Marks.{AfterMark};
 ghost use Rattle.crs_engine.specs.declared.refused.Refused.{Refused};
 ghost use Rattle.crs_engine.specs.declared.refused.Refused.TheVariants.{Memory};

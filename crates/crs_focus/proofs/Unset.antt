@@ -7,7 +7,7 @@ use Rattle.crs_model.specs.Bits.{bit_of, HasBits}
 use Rattle.crs_model.specs.Partial.{Partial, at}
 use Rattle.crs_model.specs.declared.chronicle.EventDef.{EventDef as CodeEvent}
 use Rattle.crs_model.specs.Levels.{level_in}
-use Rattle.crs_model.specs.Seen.{event_of}
+use Rattle.crs_model.specs.SeenModels.{event_of}
 use Rattle.crs_focus.specs.Current.{AreAllBound, IsCurrent, IsUnset, IsLeastAt, IsLeastUnset}
 
 module _ (level : ℕ → ℕ) (bits n : ℕ) where

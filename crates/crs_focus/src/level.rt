@@ -4,7 +4,7 @@ ghost use Rattle.crs_model.specs.Bits.{HasBits};
 ghost use Rattle.crs_model.specs.Levels.{level_in};
 ghost use Rattle.crs_model.specs.Partial.{Partial};
 ghost use Rattle.crs_model.specs.Plans.{chronicle, IsProper};
-ghost use Rattle.crs_model.specs.Seen.{event_of};
+ghost use Rattle.crs_model.specs.SeenModels.{event_of};
 ghost use Rattle.crs_focus.specs.Current.{AreAllBound, IsCurrent, IsLeastUnset, IsUnset};
 
 use crs_model::{EventDef, Plan};

@@ -2,7 +2,7 @@
 use Rattle.std.proofs.Common.{◌≡◌, true, false, Some, option_map, refl}
 use Rattle.std.specs.Prelude.{codes}
 use Rattle.crs_base.specs.Tokens.{tokens_of, is_model_mark}
-use Rattle.crs_grammar.specs.Reading.{◌>>=◌, statement_of, term_at, terms_on, values_on, arguments_at, pair_at, change_at, pattern_at, shift_at, anchor_at, span_of, level_of, event_of, noevent_of, most_at, occurs_of, hold_of, end_at, distance_of, values_of, differ_of, of_variable, variable_of, called_of, point_of, worded_of, inside_of, attribute_of, prompt_of, named_of, outside_of}
+use Rattle.crs_grammar.specs.TokenReading.{◌>>=◌, statement_of, term_at, terms_on, values_on, arguments_at, pair_at, change_at, pattern_at, shift_at, anchor_at, span_of, level_of, event_of, noevent_of, most_at, occurs_of, hold_of, end_at, distance_of, values_of, differ_of, of_variable, variable_of, called_of, point_of, worded_of, inside_of, attribute_of, prompt_of, named_of, outside_of}
 use Rattle.std.specs.Fmt.{digits}
 use Rattle.crs_grammar.specs.Canon.{statement_text}
 

@@ -16,7 +16,7 @@ use Rattle.crs_base.specs.Tokens.{Token, Word, Mark, tokens_behind, begins_word,
 use Rattle.crs_base.proofs.TokenSteps.{word_front}
 use Rattle.crs_grammar.specs.Canon.{part_text}
 use Rattle.crs_grammar.specs.Forms.{Part, Keyword, Sign, Symbol, Number, Integer, Gap, Missing, AreWritten, term_form, terms_form, change_form, pattern_form, shift_form, anchor_form, listed, symbol_form, values_form, level_form, values_in_form, low_part, high_part, most_part, body_form, span_form, begin_form, form_of}
-use Rattle.crs_grammar.specs.Laws.{IsWritable, CanonicalIsRead}
+use Rattle.crs_grammar.specs.GrammarLaws.{IsWritable, CanonicalIsRead}
 use Rattle.crs_grammar.specs.Statements.{Term, Value, Variable, Any, Pattern, Shift, Here, Later, Earlier, Anchor, Body, NoEvent, Occurs, Hold, Statement, Message, Attribute, Begin, Happens, Point, Between, Among, Differ, Over, Close, is_inside}
 use Rattle.crs_grammar.proofs.TakesStatements.{meant_is_read}
 use Rattle.crs_grammar.proofs.Gives.{range_shape, hold_shape}

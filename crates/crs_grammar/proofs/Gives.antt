@@ -5,7 +5,7 @@ use Rattle.crs_base.specs.Tokens.{Token, Word, Mark}
 use Rattle.crs_base.specs.Numbers.{number_of}
 use Rattle.crs_grammar.specs.Forms.{Part, Sign, Symbol, Number, Gap, AreWritten, term_form, terms_form, change_form, pattern_form, listed}
 use Rattle.crs_grammar.specs.Statements.{Term, Value, Variable, Any, Pattern}
-use Rattle.crs_grammar.specs.Reading.{◌>>=◌, symbol_at, number_at, mark_at, closed_at, term_at, terms_on, arguments_at, pair_at, change_at, pattern_at}
+use Rattle.crs_grammar.specs.TokenReading.{◌>>=◌, symbol_at, number_at, mark_at, closed_at, term_at, terms_on, arguments_at, pair_at, change_at, pattern_at}
 
 none_some : {B : Type 0} (y : B) → None ≡ Some y → ⊥
 none_some y e = cc

@@ -5,7 +5,7 @@ use Rattle.crs_base.specs.Tokens.{Token, Word, Mark}
 use Rattle.crs_base.proofs.Texts.{bytes_same}
 use Rattle.crs_grammar.specs.Forms.{Part, AreWritten, shift_form, anchor_form}
 use Rattle.crs_grammar.specs.Statements.{Shift, Here, Later, Earlier, Anchor}
-use Rattle.crs_grammar.specs.Reading.{◌>>=◌, number_at, shift_at, anchor_at}
+use Rattle.crs_grammar.specs.TokenReading.{◌>>=◌, number_at, shift_at, anchor_at}
 use Rattle.crs_grammar.proofs.Gives.{bind_some, cond_either, same_pair, symbol_gives, number_gives}
 
 pub shift_gives : (ts : List Token) (s : Shift) (back : List Token) (rest : List Part) → shift_at ts ≡ Some (s, back) → AreWritten rest back → AreWritten (shift_form s ++ rest) ts

@@ -7,8 +7,8 @@ use Rattle.crs_base.specs.Numbers.{number_of, integer_of}
 use Rattle.crs_base.proofs.Texts.{bytes_same}
 use Rattle.crs_grammar.specs.Forms.{Part, Keyword, Sign, Symbol, Number, Integer, Gap, AreWritten, term_form, terms_form, pattern_form, anchor_form, listed, symbol_form, values_form, level_form, values_in_form, low_part, high_part, most_part, span_form, form_of}
 use Rattle.crs_grammar.specs.Statements.{Event, Anchor, Body, NoEvent, Occurs, Hold, Statement, Message, Attribute, Begin, Happens, Point, Between, Among, Differ, Over, Close, is_inside}
-use Rattle.crs_grammar.specs.Reading.{◌>>=◌, whole, symbol_at, number_at, keyword_at, closed_at, values_on, span_of, level_of, event_of, noevent_of, most_at, occurs_of, hold_of, end_at, distance_of, values_of, differ_of, of_variable, variable_of, called_of, point_of, worded_of, inside_of, attribute_of, prompt_of, named_of, outside_of}
-use Rattle.crs_grammar.specs.Laws.{ReadIsMeant}
+use Rattle.crs_grammar.specs.TokenReading.{◌>>=◌, whole, symbol_at, number_at, keyword_at, closed_at, values_on, span_of, level_of, event_of, noevent_of, most_at, occurs_of, hold_of, end_at, distance_of, values_of, differ_of, of_variable, variable_of, called_of, point_of, worded_of, inside_of, attribute_of, prompt_of, named_of, outside_of}
+use Rattle.crs_grammar.specs.GrammarLaws.{ReadIsMeant}
 use Rattle.crs_grammar.proofs.Gives.{then, cond_passed, cond_either, some_inj, same_pair, option_map_some, symbol_gives, sign_gives, number_gives, term_gives, closed_gives, comma_gives, arguments_give, pattern_gives, range_shape, hold_shape}
 use Rattle.crs_grammar.proofs.GivesAnchors.{anchor_gives}
 

@@ -5,7 +5,7 @@ use Rattle.crs_base.specs.Tokens.{Token, Word, Mark}
 use Rattle.crs_base.proofs.Texts.{same_bytes}
 use Rattle.crs_grammar.specs.Forms.{Part, Keyword, Sign, Symbol, Number, Gap, AreWritten, term_form, listed, symbol_form}
 use Rattle.crs_grammar.specs.Statements.{Term, Value, Variable, Any}
-use Rattle.crs_grammar.specs.Reading.{◌>>=◌, symbol_at, number_at, mark_at, keyword_at, closed_at, term_at, terms_on, values_on}
+use Rattle.crs_grammar.specs.TokenReading.{◌>>=◌, symbol_at, number_at, mark_at, keyword_at, closed_at, term_at, terms_on, values_on}
 
 -- an answer that is there, and what follows
 pub on : {A B : Type 0} (o : Option A) (x : A) (f : A → Option B) (y : Option B) → o ≡ Some x → f x ≡ y → (o >>= f) ≡ y

@@ -7,8 +7,8 @@ use Rattle.crs_base.specs.Numbers.{number_of, integer_of}
 use Rattle.crs_base.proofs.Texts.{bytes_same, same_bytes}
 use Rattle.crs_grammar.specs.Forms.{Part, Keyword, Sign, Symbol, Number, Integer, Gap, Missing, AreWritten, term_form, terms_form, change_form, pattern_form, shift_form, anchor_form, listed, symbol_form, values_form, level_form, values_in_form, low_part, high_part, most_part, body_form, span_form, begin_form, form_of}
 use Rattle.crs_grammar.specs.Statements.{Term, Pattern, Event, Shift, Here, Later, Earlier, Anchor, Body, NoEvent, Occurs, Hold, Distance, Statement, Message, Attribute, Begin, Happens, Point, Between, Among, Differ, Over, Close, is_inside}
-use Rattle.crs_grammar.specs.Reading.{◌>>=◌, whole, symbol_at, number_at, mark_at, keyword_at, terms_on, arguments_at, pair_at, change_at, pattern_at, shift_at, anchor_at, span_of, level_of, event_of, noevent_of, most_at, occurs_of, hold_of, end_at, distance_of, values_of, differ_of, of_variable, variable_of, called_of, point_of, worded_of, inside_of, attribute_of, prompt_of, named_of, outside_of}
-use Rattle.crs_grammar.specs.Laws.{MeantIsRead}
+use Rattle.crs_grammar.specs.TokenReading.{◌>>=◌, whole, symbol_at, number_at, mark_at, keyword_at, terms_on, arguments_at, pair_at, change_at, pattern_at, shift_at, anchor_at, span_of, level_of, event_of, noevent_of, most_at, occurs_of, hold_of, end_at, distance_of, values_of, differ_of, of_variable, variable_of, called_of, point_of, worded_of, inside_of, attribute_of, prompt_of, named_of, outside_of}
+use Rattle.crs_grammar.specs.GrammarLaws.{MeantIsRead}
 use Rattle.crs_grammar.proofs.Takes.{on, Listed, symbol_takes, number_takes, sign_takes, keyword_takes, term_takes, terms_take, values_take}
 use Rattle.crs_grammar.proofs.Gives.{range_shape}
 

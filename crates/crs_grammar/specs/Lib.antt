@@ -1,8 +1,8 @@
-pub mod SeenTokens
+pub mod GrammarTokens
 pub mod Statements
 pub mod SeenStatements
 pub mod Forms
-pub mod Reading
+pub mod TokenReading
 pub mod Gives
 pub mod Canon
-pub mod Laws
+pub mod GrammarLaws

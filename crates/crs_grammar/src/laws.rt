@@ -1,5 +1,5 @@
 //! Laws about the definitions.
-ghost use Rattle.crs_grammar.specs.Laws as laws;
+ghost use Rattle.crs_grammar.specs.GrammarLaws as laws;
 
 /// What is read from the tokens of a line is exactly what they mean by the table of statements.
 pub fn read_is_what_is_meant()

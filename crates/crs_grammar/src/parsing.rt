@@ -1,7 +1,7 @@
 ghost use Rattle.std.specs.Prelude.{◌<◌, map};
 ghost use Rattle.crs_grammar.specs.Gives.{Gives};
-ghost use Rattle.crs_grammar.specs.Reading.{symbol_at, number_at, mark_at, whole, term_at, closed_at, terms_on, values_on, arguments_at, pair_at, change_at, pattern_at, shift_at, anchor_at, span_of, level_of, event_of, noevent_of, most_at, occurs_of, hold_of, keyword_at, end_at, distance_of, values_of, differ_of, of_variable, variable_of, called_of, point_of, worded_of, inside_of, attribute_of, prompt_of, named_of, outside_of, statement_of};
-ghost use Rattle.crs_grammar.specs.SeenTokens.{seen};
+ghost use Rattle.crs_grammar.specs.TokenReading.{symbol_at, number_at, mark_at, whole, term_at, closed_at, terms_on, values_on, arguments_at, pair_at, change_at, pattern_at, shift_at, anchor_at, span_of, level_of, event_of, noevent_of, most_at, occurs_of, hold_of, keyword_at, end_at, distance_of, values_of, differ_of, of_variable, variable_of, called_of, point_of, worded_of, inside_of, attribute_of, prompt_of, named_of, outside_of, statement_of};
+ghost use Rattle.crs_grammar.specs.GrammarTokens.{seen};
 ghost use Rattle.crs_grammar.specs.SeenStatements as see;
 ghost use Rattle.crs_grammar.specs.Statements as said;
 
@@ -43,7 +43,7 @@ fn mark<'t, 'a>(tokens: &'t [Token<'a>], wanted: u8) -> Result<&'t [Token<'a>], 
     }
 }
 
-#[tactic(auto, unfolding(crate::specs::Reading::term_at))]
+#[tactic(auto, unfolding(crate::specs::TokenReading::term_at))]
 fn term<'t, 'a>(tokens: &'t [Token<'a>]) -> Result<(Term<'a>, &'t [Token<'a>]), Unread>
     ensures { Gives (λ x. (see.term_of x.0, seen x.1.now)) result (term_at (seen tokens.now)) }
 {
@@ -70,7 +70,7 @@ fn closed<'t, 'a>(tokens: &'t [Token<'a>], bracket: u8) -> Result<(bool, &'t [To
 }
 
 /// Adds at most `most` terms parted by commas, up to a `]`.
-#[tactic(auto, unfolding(crate::specs::Reading::terms_on))]
+#[tactic(auto, unfolding(crate::specs::TokenReading::terms_on))]
 fn push_terms<'t, 'a>(
     terms: &mut Vec<Term<'a>>,
     most: usize,
@@ -91,7 +91,7 @@ fn push_terms<'t, 'a>(
 }
 
 /// Adds at most `most` symbols parted by commas, up to a `)`.
-#[tactic(auto, unfolding(crate::specs::Reading::values_on))]
+#[tactic(auto, unfolding(crate::specs::TokenReading::values_on))]
 fn push_values<'t, 'a>(
     values: &mut Vec<&'a [u8]>,
     most: usize,
@@ -111,7 +111,7 @@ fn push_values<'t, 'a>(
     push_values(values, most - 1, rest)
 }
 
-#[tactic(auto, unfolding(crate::specs::Reading::arguments_at))]
+#[tactic(auto, unfolding(crate::specs::TokenReading::arguments_at))]
 fn arguments<'t, 'a>(
     alloc: Global,
     tokens: &'t [Token<'a>],
@@ -128,7 +128,7 @@ fn arguments<'t, 'a>(
     }
 }
 
-#[tactic(auto, unfolding(crate::specs::Reading::pair_at))]
+#[tactic(auto, unfolding(crate::specs::TokenReading::pair_at))]
 fn pair<'t, 'a>(tokens: &'t [Token<'a>]) -> Result<((Term<'a>, Term<'a>), &'t [Token<'a>]), Unread>
     ensures { Gives (λ x. ((see.term_of x.0.0, see.term_of x.0.1), seen x.1.now)) result (pair_at (seen tokens.now)) }
 {
@@ -139,7 +139,7 @@ fn pair<'t, 'a>(tokens: &'t [Token<'a>]) -> Result<((Term<'a>, Term<'a>), &'t [T
     Ok(((old, new), rest))
 }
 
-#[tactic(auto, unfolding(crate::specs::Reading::change_at))]
+#[tactic(auto, unfolding(crate::specs::TokenReading::change_at))]
 fn change<'t, 'a>(
     tokens: &'t [Token<'a>],
 ) -> Result<(Option<(Term<'a>, Term<'a>)>, &'t [Token<'a>]), Unread>
@@ -155,7 +155,7 @@ fn change<'t, 'a>(
     }
 }
 
-#[tactic(auto, unfolding(crate::specs::Reading::pattern_at))]
+#[tactic(auto, unfolding(crate::specs::TokenReading::pattern_at))]
 fn pattern<'t, 'a>(
     alloc: Global,
     tokens: &'t [Token<'a>],
@@ -175,7 +175,7 @@ fn pattern<'t, 'a>(
     ))
 }
 
-#[tactic(auto, unfolding(crate::specs::Reading::shift_at))]
+#[tactic(auto, unfolding(crate::specs::TokenReading::shift_at))]
 fn shift<'t, 'a>(tokens: &'t [Token<'a>]) -> Result<(Shift, &'t [Token<'a>]), Unread>
     ensures { Gives (λ x. (see.shift_of x.0, seen x.1.now)) result (shift_at (seen tokens.now)) }
 {
@@ -192,7 +192,7 @@ fn shift<'t, 'a>(tokens: &'t [Token<'a>]) -> Result<(Shift, &'t [Token<'a>]), Un
     }
 }
 
-#[tactic(auto, unfolding(crate::specs::Reading::anchor_at))]
+#[tactic(auto, unfolding(crate::specs::TokenReading::anchor_at))]
 fn anchor<'t, 'a>(tokens: &'t [Token<'a>]) -> Result<(Anchor<'a>, &'t [Token<'a>]), Unread>
     ensures { Gives (λ x. (see.anchor_of x.0, seen x.1.now)) result (anchor_at (seen tokens.now)) }
 {
@@ -212,7 +212,7 @@ fn whole<'a>(statement: Statement<'a>, rest: &[Token<'a>]) -> Result<Statement<'
 }
 
 /// A window's range, and the end of the statement.
-#[tactic(auto, unfolding(crate::specs::Reading::span_of))]
+#[tactic(auto, unfolding(crate::specs::TokenReading::span_of))]
 fn range<'a>(tokens: &[Token<'a>]) -> Result<(Anchor<'a>, Anchor<'a>), Unread>
     ensures { (body : said.Body) → Gives (λ x. said.Over (record { body = body; from = see.anchor_of x.0; to = see.anchor_of x.1 })) result (span_of body (seen tokens.now)) }
 {
@@ -237,7 +237,7 @@ fn window<'a>(body: Body<'a>, tokens: &[Token<'a>]) -> Result<Statement<'a>, Unr
     Ok(Statement::Over(Window { body, from, to }))
 }
 
-#[tactic(auto, unfolding(crate::specs::Reading::level_of))]
+#[tactic(auto, unfolding(crate::specs::TokenReading::level_of))]
 fn level(tokens: &[Token<'_>]) -> Result<Option<u64>, Unread>
     ensures { Gives (λ x. x) result (level_of (seen tokens.now)) }
 {
@@ -253,7 +253,7 @@ fn level(tokens: &[Token<'_>]) -> Result<Option<u64>, Unread>
     }
 }
 
-#[tactic(auto, unfolding(crate::specs::Reading::event_of))]
+#[tactic(auto, unfolding(crate::specs::TokenReading::event_of))]
 fn event<'a>(alloc: Global, tokens: &[Token<'a>]) -> Result<Statement<'a>, Unread>
     ensures { Gives see.statement_of result (event_of (seen tokens.now)) }
 {
@@ -269,7 +269,7 @@ fn event<'a>(alloc: Global, tokens: &[Token<'a>]) -> Result<Statement<'a>, Unrea
     }))
 }
 
-#[tactic(auto, unfolding(crate::specs::Reading::noevent_of))]
+#[tactic(auto, unfolding(crate::specs::TokenReading::noevent_of))]
 fn noevent<'a>(alloc: Global, tokens: &[Token<'a>]) -> Result<Statement<'a>, Unread>
     ensures { Gives see.statement_of result (noevent_of (seen tokens.now)) }
 {
@@ -278,7 +278,7 @@ fn noevent<'a>(alloc: Global, tokens: &[Token<'a>]) -> Result<Statement<'a>, Unr
 }
 
 /// A number, or `inf`.
-#[tactic(auto, unfolding(crate::specs::Reading::most_at))]
+#[tactic(auto, unfolding(crate::specs::TokenReading::most_at))]
 fn most<'t, 'a>(tokens: &'t [Token<'a>]) -> Result<(Option<u64>, &'t [Token<'a>]), Unread>
     ensures { Gives (λ x. (x.0, seen x.1.now)) result (most_at (seen tokens.now)) }
 {
@@ -291,7 +291,7 @@ fn most<'t, 'a>(tokens: &'t [Token<'a>]) -> Result<(Option<u64>, &'t [Token<'a>]
     }
 }
 
-#[tactic(auto, unfolding(crate::specs::Reading::occurs_of))]
+#[tactic(auto, unfolding(crate::specs::TokenReading::occurs_of))]
 fn occurs<'a>(alloc: Global, tokens: &[Token<'a>]) -> Result<Statement<'a>, Unread>
     ensures { Gives see.statement_of result (occurs_of (seen tokens.now)) }
 {
@@ -305,7 +305,7 @@ fn occurs<'a>(alloc: Global, tokens: &[Token<'a>]) -> Result<Statement<'a>, Unre
     window(Body::Occurs(least, most, pattern), rest)
 }
 
-#[tactic(auto, unfolding(crate::specs::Reading::hold_of))]
+#[tactic(auto, unfolding(crate::specs::TokenReading::hold_of))]
 fn hold<'a>(alloc: Global, tokens: &[Token<'a>]) -> Result<Statement<'a>, Unread>
     ensures { Gives see.statement_of result (hold_of (seen tokens.now)) }
 {
@@ -317,7 +317,7 @@ fn hold<'a>(alloc: Global, tokens: &[Token<'a>]) -> Result<Statement<'a>, Unread
 }
 
 /// A whole number, or the word for none.
-#[tactic(auto, unfolding(crate::specs::Reading::end_at))]
+#[tactic(auto, unfolding(crate::specs::TokenReading::end_at))]
 fn end<'t, 'a>(
     tokens: &'t [Token<'a>],
     infinite: &[u8],
@@ -348,7 +348,7 @@ fn keyword<'t, 'a>(tokens: &'t [Token<'a>], wanted: &[u8]) -> Result<&'t [Token<
 }
 
 /// The bound statement whose first point stands in front of these tokens.
-#[tactic(auto, unfolding(crate::specs::Reading::distance_of))]
+#[tactic(auto, unfolding(crate::specs::TokenReading::distance_of))]
 fn distance<'a>(to: &'a [u8], tokens: &[Token<'a>]) -> Result<Statement<'a>, Unread>
     ensures { Gives see.statement_of result (distance_of to.now (seen tokens.now)) }
 {
@@ -375,7 +375,7 @@ fn distance<'a>(to: &'a [u8], tokens: &[Token<'a>]) -> Result<Statement<'a>, Unr
 }
 
 /// Values in brackets, and nothing behind them.
-#[tactic(auto, unfolding(crate::specs::Reading::values_of))]
+#[tactic(auto, unfolding(crate::specs::TokenReading::values_of))]
 fn all_values<'a>(alloc: Global, tokens: &[Token<'a>]) -> Result<Vec<&'a [u8]>, Unread>
     ensures { Gives (λ x. map (λ v. v.now) x.items) result (values_of (seen tokens.now)) }
 {
@@ -389,7 +389,7 @@ fn all_values<'a>(alloc: Global, tokens: &[Token<'a>]) -> Result<Vec<&'a [u8]>, 
     }
 }
 
-#[tactic(auto, unfolding(crate::specs::Reading::differ_of))]
+#[tactic(auto, unfolding(crate::specs::TokenReading::differ_of))]
 fn differ<'a>(name: &'a [u8], tokens: &[Token<'a>]) -> Result<Statement<'a>, Unread>
     ensures { Gives see.statement_of result (differ_of name.now (seen tokens.now)) }
 {
@@ -398,7 +398,7 @@ fn differ<'a>(name: &'a [u8], tokens: &[Token<'a>]) -> Result<Statement<'a>, Unr
     whole(Statement::Differ(name, other), rest)
 }
 
-#[tactic(auto, unfolding(crate::specs::Reading::of_variable))]
+#[tactic(auto, unfolding(crate::specs::TokenReading::of_variable))]
 fn of_variable<'a>(
     alloc: Global,
     name: &'a [u8],
@@ -416,7 +416,7 @@ fn of_variable<'a>(
     }
 }
 
-#[tactic(auto, unfolding(crate::specs::Reading::variable_of))]
+#[tactic(auto, unfolding(crate::specs::TokenReading::variable_of))]
 fn variable<'a>(alloc: Global, tokens: &[Token<'a>]) -> Result<Statement<'a>, Unread>
     ensures { Gives see.statement_of result (variable_of (seen tokens.now)) }
 {
@@ -424,7 +424,7 @@ fn variable<'a>(alloc: Global, tokens: &[Token<'a>]) -> Result<Statement<'a>, Un
     of_variable(alloc, name, rest)
 }
 
-#[tactic(auto, unfolding(crate::specs::Reading::called_of))]
+#[tactic(auto, unfolding(crate::specs::TokenReading::called_of))]
 fn called<'a>(alloc: Global, name: &[u8], tokens: &[Token<'a>]) -> Result<Statement<'a>, Unread>
     ensures { Gives see.statement_of result (called_of name.now (seen tokens.now)) }
 {
@@ -442,7 +442,7 @@ fn called<'a>(alloc: Global, name: &[u8], tokens: &[Token<'a>]) -> Result<Statem
 }
 
 /// A free point, or nothing.
-#[tactic(auto, unfolding(crate::specs::Reading::point_of))]
+#[tactic(auto, unfolding(crate::specs::TokenReading::point_of))]
 fn point<'a>(keyword: &[u8], name: &'a [u8]) -> Result<Statement<'a>, Unread>
     ensures { Gives see.statement_of result (point_of keyword.now name.now) }
 {
@@ -454,7 +454,7 @@ fn point<'a>(keyword: &[u8], name: &'a [u8]) -> Result<Statement<'a>, Unread>
 }
 
 /// A statement inside a chronicle that begins with a word.
-#[tactic(auto, unfolding(crate::specs::Reading::worded_of))]
+#[tactic(auto, unfolding(crate::specs::TokenReading::worded_of))]
 fn worded<'a>(alloc: Global, word: &'a [u8], tokens: &[Token<'a>]) -> Result<Statement<'a>, Unread>
     ensures { Gives see.statement_of result (worded_of word.now (seen tokens.now)) }
 {
@@ -467,7 +467,7 @@ fn worded<'a>(alloc: Global, word: &'a [u8], tokens: &[Token<'a>]) -> Result<Sta
 }
 
 /// A statement inside a chronicle.
-#[tactic(auto, unfolding(crate::specs::Reading::inside_of))]
+#[tactic(auto, unfolding(crate::specs::TokenReading::inside_of))]
 pub fn inside<'a>(alloc: Global, tokens: &[Token<'a>]) -> Result<Statement<'a>, Unread>
     ensures { Gives see.statement_of result (inside_of (seen tokens.now)) }
 {
@@ -489,7 +489,7 @@ fn declared<'a>(declaration: Declaration<'a>, rest: &[Token<'a>]) -> Result<Decl
     }
 }
 
-#[tactic(auto, unfolding(crate::specs::Reading::attribute_of))]
+#[tactic(auto, unfolding(crate::specs::TokenReading::attribute_of))]
 fn attribute<'a>(
     alloc: Global,
     name: &'a [u8],
@@ -508,7 +508,7 @@ fn attribute<'a>(
 }
 
 /// A statement outside all chronicles.
-#[tactic(auto, unfolding(crate::specs::Reading::outside_of))]
+#[tactic(auto, unfolding(crate::specs::TokenReading::outside_of))]
 pub fn outside<'a>(alloc: Global, tokens: &[Token<'a>]) -> Result<Declaration<'a>, Unread>
     ensures { Gives see.declaration_of result (outside_of (seen tokens.now)) }
 {
@@ -535,7 +535,7 @@ fn begun<'a>(is_prompt: bool, name: &'a [u8], rest: &[Token<'a>]) -> Result<Decl
 }
 
 /// The rest of the first line of a prompt chronicle, behind its first word.
-#[tactic(auto, unfolding(crate::specs::Reading::prompt_of))]
+#[tactic(auto, unfolding(crate::specs::TokenReading::prompt_of))]
 fn prompt<'a>(word: &[u8], tokens: &[Token<'a>]) -> Result<Declaration<'a>, Unread>
     ensures { Gives see.declaration_of result (prompt_of word.now (seen tokens.now)) }
 {
@@ -547,7 +547,7 @@ fn prompt<'a>(word: &[u8], tokens: &[Token<'a>]) -> Result<Declaration<'a>, Unre
     begun(true, name, rest)
 }
 
-#[tactic(auto, unfolding(crate::specs::Reading::named_of))]
+#[tactic(auto, unfolding(crate::specs::TokenReading::named_of))]
 fn named<'a>(
     alloc: Global,
     keyword: &[u8],

@@ -2,7 +2,7 @@
 ghost use Rattle.std.specs.Prelude.{◌≡◌, ◌≤◌, length, IfOk, option_map};
 ghost use Rattle.crs_base.specs.SeenTokens as places;
 ghost use Rattle.crs_base.specs.Tokens.{tokens_of, is_model_mark};
-ghost use Rattle.crs_grammar.specs.SeenTokens.{seen, token_of};
+ghost use Rattle.crs_grammar.specs.GrammarTokens.{seen, token_of};
 
 use crs_base as base;
 use crs_base::{Marks, read_tokens, word_bytes};

@@ -14,7 +14,7 @@ use Rattle.crs_base.specs.Entry.{Entry, entry_cmp, IsInKeyOrder}
 use Rattle.crs_base.proofs.Words.{in_from_each}
 use Rattle.crs_base.proofs.KeyOrder.{entry_total}
 use Rattle.crs_history.specs.declared.held.Held.{Held}
-use Rattle.crs_history.specs.Held.{held_cmp, entry_in, entries_in}
+use Rattle.crs_history.specs.KeptOrder.{held_cmp, entry_in, entries_in}
 use Rattle.crs_history.specs.Changed.{ChangedState}
 use Rattle.crs_history.specs.Dropping.{Drops}
 use Rattle.crs_history.proofs.Left.{sifts_all, drops_none}

@@ -8,7 +8,7 @@ use Rattle.std.specs.BTreeMap.{is_at}
 use Rattle.crs_base.specs.declared.symbols.Sym.{Sym}
 use Rattle.crs_base.proofs.KeyOrder.{both_tie}
 use Rattle.crs_history.specs.declared.numbers.Step.{Step}
-use Rattle.crs_history.specs.Numbers.{step_cmp, Steps, count_of, step_of, led, number_from, IsNumbering, Grows}
+use Rattle.crs_history.specs.ListNumbers.{step_cmp, Steps, count_of, step_of, led, number_from, IsNumbering, Grows}
 
 equal_of : (o : Ordering) → is_eq o ≡ true → o ≡ Equal
 equal_of Less h = absurd (cc)

@@ -5,7 +5,7 @@ use Rattle.crs_base.specs.declared.symbols.Sym.{Sym}
 use Rattle.crs_base.specs.Entry.{Entry}
 use Rattle.crs_base.specs.Values.{Attribute}
 use Rattle.crs_history.specs.Lanes.{AreAlike, IsSetTo}
-use Rattle.crs_history.specs.Numbers.{Steps, count_of, IsNumbering, Grows}
+use Rattle.crs_history.specs.ListNumbers.{Steps, count_of, IsNumbering, Grows}
 use Rattle.crs_history.specs.Tracks.{TracksState, number_of, track_at, AreTracks, AreSame, IsTrackSetTo}
 use Rattle.crs_history.proofs.Numbering.{number_within, number_once, number_kept, number_fresh, some_not, cons_is}
 

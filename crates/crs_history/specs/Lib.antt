@@ -2,9 +2,9 @@ pub mod Histories
 pub mod Dates
 pub mod Looking
 pub mod Lanes
-pub mod Numbers
+pub mod ListNumbers
 pub mod Tracks
-pub mod Held
+pub mod KeptOrder
 pub mod Dropping
 pub mod Changed
 pub mod Holdings

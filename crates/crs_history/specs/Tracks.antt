@@ -4,7 +4,7 @@ use Rattle.crs_base.specs.declared.symbols.Sym.{Sym}
 use Rattle.crs_base.specs.Entry.{Entry}
 use Rattle.crs_base.specs.Values.{Attribute}
 use Rattle.crs_history.specs.Lanes.{lane_of}
-use Rattle.crs_history.specs.Numbers.{Steps, IsNumbering, count_of, number_from}
+use Rattle.crs_history.specs.ListNumbers.{Steps, IsNumbering, count_of, number_from}
 
 -- the numbers of attributes, and the lists by number
 pub record TracksState : Type 0 where

@@ -26,7 +26,7 @@ impl Model for Changed {
     ghost use Rattle.std.specs.Prelude.{◌≤◌, length, take, drop};
     ghost use Rattle.crs_base.specs.Entry.{IsInKeyOrder};
     ghost use Rattle.crs_history.specs.Changed.{ChangedState};
-    ghost use Rattle.crs_history.specs.Held.{entries_in};
+    ghost use Rattle.crs_history.specs.KeptOrder.{entries_in};
 
     ghost Value = { ChangedState };
 

@@ -2,7 +2,7 @@ ghost use Rattle.std.proofs.Common.{rules};
 ghost use Rattle.std.specs.Cmp.{partial_order_from_total, partial_equiv_from_equiv, eq_by_cmp_equiv};
 ghost use Rattle.std.specs.Cmp.Rules.{comparing};
 ghost use Rattle.std.specs.Ordering.{as_partial_cmp, eq_by_cmp};
-ghost use Rattle.crs_history.specs.Held.{held_cmp, held_total};
+ghost use Rattle.crs_history.specs.KeptOrder.{held_cmp, held_total};
 
 use crs_base::Entry;
 use std::cmp::Ordering;

@@ -1,5 +1,5 @@
 ghost use Rattle.std.specs.Prelude.{◌≡◌, ◌≤◌, Some, IfOk};
-ghost use Rattle.crs_history.specs.Numbers.{IsNumbering, Grows, count_of, step_of, number_from};
+ghost use Rattle.crs_history.specs.ListNumbers.{IsNumbering, Grows, count_of, step_of, number_from};
 
 use crs_base::Sym;
 use std::alloc::AllocError;

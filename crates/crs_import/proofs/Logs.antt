@@ -6,8 +6,8 @@ use Rattle.crs_import.specs.declared.refusals.RowWord.{RowWord}
 use Rattle.crs_import.specs.declared.refusals.ImportRefused.{ImportRefused}
 use Rattle.crs_import.specs.declared.refusals.ImportRefused.TheVariants.{Csv, Row, Memory}
 use Rattle.crs_import.specs.Records.{Line, line_of, line_text}
-use Rattle.crs_import.specs.Reading.{rows_left, Found, Differs}
-use Rattle.crs_import.specs.Steps.{HasPushed}
+use Rattle.crs_import.specs.TableReading.{rows_left, Found, Differs}
+use Rattle.crs_import.specs.TableSteps.{HasPushed}
 use Rattle.crs_import.specs.Tables.{fields_at, log_of, onto}
 
 onto_onto : (a b : List ℕ) (log : Result (List ℕ) ImportRefused) → onto a (onto b log) ≡ onto (a ++ b) log

@@ -9,7 +9,7 @@ use Rattle.csv.specs.declared.error.ErrorKind.{ErrorKind}
 use Rattle.csv.specs.declared.error.ErrorKind.TheVariants as kind
 use Rattle.csv.proofs.ReadFacts.{rows-more, rows-end}
 use Rattle.crs_import.specs.Lengths.{is_lengths}
-use Rattle.crs_import.specs.Reading.{IsReading, Found, Took, Differs}
+use Rattle.crs_import.specs.TableReading.{IsReading, Found, Took, Differs}
 use Rattle.crs_import.proofs.Records.{first_row, no_row}
 
 same_length : (o k : Option ℕ) (n : ℕ) → k ≡ Some n → IfSome o (λ e. k ≡ Some e) → IfSome o (λ e. n ≡ e)

@@ -1,8 +1,8 @@
 pub mod Records
-pub mod Seen
-pub mod Reading
+pub mod SeenTables
+pub mod TableReading
 pub mod Tables
 pub mod Lengths
-pub mod Steps
-pub mod Laws
-pub mod Refusals
+pub mod TableSteps
+pub mod TableLaws
+pub mod TableRefusals

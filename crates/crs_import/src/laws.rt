@@ -1,4 +1,4 @@
-ghost use Rattle.crs_import.specs.Laws.{RecordsAreAll};
+ghost use Rattle.crs_import.specs.TableLaws.{RecordsAreAll};
 ghost use Rattle.std.specs.Prelude.{◌≡◌, Ok, Err, codes};
 ghost use Rattle.crs_import.specs.Tables.{table_log};
 ghost use Rattle.crs_import.specs.declared.refusals.RowWord.TheVariants.{Header};

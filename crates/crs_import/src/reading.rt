@@ -1,7 +1,7 @@
 ghost use Rattle.std.specs.Prelude.{◌≡◌, ◌⊎◌, Some, IfOk, IfErr};
 ghost use Rattle.csv.specs.Reading.{error_kind};
 ghost use Rattle.csv.specs.Records.{fields_of};
-ghost use Rattle.crs_import.specs.Reading.{IsReading, Took, Differs};
+ghost use Rattle.crs_import.specs.TableReading.{IsReading, Took, Differs};
 ghost use Rattle.crs_import.specs.Lengths.{is_lengths};
 ghost use Rattle.crs_import.specs.declared.refusals.ImportRefused.TheVariants.{Csv, Memory};
 

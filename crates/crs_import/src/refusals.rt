@@ -1,5 +1,5 @@
 ghost use Rattle.std.specs.Prelude.{◌≡◌, ◌++◌, IfOk, OnOk};
-ghost use Rattle.crs_import.specs.Refusals.{word_text, record_line, refusal_line};
+ghost use Rattle.crs_import.specs.TableRefusals.{word_text, record_line, refusal_line};
 ghost use Rattle.crs_import.specs.declared.refusals.ImportRefused.TheVariants.{Memory};
 
 use crs_base::{Text, push_bytes, push_number};

@@ -2,7 +2,7 @@ ghost use Rattle.std.specs.Prelude.{◌≡◌, ◌≤◌, ◌+◌, ◌∷◌, []
 ghost use Rattle.std.specs.List.{list_all};
 ghost use Rattle.crs_base.specs.Symbols.{is_symbol};
 ghost use Rattle.crs_import.specs.Records.{date_of, parts, args_of, are_args, is_empty, has_no_name, event_line, change_line, clock_line, delay_line, end_line, line_of};
-ghost use Rattle.crs_import.specs.Seen.{fields_seen, line_seen};
+ghost use Rattle.crs_import.specs.SeenTables.{fields_seen, line_seen};
 
 use crate::RowWord;
 use crs_base::{is_symbol, number};

@@ -1,10 +1,10 @@
 ghost use Rattle.std.specs.Prelude.{◌≡◌, ◌⊎◌, ◌++◌, [], get_or, Some, None, Ok, Err, IfOk, IfErr, OnOk};
 ghost use Rattle.csv.specs.Reading.{expected_len};
 ghost use Rattle.csv.specs.Records.{fields_of, field_at};
-ghost use Rattle.crs_import.specs.Reading.{IsReading, rows_left};
-ghost use Rattle.crs_import.specs.Seen.{fields_seen};
+ghost use Rattle.crs_import.specs.TableReading.{IsReading, rows_left};
+ghost use Rattle.crs_import.specs.SeenTables.{fields_seen};
 ghost use Rattle.crs_import.specs.Tables.{fields_at, are_titles, is_header, log_of, headed, table_log};
-ghost use Rattle.crs_import.specs.Steps.{IsHeaded, PushesRow};
+ghost use Rattle.crs_import.specs.TableSteps.{IsHeaded, PushesRow};
 ghost use Rattle.crs_import.specs.declared.refusals.ImportRefused.TheVariants.{Memory};
 
 use crate::reading::next_record;

@@ -1,7 +1,7 @@
 ghost use Rattle.std.specs.Prelude.{◌≡◌, ◌∷◌, [], ◌++◌, OnOk, codes, decimal, option_map};
 ghost use Rattle.crs_base.specs.Entry.{args_text, change_text, canonical};
 ghost use Rattle.crs_import.specs.Records.{args_of, line_text, with_comma};
-ghost use Rattle.crs_import.specs.Seen.{line_seen};
+ghost use Rattle.crs_import.specs.SeenTables.{line_seen};
 
 use crate::rows::Statement;
 use crs_base::{push_bytes, push_number};

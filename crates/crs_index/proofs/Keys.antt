@@ -8,7 +8,7 @@ use Rattle.std.specs.declared.cmp.Ordering.TheVariants.{Less, Equal, Greater}
 use Rattle.std.proofs.lemmas.Cmp.{nat_cmp_total, on_total, then_total, tied_itself}
 use Rattle.std.proofs.lemmas.Map.Lookups.{exact_unsigned}
 use Rattle.crs_index.specs.declared.key.Key.{Key}
-use Rattle.crs_index.specs.Numbers.{compare_keys, is_key}
+use Rattle.crs_index.specs.KeyNumbers.{compare_keys, is_key}
 
 keys_total : IsTotalOrder compare_keys
 keys_total = then_total (on_total (λ k. k.class) nat_cmp_total) (then_total (on_total (λ k. k.first) nat_cmp_total) (then_total (on_total (λ k. k.second) nat_cmp_total) (on_total (λ k. k.third) nat_cmp_total)))

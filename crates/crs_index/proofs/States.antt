@@ -10,7 +10,7 @@ use Rattle.std.specs.declared.option.Option.TheVariants.{None, Some}
 use Rattle.crs_agenda.specs.declared.timed.Handle.{Handle}
 use Rattle.crs_agenda.specs.Freshness.{is_fresh}
 use Rattle.crs_index.specs.declared.key.Key.{Key}
-use Rattle.crs_index.specs.Numbers.{NumbersState, number_in, is_key}
+use Rattle.crs_index.specs.KeyNumbers.{NumbersState, number_in, is_key}
 use Rattle.crs_index.specs.Indexes.{IndexState, IsSound, IsSame, IsFree, AreFree, IsKept, OpensBucket, Puts, Cleans, bucket_at, handles_at, bucket_of, number_of}
 use Rattle.crs_index.proofs.Keys.{key_or_not, apart_from}
 use Rattle.crs_index.proofs.Tables.{more_default}

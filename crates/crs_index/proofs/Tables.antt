@@ -4,7 +4,7 @@ use Rattle.std.proofs.Math.ListN.{set}
 use Rattle.std.proofs.lemmas.List.{length-map, get_or-map, get_or-set_same, get_or-set_other, map-set}
 use Rattle.std.proofs.lemmas.Bool.{cases_eq}
 use Rattle.std.specs.declared.vec.Vec.{Vec}
-use Rattle.crs_index.specs.Numbers.{slot, table}
+use Rattle.crs_index.specs.KeyNumbers.{slot, table}
 
 abbrev pub Row : Type 0
 Row = Vec ℕ Global

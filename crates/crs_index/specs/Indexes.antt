@@ -7,7 +7,7 @@ use Rattle.std.specs.declared.option.Option.TheVariants.{None, Some}
 use Rattle.crs_agenda.specs.declared.timed.Handle.{Handle}
 use Rattle.crs_agenda.specs.Freshness.{is_fresh}
 use Rattle.crs_index.specs.declared.key.Key.{Key}
-use Rattle.crs_index.specs.Numbers.{NumbersState, number_in}
+use Rattle.crs_index.specs.KeyNumbers.{NumbersState, number_in}
 
 -- an index, as contracts see it
 pub record IndexState : Type 0 where

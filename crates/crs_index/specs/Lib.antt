@@ -1,3 +1,3 @@
 pub mod Indexes
-pub mod Numbers
+pub mod KeyNumbers
 pub mod Rows

@@ -1,6 +1,6 @@
 //! Handles by key.
 ghost use Rattle.std.specs.Prelude.{◌≡◌, ◌<◌, [], length, OnOk, OnErr, IfOk, IfSome, Some};
-ghost use Rattle.crs_index.specs.Numbers.{number_in};
+ghost use Rattle.crs_index.specs.KeyNumbers.{number_in};
 ghost use Rattle.crs_index.specs.Indexes.{bucket_at, bucket_of, number_of, IsSame, IsSound, Puts, Cleans, Sweeps};
 ghost use Rattle.crs_index.specs.Rows.{rows};
 

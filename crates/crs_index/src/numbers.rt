@@ -1,7 +1,7 @@
 //! The number of each key's bucket.
 ghost use Rattle.std.specs.Prelude.{◌≡◌, ◌<◌, ◌^◌, [], ◌∷◌, length, map, vec_len, get_or, OnOk, OnErr, None, Some, false, true, suc};
 ghost use Rattle.std.specs.Map.{lookup};
-ghost use Rattle.crs_index.specs.Numbers.{is_direct, is_key, named, number_in, slot, table};
+ghost use Rattle.crs_index.specs.KeyNumbers.{is_direct, is_key, named, number_in, slot, table};
 
 use crate::buckets::is_bare;
 use crate::key::Key;
@@ -25,7 +25,7 @@ pub(crate) struct Numbers {
 }
 
 impl Model for Numbers {
-    ghost use Rattle.crs_index.specs.Numbers.{NumbersState, table};
+    ghost use Rattle.crs_index.specs.KeyNumbers.{NumbersState, table};
 
     ghost Value = { NumbersState };
 

@@ -17,7 +17,7 @@ use Rattle.crs_model.specs.Models.{EventDef}
 use Rattle.crs_model.specs.Partial.{Partial, at, put, dates_of}
 use Rattle.crs_model.specs.Bindings.{look_of, PatternIsBelow}
 use Rattle.crs_model.specs.Plans.{chronicle, IsProper}
-use Rattle.crs_model.specs.Seen.{event_of, pattern_of}
+use Rattle.crs_model.specs.SeenModels.{event_of, pattern_of}
 use Rattle.crs_model.proofs.Options.{some_if, none_if}
 use Rattle.crs_base.proofs.Words.{each_from_in}
 use Rattle.crs_instance.specs.Instances.{InstanceState, IsOf, IsInside, CanBe, window_at, no_window, no_progress, IsBoundBy}

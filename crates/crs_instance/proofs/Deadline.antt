@@ -10,7 +10,7 @@ use Rattle.crs_model.specs.declared.chronicle.EventDef.{EventDef as CodeEvent}
 use Rattle.crs_model.specs.declared.date_window.DateWindow.{DateWindow}
 use Rattle.crs_model.specs.Levels.{level_in}
 use Rattle.crs_model.specs.Partial.{at}
-use Rattle.crs_model.specs.Seen.{event_of}
+use Rattle.crs_model.specs.SeenModels.{event_of}
 use Rattle.crs_model.specs.Bits.{HasBits, is_set}
 use Rattle.crs_model.specs.Steps.{flat}
 use Rattle.crs_instance.specs.Instances.{InstanceState, IsDeadline, window_at}

@@ -14,7 +14,7 @@ use Rattle.crs_model.specs.declared.date_window.DateWindow.{DateWindow}
 use Rattle.crs_model.specs.Partial.{Partial, at, put}
 use Rattle.crs_instance.specs.declared.links.Known.{Known}
 use Rattle.crs_instance.specs.declared.links.Links.{Links, End}
-use Rattle.crs_instance.specs.Links.{partial_of, AreLinked, AreEarly, IsLink, known_in}
+use Rattle.crs_instance.specs.EntryLinks.{partial_of, AreLinked, AreEarly, IsLink, known_in}
 use Rattle.crs_instance.specs.Deadlines.{end_if}
 use Rattle.crs_instance.specs.Instances.{window_at, no_window}
 use Rattle.crs_instance.specs.Stored.{IsStored, last_of}

@@ -16,7 +16,7 @@ use Rattle.crs_instance.specs.declared.links.Links.{Links, End, Link'}
 use Rattle.crs_instance.specs.declared.links.Links.TheViews.{Link}
 use Rattle.crs_model.proofs.Options.{some_if}
 use Rattle.crs_instance.proofs.BindAnswers.{get-replicate}
-use Rattle.crs_instance.specs.Links.{partial_of, AreLinked, AreEarly, AreListed}
+use Rattle.crs_instance.specs.EntryLinks.{partial_of, AreLinked, AreEarly, AreListed}
 
 pub linked_len : (n : ℕ) (l : Links) → length (partial_of n l) ≡ n
 linked_len n (End known) = length-replicate n None

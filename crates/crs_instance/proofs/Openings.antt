@@ -12,7 +12,7 @@ use Rattle.crs_model.specs.Models.{EventDef}
 use Rattle.crs_model.specs.Bindings.{look_of, Looser}
 use Rattle.crs_model.specs.Partial.{Partial, at, IsPartial, IsLevelClosed, CanGoOn, EqualsAll, dates_of}
 use Rattle.crs_model.specs.Plans.{chronicle, IsProper}
-use Rattle.crs_model.specs.Seen.{event_of}
+use Rattle.crs_model.specs.SeenModels.{event_of}
 use Rattle.crs_model.specs.HasProgress.{NoneLostBy}
 use Rattle.crs_model.specs.Open.{IsOpen}
 use Rattle.crs_model.proofs.Options.{of_some, some_if}

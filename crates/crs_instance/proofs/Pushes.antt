@@ -19,7 +19,7 @@ use Rattle.crs_model.specs.Matching.{PatternIs, IsAllowed}
 use Rattle.crs_model.specs.Bindings.{look_of, IsLeastWith}
 use Rattle.crs_model.proofs.Least.{allowed_looser}
 use Rattle.crs_instance.specs.Instances.{window_at, no_window, IsBoundBy}
-use Rattle.crs_instance.specs.Links.{AreListed, seen_entries}
+use Rattle.crs_instance.specs.EntryLinks.{AreListed, seen_entries}
 use Rattle.crs_instance.specs.Narrowed.{IsNarrowed}
 use Rattle.std.proofs.Common.{map, take, true}
 use Rattle.std.specs.Prelude.{is_some}

@@ -10,7 +10,7 @@ use Rattle.crs_model.specs.Partial.{at}
 use Rattle.crs_model.specs.Plans.{chronicle, IsProper}
 use Rattle.crs_model.specs.ProperModels.{IsProperAnchor, IsProperWindow}
 use Rattle.crs_model.specs.declared.chronicle.Window.{Window as CodeWindow}
-use Rattle.crs_model.specs.Seen.{window_of}
+use Rattle.crs_model.specs.SeenModels.{window_of}
 use Rattle.crs_model.proofs.Opened.{in_place}
 use Rattle.crs_base.proofs.Words.{in_from_each}
 use Rattle.crs_model.specs.Verdicts.{IsStretch, BodyIsBound}

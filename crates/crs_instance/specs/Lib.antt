@@ -1,5 +1,5 @@
 pub mod Instances
-pub mod Links
+pub mod EntryLinks
 pub mod Spans
 pub mod Stored
 pub mod Deadlines

@@ -4,7 +4,7 @@ use Rattle.crs_stn.specs.DateWindow.{least_of}
 use Rattle.crs_model.specs.Bits.{HasBits, is_set}
 use Rattle.crs_model.specs.declared.date_window.DateWindow.{DateWindow}
 use Rattle.crs_instance.specs.declared.links.Links.{Links}
-use Rattle.crs_instance.specs.Links.{partial_of, AreLinked, AreEarly}
+use Rattle.crs_instance.specs.EntryLinks.{partial_of, AreLinked, AreEarly}
 use Rattle.crs_instance.specs.Deadlines.{end_if}
 use Rattle.crs_instance.specs.Instances.{window_at}
 

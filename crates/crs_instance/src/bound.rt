@@ -3,7 +3,7 @@ ghost use Rattle.std.specs.List.{AllByRecursion};
 ghost use Rattle.crs_base.specs.declared.symbols.Sym.{Sym};
 ghost use Rattle.crs_model.specs.Models.{Term as ModelTerm};
 ghost use Rattle.crs_model.specs.Bindings.{look_of};
-ghost use Rattle.crs_model.specs.Seen.{term_of, pattern_of, body_of};
+ghost use Rattle.crs_model.specs.SeenModels.{term_of, pattern_of, body_of};
 ghost use Rattle.crs_model.specs.Verdicts.{TermIsBound, PatternIsBound, BodyIsBound};
 
 use crs_model::{Binding, Body, Pattern, Term};

@@ -5,7 +5,7 @@ ghost use Rattle.crs_model.specs.Partial.{at, CanGoOn};
 ghost use Rattle.crs_model.specs.Bits.{HasBits};
 ghost use Rattle.crs_model.specs.Plans.{chronicle, IsProper};
 ghost use Rattle.crs_base.specs.Seen.{entry_of};
-ghost use Rattle.crs_model.specs.Seen.{pattern_of, chronicle_of};
+ghost use Rattle.crs_model.specs.SeenModels.{pattern_of, chronicle_of};
 ghost use Rattle.crs_model.specs.Bindings.{PatternIsBelow};
 ghost use Rattle.crs_model.specs.Steps.{flat};
 ghost use Rattle.crs_model.specs.Levels.{level_in};
@@ -48,7 +48,7 @@ pub struct Instance {
 
 impl Model for Instance {
     ghost use Rattle.crs_instance.specs.Instances.{InstanceState};
-    ghost use Rattle.crs_instance.specs.Links.{partial_of, known_in};
+    ghost use Rattle.crs_instance.specs.EntryLinks.{partial_of, known_in};
     ghost use Rattle.crs_instance.specs.Spans.{windows_of, end_of};
     ghost use Rattle.crs_instance.specs.Stored.{IsStored};
 

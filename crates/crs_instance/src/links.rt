@@ -2,7 +2,7 @@ ghost use Rattle.std.specs.Prelude.{◌≡◌, ◌≢◌, ◌<◌, ◌≤◌, �
 ghost use Rattle.std.specs.Option.{option_copied, option_to_list};
 ghost use Rattle.crs_model.specs.Partial.{at};
 ghost use Rattle.crs_instance.specs.Instances.{seen_entry};
-ghost use Rattle.crs_instance.specs.Links.{partial_of, AreLinked, AreEarly, AreListed, IsLink, seen_entries, known_in};
+ghost use Rattle.crs_instance.specs.EntryLinks.{partial_of, AreLinked, AreEarly, AreListed, IsLink, seen_entries, known_in};
 
 use crate::span::Span;
 use crs_base::{Entry, List};

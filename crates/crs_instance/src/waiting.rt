@@ -3,7 +3,7 @@ ghost use Rattle.crs_stn.specs.DateWindow.{least_of};
 ghost use Rattle.crs_stn.specs.Table.{most_of};
 ghost use Rattle.crs_model.specs.Levels.{level_in};
 ghost use Rattle.crs_model.specs.Plans.{chronicle};
-ghost use Rattle.crs_model.specs.Seen.{event_of};
+ghost use Rattle.crs_model.specs.SeenModels.{event_of};
 ghost use Rattle.crs_model.specs.Bits.{is_set};
 ghost use Rattle.crs_instance.specs.Deadlines.{end_if};
 ghost use Rattle.crs_instance.specs.Instances.{window_at};

@@ -4,7 +4,7 @@ ghost use Rattle.std.specs.List.{AllByRecursion};
 ghost use Rattle.crs_stn.specs.Bound.{IsWithin};
 ghost use Rattle.crs_model.specs.declared.models.Kind.TheVariants.{Message};
 ghost use Rattle.crs_model.specs.ProperModels.{IsProperBody, IsProperAnchor, IsProperChronicle, AreProper};
-ghost use Rattle.crs_model.specs.Seen.{name_of, chronicle_of, window_of, models_of};
+ghost use Rattle.crs_model.specs.SeenModels.{name_of, chronicle_of, window_of, models_of};
 ghost use Rattle.crs_compile.specs.Minimal.{IsPrintable};
 
 use crs_base::{List, Sym, Symbols, Text, is_symbol};

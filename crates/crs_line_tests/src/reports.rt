@@ -2,7 +2,7 @@
 ghost use Rattle.std.specs.Prelude.{◌≡◌, ◌<◌, IfOk, IsTrue, IsSomeAnd, [], ◌∷◌, length, map, Some};
 ghost use Rattle.std.specs.List.{AllByRecursion};
 ghost use Rattle.crs_model.specs.Bindings.{PatternIsBelow};
-ghost use Rattle.crs_model.specs.Seen.{chronicle_of, pattern_of};
+ghost use Rattle.crs_model.specs.SeenModels.{chronicle_of, pattern_of};
 ghost use Rattle.crs_report.specs.Printed.{chronicle_at, IsPrintable};
 
 use crs_base::{Entry, List, Steps, Sym, SymList, Symbols, Text, is_symbol};

@@ -16,7 +16,7 @@ use Rattle.crs_base.specs.Entry.{Entry}
 use Rattle.crs_base.specs.Seen.{entry_of}
 use Rattle.crs_base.specs.Symbols.{Table, with_texts}
 use Rattle.crs_model.specs.Models.{Kind, Name}
-use Rattle.crs_model.specs.Seen.{kind_of, name_of}
+use Rattle.crs_model.specs.SeenModels.{kind_of, name_of}
 use Rattle.crs_log.specs.Items.{Change}
 use Rattle.crs_log.specs.Known.{Verdict, Other, Named, BadArity, BadValue, new_texts}
 use Rattle.crs_model.specs.Renaming.{text_in, renamed_kind, renamed_name, renamed_entry, IsKindOf, IsNameOf, IsEntryOf}

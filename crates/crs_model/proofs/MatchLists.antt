@@ -5,7 +5,7 @@ use Rattle.std.specs.List.{AllZip}
 use Rattle.crs_base.specs.declared.symbols.Sym.{Sym}
 use Rattle.crs_model.specs.declared.pattern.Term.{Term as CodeTerm}
 use Rattle.crs_model.specs.Matching.{TermIs, ChangeIs}
-use Rattle.crs_model.specs.Seen.{term_of}
+use Rattle.crs_model.specs.SeenModels.{term_of}
 use Rattle.crs_model.specs.Bindings.{IsMatch}
 use Rattle.crs_model.proofs.Matches.{match_then}
 use Rattle.crs_model.proofs.Lost.{term_up}

@@ -18,7 +18,7 @@ use Rattle.crs_model.specs.Verdicts.{IsStretch}
 use Rattle.crs_model.specs.ProperModels.{IsProperWindow}
 use Rattle.crs_model.specs.Reach.{Bounds, IsReachOf}
 use Rattle.crs_model.specs.Plans.{chronicle, IsProper}
-use Rattle.crs_model.specs.Seen.{event_of}
+use Rattle.crs_model.specs.SeenModels.{event_of}
 use Rattle.crs_model.proofs.Options.{and_some}
 use Rattle.crs_model.proofs.Parts.{agrees_at}
 

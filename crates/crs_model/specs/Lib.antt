@@ -12,7 +12,7 @@ pub mod Scans
 pub mod Levels
 pub mod Proper
 pub mod ProperModels
-pub mod Seen
+pub mod SeenModels
 pub mod Bindings
 pub mod Held
 pub mod Reach

@@ -12,7 +12,7 @@ use Rattle.crs_model.specs.Proper.{IsNamed}
 use Rattle.crs_model.specs.ProperModels.{AreShort, IsProperChronicle}
 use Rattle.crs_model.specs.Reach.{IsReachOf, IsSmallSpan}
 use Rattle.crs_model.specs.Bindings.{PatternIsBelow}
-use Rattle.crs_model.specs.Seen.{chronicle_of}
+use Rattle.crs_model.specs.SeenModels.{chronicle_of}
 
 abbrev pub chronicle : Plan → Chronicle Sym
 chronicle p = chronicle_of p.chronicle

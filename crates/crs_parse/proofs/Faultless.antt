@@ -7,7 +7,7 @@ use Rattle.std.proofs.lemmas.Int.{ints}
 use Rattle.crs_model.specs.declared.models.ModelWord.{ModelWord}
 use Rattle.crs_grammar.specs.Statements.{Statement}
 use Rattle.crs_parse.specs.Faults.{Name, Written, first_of, faults_of, is_twice, has_no_name, has_wrong_arity, has_wrong_value, has_no_variable, has_no_point, is_out_of_bounds, has_any, passes_count, lacks_events, is_unbound, is_above, is_far}
-use Rattle.crs_parse.specs.Held.{IsNear}
+use Rattle.crs_parse.specs.HeldStatements.{IsNear}
 
 pub not_false : (a : Bool) → not a ≡ false → a ≡ true
 not_false true e = refl

@@ -4,13 +4,13 @@ use Rattle.crs_grammar.specs.Statements.{Heading, Statement, Message, Attribute,
 use Rattle.crs_base.specs.Lines.{Line, is_long, bytes_of, is_passed_over}
 use Rattle.crs_base.specs.Tokens.{Token, tokens_of, is_model_mark}
 use Rattle.crs_base.specs.Symbols.{with_texts}
-use Rattle.crs_grammar.specs.Reading.{◌>>=◌, inside_of, outside_of}
+use Rattle.crs_grammar.specs.TokenReading.{◌>>=◌, inside_of, outside_of}
 use Rattle.crs_parse.specs.Faults.{Name, Written, Reading, Fault, first_of, faults_of, own_fault, is_twice, has_no_name, has_wrong_arity, has_wrong_value, has_no_variable, has_no_point, is_out_of_bounds, has_any, passes_count, with_statement, symbols_of, begun, after, answered, after_statement, after_line, after_lines, unless_refused, nameless}
 use Rattle.crs_model.specs.declared.models.ModelWord.{ModelWord}
 use Rattle.crs_model.specs.declared.models.ModelWord.TheVariants.{Twice, Name as NameWord, Arity as ArityWord, Value as ValueWord, Variable as VariableWord, Point as PointWord, Bound as BoundWord, Window as WindowWord, Limit as LimitWord, Events as EventsWord, Unbound as UnboundWord}
 use Rattle.crs_model.specs.declared.models.ModelRefused.{ModelRefused}
 use Rattle.crs_model.specs.declared.models.ModelRefused.TheVariants as halts
-use Rattle.crs_parse.specs.Steps.{HaltsWith, reading_in, reading_out, IsInside, IsOutside, Declaring, declaring_of, declaring_outcome, with_name, begins, outside_line, passes, inside_line, Outcome, unless_fault, step_of, is_close, line_outcome, Closing, onward, until_close}
+use Rattle.crs_parse.specs.ModelSteps.{HaltsWith, reading_in, reading_out, IsInside, IsOutside, Declaring, declaring_of, declaring_outcome, with_name, begins, outside_line, passes, inside_line, Outcome, unless_fault, step_of, is_close, line_outcome, Closing, onward, until_close}
 
 abbrev or_fault : Option ModelWord → Option ModelWord → Option ModelWord
 or_fault None o = o

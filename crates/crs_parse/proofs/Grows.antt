@@ -7,7 +7,7 @@ use Rattle.crs_base.specs.Words.{IsIn}
 use Rattle.crs_base.specs.Symbols.{is_known, with_text}
 use Rattle.crs_base.proofs.Words.{in_append_left, in_append_right}
 use Rattle.crs_parse.specs.Grows.{Grows, AreAmong, read_symbols, line_symbols, lines_symbols}
-use Rattle.crs_parse.specs.Steps.{inside_line, outside_line}
+use Rattle.crs_parse.specs.ModelSteps.{inside_line, outside_line}
 use Rattle.crs_base.specs.Lines.{bytes_of}
 use Rattle.crs_base.proofs.Alls.{all_append, all_each}
 

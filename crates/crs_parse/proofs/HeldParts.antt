@@ -6,7 +6,7 @@ use Rattle.std.proofs.lemmas.Bool.{or_parts}
 use Rattle.crs_grammar.specs.Statements.{Term, Value, Variable, Any, Pattern, Event, Body, NoEvent, Occurs, Hold, Window, Distance, Heading, Statement, Message, Attribute, Begin, Happens, Point, Between, Among, Differ, Over, Close}
 use Rattle.crs_parse.specs.Faults.{Name, Written, symbols_of, term_symbols, terms_symbols, change_symbols, pattern_symbols, body_symbols, values_symbols, variable_in, variables_in, variables_of, change_terms, with_statement, is_full, is_above, is_below, is_any, body_has_any, has_any, has_wrong_counts, is_out_of_bounds, is_far, are_crossed, shift_size, begun, message_named, attribute_named}
 use Rattle.crs_parse.specs.Meant.{level_of}
-use Rattle.crs_parse.specs.Held.{IsHeld, AreHeld, IsHeldTerm, AreHeldTerms, IsHeldPattern, IsHeldEvent, IsHeldBody, IsFirmBody, IsHeldWindow, IsHeldSet, AreNear, IsHeldChronicle, IsHeldName}
+use Rattle.crs_parse.specs.HeldStatements.{IsHeld, AreHeld, IsHeldTerm, AreHeldTerms, IsHeldPattern, IsHeldEvent, IsHeldBody, IsFirmBody, IsHeldWindow, IsHeldSet, AreNear, IsHeldChronicle, IsHeldName}
 use Rattle.crs_base.proofs.WithTexts.{all_with}
 use Rattle.crs_parse.proofs.Faultless.{IsFaultless, not_le, not_lt, not_above, not_far}
 use Rattle.crs_base.proofs.Alls.{all_append, all_put, all_left, all_right}

@@ -8,11 +8,11 @@ use Rattle.crs_model.specs.declared.models.ModelWord.TheVariants.{Form as FormWo
 use Rattle.crs_base.specs.Lines.{Line, bytes_of, is_long, is_passed_over}
 use Rattle.crs_base.specs.Tokens.{Token, tokens_of, is_model_mark}
 use Rattle.crs_base.proofs.Alls.{all_put, all_each}
-use Rattle.crs_grammar.specs.Reading.{◌>>=◌, statement_of}
+use Rattle.crs_grammar.specs.TokenReading.{◌>>=◌, statement_of}
 use Rattle.crs_grammar.specs.Statements.{Statement, Message, Attribute, Begin, Happens, Point, Between, Among, Differ, Over, Close, is_inside}
 use Rattle.crs_parse.specs.Faults.{Written, Reading, Fault, first_of, faults_of, passes_symbols, symbols_of, message_named, attribute_named, opened, after, answered, after_statement, after_line, after_lines, unless_refused, nothing_read}
-use Rattle.crs_parse.specs.Held.{AreHeld, IsHeldChronicle, IsHeldName, IsHeldReading}
-use Rattle.crs_parse.specs.Steps.{HasSymbols}
+use Rattle.crs_parse.specs.HeldStatements.{AreHeld, IsHeldChronicle, IsHeldName, IsHeldReading}
+use Rattle.crs_parse.specs.ModelSteps.{HasSymbols}
 use Rattle.crs_base.proofs.WithTexts.{known_behind, known_put}
 use Rattle.crs_parse.proofs.Faultless.{IsFaultless, faultless}
 use Rattle.crs_parse.proofs.HeldParts.{chronicle_held, message_held, attribute_held, begun_held}

@@ -9,7 +9,7 @@ use Rattle.crs_model.specs.Renaming.{text_in, renamed_term, renamed_pattern, ren
 use Rattle.crs_grammar.specs.Statements.{Term, Value, Variable, Any, Pattern, Body, NoEvent, Occurs, Hold}
 use Rattle.crs_parse.specs.Faults.{Kind, OfMessage, OfAttribute, Written, Reading}
 use Rattle.crs_parse.specs.Meant.{term_of, change_of, pattern_of, event_of, body_of, window_of, set_of, points_of, chronicle_of, kind_of, name_of, models_in}
-use Rattle.crs_parse.specs.Held.{IsHeld, IsHeldTerm, AreHeldTerms, IsHeldPattern, IsHeldBody, IsHeldChronicle, IsHeldKind, IsHeldReading}
+use Rattle.crs_parse.specs.HeldStatements.{IsHeld, IsHeldTerm, AreHeldTerms, IsHeldPattern, IsHeldBody, IsHeldChronicle, IsHeldKind, IsHeldReading}
 
 module _ {A B : Type 0} (P : A → Type 0) (Q : B → Type 0) where
   -- what holds of what is made of each

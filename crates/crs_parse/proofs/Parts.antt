@@ -7,7 +7,7 @@ use Rattle.crs_parse.specs.declared.builder.Refused.TheVariants as refused
 use Rattle.crs_base.specs.Lines.{Line}
 use Rattle.crs_grammar.specs.Statements.{Heading}
 use Rattle.crs_parse.specs.Faults.{Name, Written, Fault, after_lines, unless_refused, begun}
-use Rattle.crs_parse.specs.Steps.{HaltsWith, FailsWith, halt_of, Moves, reading_out, reading_in, Declaring, declaring_outcome}
+use Rattle.crs_parse.specs.ModelSteps.{HaltsWith, FailsWith, halt_of, Moves, reading_out, reading_in, Declaring, declaring_outcome}
 use Rattle.crs_parse.proofs.Folds.{begun_or, carried_out, out_line_step}
 use Rattle.crs_parse.proofs.Premises.{is_outside_read}
 

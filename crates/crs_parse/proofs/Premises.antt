@@ -5,9 +5,9 @@ use Rattle.crs_base.specs.Symbols.{is_symbol}
 use Rattle.crs_base.specs.Tokens.{Token, Word, Mark, tokens_of, is_model_mark}
 use Rattle.crs_grammar.specs.Forms.{Part, Keyword, Sign, Symbol, Number, Integer, Gap, Missing, AreWritten, listed, symbol_form, values_form, term_form, terms_form, change_form, pattern_form, shift_form, anchor_form, level_form, values_in_form, low_part, high_part, most_part, body_form, span_form, begin_form, form_of}
 use Rattle.crs_grammar.specs.Statements.{Term, Value, Variable, Any, Pattern, Shift, Here, Later, Earlier, Anchor, Body, NoEvent, Occurs, Hold, Statement, Message, Attribute, Begin, Happens, Point, Between, Among, Differ, Over, Close}
-use Rattle.crs_grammar.specs.Reading.{◌>>=◌, inside_of, outside_of}
+use Rattle.crs_grammar.specs.TokenReading.{◌>>=◌, inside_of, outside_of}
 use Rattle.crs_parse.specs.Faults.{symbols_of, term_symbols, terms_symbols, change_symbols, pattern_symbols, body_symbols, values_symbols}
-use Rattle.crs_parse.specs.Steps.{AreRead, AreDeclared, IsInside, IsOutside, HasSymbols}
+use Rattle.crs_parse.specs.ModelSteps.{AreRead, AreDeclared, IsInside, IsOutside, HasSymbols}
 use Rattle.crs_grammar.proofs.GivesStatements.{read_is_meant}
 
 abbrev symbol_in : Part → List (List ℕ)

@@ -2,7 +2,7 @@
 use Rattle.std.proofs.Common.{◌≡◌, ℕ, ◌+◌, Bool, false, cond, List, ◌∷◌, Ok, sym, ap, ◌∙◌}
 use Rattle.crs_base.specs.Lines.{Line}
 use Rattle.crs_parse.specs.Faults.{Name, Written}
-use Rattle.crs_parse.specs.Steps.{line_outcome, onward, until_close}
+use Rattle.crs_parse.specs.ModelSteps.{line_outcome, onward, until_close}
 
 pub until_step : (limit more : ℕ) (names : List Name) (number : ℕ) (c d : Written) (texts new : List (List ℕ)) (l : Line) (ls lines : List Line) (b : Bool) → more ≡ limit → lines ≡ l ∷ ls
     → line_outcome limit names c texts l ≡ Ok (record { chronicle = d; texts = new; closes = b }) → b ≡ false

@@ -8,7 +8,7 @@ use Rattle.crs_model.specs.declared.limits.TheConstants.{SIZE_LIMIT, NAME_LIMIT,
 use Rattle.crs_base.specs.Lines.{Line, lines_of, bytes_of, is_long, is_passed_over}
 use Rattle.crs_base.specs.Tokens.{tokens_of, is_model_mark}
 use Rattle.crs_grammar.specs.Statements.{Term, Value, Variable, Any, Pattern, Event, Shift, Here, Later, Earlier, Body, NoEvent, Occurs, Hold, Window, Distance, Heading, Statement, Message, Attribute, Begin, Happens, Point, Between, Among, Differ, Over, Close}
-use Rattle.crs_grammar.specs.Reading.{statement_of, ◌>>=◌}
+use Rattle.crs_grammar.specs.TokenReading.{statement_of, ◌>>=◌}
 
 pub data Kind : Type 0 where
   OfMessage : Kind

@@ -5,7 +5,7 @@ use Rattle.crs_base.specs.Lines.{Line, bytes_of}
 use Rattle.crs_base.specs.Words.{IsIn}
 use Rattle.crs_grammar.specs.Statements.{Statement}
 use Rattle.crs_parse.specs.Faults.{symbols_of}
-use Rattle.crs_parse.specs.Steps.{inside_line, outside_line}
+use Rattle.crs_parse.specs.ModelSteps.{inside_line, outside_line}
 
 abbrev pub read_symbols : Option Statement → List (List ℕ)
 read_symbols None = []

@@ -2,7 +2,7 @@ pub mod Faults
 pub mod SeenReading
 pub mod Adds
 pub mod Overfull
-pub mod Steps
+pub mod ModelSteps
 pub mod Grows
 pub mod Meant
-pub mod Held
+pub mod HeldStatements

@@ -1,6 +1,6 @@
 //! Whole model texts.
 ghost use Rattle.std.specs.Prelude.{◌≡◌, ◌<◌, ◌≤◌, ◌+◌, ◌^◌, map, length, IfOk, IfErr};
-ghost use Rattle.crs_model.specs.Seen as view;
+ghost use Rattle.crs_model.specs.SeenModels as view;
 ghost use Rattle.crs_parse.specs.Faults as faults;
 ghost use Rattle.crs_base.specs.Lines.{lines_of};
 ghost use Rattle.crs_base.specs.Symbols.{AreDistinct};
@@ -9,7 +9,7 @@ ghost use Rattle.crs_parse.specs.Meant.{models_read};
 ghost use Rattle.crs_model.specs.Renaming as renamed;
 ghost use Rattle.crs_model.specs.ProperModels.{AreProper};
 ghost use Rattle.crs_parse.specs.SeenReading as see;
-ghost use Rattle.crs_parse.specs.Steps as steps;
+ghost use Rattle.crs_parse.specs.ModelSteps as steps;
 
 use crate::builder::{Closed, Name, Reading, Refused};
 use crate::numbering::models;

@@ -1,11 +1,11 @@
 //! The models of a finished reading, with the numbers of a table for its symbols.
 ghost use Rattle.std.specs.Prelude.{◌≡◌, ◌≤◌, ◌<◌, ◌+◌, ◌^◌, ◌++◌, map, length, option_map, IfOk, OnOk, IfSome, neg_ℤ};
 ghost use Rattle.std.specs.List.{AllByRecursion, flat_map};
-ghost use Rattle.crs_model.specs.Seen as view;
+ghost use Rattle.crs_model.specs.SeenModels as view;
 ghost use Rattle.crs_parse.specs.Meant as meant;
 ghost use Rattle.crs_model.specs.Renaming as renamed;
 ghost use Rattle.crs_parse.specs.Faults as faults;
-ghost use Rattle.crs_parse.specs.Held as held;
+ghost use Rattle.crs_parse.specs.HeldStatements as held;
 ghost use Rattle.crs_parse.specs.SeenReading as see;
 ghost use Rattle.crs_grammar.specs.SeenStatements as seen;
 

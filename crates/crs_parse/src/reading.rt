@@ -3,7 +3,7 @@ ghost use Rattle.std.specs.Prelude.{◌≡◌, ◌<◌, ◌≤◌, Some, [], ◌
 ghost use Rattle.std.specs.List.{AllByRecursion};
 ghost use Rattle.crs_base.specs.Symbols.{is_symbol, with_texts};
 ghost use Rattle.crs_parse.specs.Faults as faults;
-ghost use Rattle.crs_parse.specs.Steps as steps;
+ghost use Rattle.crs_parse.specs.ModelSteps as steps;
 ghost use Rattle.crs_grammar.specs.Gives.{Gives};
 ghost use Rattle.crs_parse.specs.Grows.{Grows, AreAmong, read_symbols, line_symbols, lines_symbols};
 ghost use Rattle.crs_parse.specs.Adds.{Adds};

@@ -10,7 +10,7 @@ use Rattle.crs_model.specs.declared.models.ModelWord.TheVariants.{Twice, Name as
 use Rattle.crs_grammar.specs.Canon.{is_indented}
 use Rattle.crs_parse.specs.Faults.{Kind, OfMessage, OfAttribute, Name, Written, Reading, is_of, first_of, faults_of, passes_symbols, symbols_of, opened, begun, with_statement, after, answered, after_lines, unless_refused}
 use Rattle.crs_grammar.specs.Statements.{Statement, Message, Attribute, Begin, Close, is_inside}
-use Rattle.crs_parse.specs.Steps.{reading_in, reading_out}
+use Rattle.crs_parse.specs.ModelSteps.{reading_in, reading_out}
 use Rattle.crs_parse.proofs.Faultless.{IsFaultless}
 use Rattle.crs_print.proofs.Distinct.{IsTable, table_more, table_few}
 use Rattle.crs_print.proofs.Good.{IsFit, IsDone, heading_of}

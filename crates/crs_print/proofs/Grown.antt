@@ -7,7 +7,7 @@ use Rattle.std.proofs.lemmas.List.{map-append, append-nil}
 use Rattle.crs_base.specs.declared.symbols.Sym.{Sym}
 use Rattle.crs_base.proofs.Alls.{all_append}
 use Rattle.crs_model.specs.declared.chronicle.EventDef.{EventDef as CodeEvent}
-use Rattle.crs_model.specs.Seen as view
+use Rattle.crs_model.specs.SeenModels as view
 use Rattle.crs_model.specs.Renaming.{text_in, renamed_event}
 use Rattle.crs_grammar.specs.Statements.{Statement}
 use Rattle.crs_grammar.specs.Canon.{statement_line}

@@ -9,13 +9,13 @@ use Rattle.crs_model.specs.declared.models.ModelWord.TheVariants.{Size as SizeWo
 use Rattle.crs_grammar.specs.Canon.{statements_text}
 use Rattle.crs_parse.specs.Faults.{Name, Written, Reading, Fault, after_lines, nothing_read, reading_of}
 use Rattle.crs_parse.specs.Meant.{chronicle_of, models_in, read_of, models_read}
-use Rattle.crs_print.specs.Printed.{name_from, chronicle_from, statements_from, models_text}
+use Rattle.crs_print.specs.CanonicalText.{name_from, chronicle_from, statements_from, models_text}
 use Rattle.crs_grammar.specs.Statements.{Statement, Close}
-use Rattle.crs_parse.specs.Steps.{reading_out}
+use Rattle.crs_parse.specs.ModelSteps.{reading_out}
 use Rattle.crs_parse.proofs.Numbered.{each_made, each_back}
 use Rattle.crs_parse.proofs.SoundReading.{read_sound}
 use Rattle.crs_base.proofs.DistinctTexts.{distinct_by}
-use Rattle.crs_print.specs.Laws.{IsReadable, without_line, without_lines, IsTableWithin, CanonicalModelsAreRead, TablesAreWithin, LinesAreNotWritten}
+use Rattle.crs_print.specs.CanonicalLaws.{IsReadable, without_line, without_lines, IsTableWithin, CanonicalModelsAreRead, TablesAreWithin, LinesAreNotWritten}
 use Rattle.crs_print.proofs.Again.{AreShort, statements_of, all_go}
 use Rattle.crs_print.proofs.Distinct.{IsTable}
 use Rattle.crs_print.proofs.Good.{IsDone}

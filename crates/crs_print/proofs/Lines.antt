@@ -11,8 +11,8 @@ use Rattle.crs_model.specs.declared.models.ModelWord.TheVariants.{Limit as Limit
 use Rattle.crs_grammar.specs.Canon.{statement_text, is_indented, statement_line, statements_text}
 use Rattle.crs_parse.specs.Faults.{Reading, after_line, after_statement}
 use Rattle.crs_grammar.specs.Forms.{Part, AreWritten, body_form, span_form, form_of, begin_form}
-use Rattle.crs_grammar.specs.Laws.{IsWritable}
-use Rattle.crs_grammar.specs.Reading.{◌>>=◌, statement_of}
+use Rattle.crs_grammar.specs.GrammarLaws.{IsWritable}
+use Rattle.crs_grammar.specs.TokenReading.{◌>>=◌, statement_of}
 use Rattle.crs_grammar.specs.Statements.{Body, NoEvent, Occurs, Hold, Statement, Message, Attribute, Begin, Happens, Point, Between, Among, Differ, Over, Close, is_inside}
 use Rattle.crs_grammar.proofs.CanonTokens.{canonical_is_read}
 use Rattle.crs_grammar.proofs.GivesStatements.{read_is_meant}

@@ -4,9 +4,9 @@ use Rattle.std.specs.List.{AllByRecursion, flat_map, list_any}
 use Rattle.std.proofs.lemmas.List.{length-map}
 use Rattle.crs_parse.specs.Faults.{Name, Written, is_of, is_above, shift_size, variables_of, body_lacks, has_wrong_counts}
 use Rattle.crs_grammar.specs.Forms.{Part, Sign, Gap, Symbol, pattern_form, level_form, shift_form, anchor_form, body_form, span_form}
-use Rattle.crs_grammar.specs.Laws.{IsWritable}
+use Rattle.crs_grammar.specs.GrammarLaws.{IsWritable}
 use Rattle.crs_parse.specs.Meant.{level_of, offset_of, points_of, event_of, anchor_of, window_of, bounds_of, chronicle_of}
-use Rattle.crs_print.specs.Printed.{level_from, shift_from}
+use Rattle.crs_print.specs.CanonicalText.{level_from, shift_from}
 use Rattle.crs_grammar.specs.Statements.{Event, Shift, Here, Later, Earlier, Anchor, Window, Statement, Happens, Point, Between, Among, Differ, Over}
 use Rattle.crs_parse.proofs.Numbered.{each_made}
 use Rattle.crs_base.proofs.DistinctTexts.{Distinct}

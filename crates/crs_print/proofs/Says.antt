@@ -9,7 +9,7 @@ use Rattle.crs_base.specs.Symbols.{is_known, text_at}
 use Rattle.crs_base.proofs.Alls.{all_left, all_right, all_both}
 use Rattle.crs_parse.specs.Faults.{Kind, OfMessage, OfAttribute, Name, Written, Reading, is_of, event_points, is_point, variable_in, variables_in, variables_of, change_terms, lacks, change_lacks, pattern_lacks, body_lacks}
 use Rattle.crs_parse.specs.Meant.{points_of, term_of, change_of, pattern_of, body_of, event_of, anchor_of, window_of, bounds_of, set_of, differ_of, chronicle_of, name_of, models_in}
-use Rattle.crs_print.specs.Printed.{term_from, change_from, pattern_from, body_from, event_from, anchor_from, window_from, points_in, distances_from, name_from, chronicle_from, statements_from}
+use Rattle.crs_print.specs.CanonicalText.{term_from, change_from, pattern_from, body_from, event_from, anchor_from, window_from, points_in, distances_from, name_from, chronicle_from, statements_from}
 use Rattle.crs_grammar.specs.Statements.{Term, Value, Variable, Any, Pattern, Event, Anchor, Body, NoEvent, Occurs, Hold, Window, Distance, Begin, Happens, Point, Between, Among, Differ, Over, Close}
 use Rattle.crs_parse.proofs.Faultless.{not_false}
 use Rattle.crs_parse.proofs.Places.{place_text}

@@ -9,7 +9,7 @@ use Rattle.crs_parse.proofs.Faultless.{not_lt}
 use Rattle.crs_parse.proofs.HeldReading.{Within, next_of, last_of, texts_within, by_line, table_after, symbols_known}
 use Rattle.crs_base.proofs.DistinctTexts.{distinct_by, apart}
 use Rattle.crs_parse.proofs.Sound.{own}
-use Rattle.crs_print.specs.Laws.{IsTableWithin}
+use Rattle.crs_print.specs.CanonicalLaws.{IsTableWithin}
 use Rattle.crs_print.proofs.Distinct.{IsTable, table_more}
 
 -- It keeps to its limit.

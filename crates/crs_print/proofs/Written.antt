@@ -9,7 +9,7 @@ use Rattle.crs_base.specs.Numbers.{is_digit, value_on, number_on, number_of, int
 use Rattle.crs_base.specs.Symbols.{is_symbol}
 use Rattle.crs_base.specs.Tokens.{Token, Word, Mark}
 use Rattle.crs_grammar.specs.Forms.{Part, Keyword, Sign, Symbol, Number, Integer, Gap, Missing, AreWritten, form_of}
-use Rattle.crs_grammar.specs.Laws.{IsWritable}
+use Rattle.crs_grammar.specs.GrammarLaws.{IsWritable}
 use Rattle.crs_grammar.specs.Statements.{Statement}
 use Rattle.crs_parse.proofs.HeldReading.{IsWritten}
 use Rattle.crs_print.proofs.Lines.{Writable}

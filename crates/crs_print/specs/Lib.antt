@@ -1,3 +1,3 @@
-pub mod Printed
+pub mod CanonicalText
 pub mod Said
-pub mod Laws
+pub mod CanonicalLaws

@@ -13,12 +13,12 @@ use Rattle.crs_model.specs.declared.chronicle.Body.{Body as CodeBody}
 use Rattle.crs_model.specs.declared.chronicle.Window.{Window as CodeWindow}
 use Rattle.crs_model.specs.declared.chronicle.Chronicle.{Chronicle as CodeChronicle}
 use Rattle.crs_model.specs.declared.models.Name.{Name as CodeName}
-use Rattle.crs_model.specs.Seen as view
+use Rattle.crs_model.specs.SeenModels as view
 use Rattle.crs_model.specs.Renaming.{text_in, renamed_term, renamed_pattern, renamed_event, renamed_set, renamed_body, renamed_window, renamed_chronicle, renamed_name, IsTermOf, IsPatternOf}
 use Rattle.crs_grammar.specs.Statements.{Term, Pattern, Event, Anchor, Body, Window, Distance, Statement, Happens, Point, Between, Among, Differ, Over}
 use Rattle.crs_grammar.specs.Canon.{part_text}
 use Rattle.crs_grammar.specs.Forms.{Part}
-use Rattle.crs_print.specs.Printed as from
+use Rattle.crs_print.specs.CanonicalText as from
 
 abbrev pub text_of : List Part → List ℕ
 text_of ps = flat_map part_text ps

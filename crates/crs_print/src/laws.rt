@@ -1,5 +1,5 @@
 //! Laws about the definitions.
-ghost use Rattle.crs_print.specs.Laws as laws;
+ghost use Rattle.crs_print.specs.CanonicalLaws as laws;
 
 /// The canonical text of accepted models is accepted, and means the same models apart from the lines that close chronicles. So it is
 /// its own canonical text.

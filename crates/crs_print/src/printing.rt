@@ -3,11 +3,11 @@ ghost use Rattle.std.specs.Prelude.{true, false, ◌≡◌, ◌<◌, ◌∷◌, 
 ghost use Rattle.std.specs.List.{AllByRecursion, flat_map};
 ghost use Rattle.crs_base.specs.Symbols.{text_at};
 ghost use Rattle.crs_model.specs.Renaming as renamed;
-ghost use Rattle.crs_model.specs.Seen as view;
+ghost use Rattle.crs_model.specs.SeenModels as view;
 ghost use Rattle.crs_grammar.specs.Canon.{statement_line, statements_text};
 ghost use Rattle.crs_grammar.specs.Forms as forms;
 ghost use Rattle.crs_grammar.specs.Forms.{Sign, Gap};
-ghost use Rattle.crs_print.specs.Printed as from;
+ghost use Rattle.crs_print.specs.CanonicalText as from;
 ghost use Rattle.crs_print.specs.Said as said;
 ghost use Rattle.crs_grammar.specs.Statements.{Happens, Point, Between, Among, Differ, Over, Begin, Message, Attribute};
 

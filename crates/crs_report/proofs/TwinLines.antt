@@ -8,7 +8,7 @@ use Rattle.crs_model.specs.Models.{Chronicle, EventDef}
 use Rattle.crs_model.specs.Matching.{Assignment}
 use Rattle.crs_model.proofs.Twins.{Twins}
 use Rattle.crs_model.proofs.TwinLists.{Paired}
-use Rattle.crs_report.specs.Lines.{recognition_line, point_text, value_text, mark_text}
+use Rattle.crs_report.specs.OutputLines.{recognition_line, point_text, value_text, mark_text}
 
 module _ (T : Entry (List ℕ) → Entry (List ℕ) → Type 0) (t : Twins T) where
   points_same : (vs : List (EventDef (List ℕ))) (xs ys : List (Entry (List ℕ))) → AllZip T xs ys

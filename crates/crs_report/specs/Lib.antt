@@ -1,4 +1,4 @@
-pub mod Lines
+pub mod OutputLines
 pub mod Listeners
 pub mod Printed
 pub mod Summaries

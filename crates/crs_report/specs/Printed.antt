@@ -5,9 +5,9 @@ use Rattle.crs_base.specs.declared.symbols.Sym.{Sym}
 use Rattle.crs_model.specs.declared.plan.Plans.{Plans}
 use Rattle.crs_model.specs.declared.recognition.Recognition.{Recognition}
 use Rattle.crs_model.specs.Models.{Chronicle}
-use Rattle.crs_model.specs.Seen.{chronicle_of, assignment_of}
+use Rattle.crs_model.specs.SeenModels.{chronicle_of, assignment_of}
 use Rattle.crs_model.specs.Renaming.{text_in, AreKnown, renamed_chronicle, renamed_assignment}
-use Rattle.crs_report.specs.Lines.{recognition_line}
+use Rattle.crs_report.specs.OutputLines.{recognition_line}
 
 -- the chronicle of that number, from 0 in file order
 abbrev pub chronicle_at : Plans → ℕ → Option (Chronicle Sym)

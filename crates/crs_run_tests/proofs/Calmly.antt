@@ -1,8 +1,8 @@
 -- A run whose desk fails at nothing ends by its input alone.
 use Rattle.std.proofs.Common.{◌⊎◌, inl, inr, Option, Some, None, arith}
 use Rattle.crs_desk.specs.Desk.{Told, Rose}
-use Rattle.crs_top.specs.Commands.{CompletesCommand}
-use Rattle.crs_top.specs.Run.{Most}
+use Rattle.crs_top.specs.CommandOutcomes.{CompletesCommand}
+use Rattle.crs_top.specs.RunOutcomes.{Most}
 use Rattle.crs_top.specs.declared.status.Status.{Status}
 use Rattle.crs_words.specs.Commands.{Command, Run, Print, Drill, Import}
 

@@ -13,7 +13,7 @@ use Rattle.crs_model.specs.Matching.{Assignment, AreDistinct}
 use Rattle.crs_model.specs.Partial.{Partial, at, IsLevelClosed}
 use Rattle.crs_model.specs.Plans.{chronicle}
 use Rattle.crs_model.specs.Open.{IsNew, IsLive, IsOpen, IsRecognised, StandsFor, IsRecognisedWhole, before, whole}
-use Rattle.crs_model.specs.Seen.{assignment_of}
+use Rattle.crs_model.specs.SeenModels.{assignment_of}
 use Rattle.crs_model.specs.Steps.{GoesOn}
 use Rattle.crs_model.specs.Images.{IsImage}
 use Rattle.crs_model.proofs.Marks.{InDates, marked, new_is_held, held_is_new, same_values}
@@ -22,7 +22,7 @@ use Rattle.crs_history.proofs.FarBack.{far_later}
 use Rattle.crs_instance.specs.Instances.{InstanceState, IsOf}
 use Rattle.crs_instance.specs.Followed.{Follows}
 use Rattle.crs_store.specs.Stores.{parts, AllOf, StoreState, IsStore, StandsAhead, IsSameStore, levels_of}
-use Rattle.crs_store.specs.Levels.{levels_in}
+use Rattle.crs_store.specs.PlanLevels.{levels_in}
 use Rattle.crs_store.specs.Windows.{IsAble, IsOver, IsPassed}
 use Rattle.crs_store.specs.Ahead.{StandsUpTo}
 use Rattle.crs_store.specs.Sweeps.{is_whole, IsDone}

@@ -18,7 +18,7 @@ use Rattle.crs_model.specs.declared.recognition.Recognition.{Recognition}
 use Rattle.crs_model.specs.Matching.{AreDistinct}
 use Rattle.crs_model.specs.Order.{entries_cmp, assignment_cmp}
 use Rattle.crs_model.specs.Open.{whole}
-use Rattle.crs_model.specs.Seen.{assignment_of}
+use Rattle.crs_model.specs.SeenModels.{assignment_of}
 use Rattle.crs_store.specs.Answers.{answer_cmp, wholes}
 
 pub entries_total : IsTotalOrder (entries_cmp {S = Sym})

@@ -20,14 +20,14 @@ use Rattle.crs_model.specs.declared.chronicle.Body.{Body as CodeBody}
 use Rattle.crs_model.specs.declared.chronicle.Body.TheVariants.{NoEvent, Occurs, Hold}
 use Rattle.crs_model.specs.Models.{Window}
 use Rattle.crs_model.specs.Plans.{chronicle}
-use Rattle.crs_model.specs.Seen.{body_of, window_of}
+use Rattle.crs_model.specs.SeenModels.{body_of, window_of}
 use Rattle.crs_model.proofs.Options.{of_some, and_some, get_within}
 use Rattle.crs_model.proofs.Opened.{same_stretch}
 use Rattle.crs_instance.specs.Instances.{InstanceState, IsDeadline, window_at}
 use Rattle.crs_instance.specs.Followed.{IsStretchAt}
 use Rattle.crs_instance.specs.CurrentLevel.{IsCurrentLevel}
 use Rattle.crs_model.specs.Partial.{Partial}
-use Rattle.crs_store.specs.Levels.{levels_in, IsLastOf, IsLastDate}
+use Rattle.crs_store.specs.PlanLevels.{levels_in, IsLastOf, IsLastDate}
 use Rattle.crs_store.specs.Dues.{IsStart, IsDueFor, IsFirstOf, IsUndue, StandsAtEach, AreDue, AreKept, AreCollected, HasPlaces}
 use Rattle.crs_store.specs.Windows.{IsSameInstance}
 use Rattle.crs_store.proofs.Ascending.{moved_in}

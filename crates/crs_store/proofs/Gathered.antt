@@ -26,7 +26,7 @@ use Rattle.crs_model.specs.Models.{EventDef}
 use Rattle.crs_model.specs.Partial.{Partial, put, GivesNoneTwice, IsLevelClosed}
 use Rattle.crs_model.specs.Scans.{StartsAt, IsForkByLevel}
 use Rattle.crs_model.specs.Plans.{chronicle, IsProper}
-use Rattle.crs_model.specs.Seen.{event_of}
+use Rattle.crs_model.specs.SeenModels.{event_of}
 use Rattle.crs_model.proofs.Images.{image_one}
 use Rattle.crs_model.proofs.ScanImages.{one_parent, same_event}
 use Rattle.crs_instance.proofs.Openings.{beginnings_can_be}
@@ -36,7 +36,7 @@ use Rattle.crs_store.specs.Hooks.{IsHookOfEvent, KeepsFresh, key_with, picked_ar
 use Rattle.crs_store.specs.Links.{hook_at}
 use Rattle.crs_store.specs.Slots.{SlotsState, slot_at, handle_at, members}
 use Rattle.crs_store.specs.Stores.{parts, AllOf}
-use Rattle.crs_store.specs.Levels.{levels_in}
+use Rattle.crs_store.specs.PlanLevels.{levels_in}
 use Rattle.crs_store.specs.Scannings.{Adds, AreForksAt}
 use Rattle.crs_store.specs.Windows.{IsAble, IsOpenAt, IsOver}
 use Rattle.crs_store.proofs.Chosen.{Ascends, standing_part, standing_in, part_few, part_map, part_ordered}

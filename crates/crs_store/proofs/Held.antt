@@ -24,7 +24,7 @@ use Rattle.crs_store.specs.Joins.{Renews}
 use Rattle.crs_store.specs.Links.{hook_at}
 use Rattle.crs_store.specs.Slots.{SlotsState, slot_at, handle_at, members, Becomes}
 use Rattle.crs_store.specs.Tidy.{IsTidy, IsTidyHolding, SettlesPlaces}
-use Rattle.crs_store.specs.Walks.{Walks}
+use Rattle.crs_store.specs.PlaceWalks.{Walks}
 use Rattle.crs_store.specs.Windows.{IsAble, IsFollowed, IsPassed, IsSameInstance}
 use Rattle.crs_store.proofs.Hooking.{zip_long}
 use Rattle.crs_store.proofs.Progress.{still_of}

@@ -13,14 +13,14 @@ use Rattle.crs_model.specs.Models.{EventDef}
 use Rattle.crs_model.specs.Matching.{PatternIs}
 use Rattle.crs_model.specs.Partial.{Partial, at, IsAwaited, CanGoOn, dates_of}
 use Rattle.crs_model.specs.Plans.{chronicle, IsProper}
-use Rattle.crs_model.specs.Seen.{event_of}
+use Rattle.crs_model.specs.SeenModels.{event_of}
 use Rattle.std.proofs.lemmas.List.{length-map}
 use Rattle.crs_base.proofs.Words.{in_from_each}
 use Rattle.crs_model.proofs.Options.{of_some, some_if, cases_of}
 use Rattle.crs_model.proofs.Parts.{agrees_part, agrees_at}
 use Rattle.crs_instance.specs.Instances.{InstanceState, IsOf, window_at}
 use Rattle.crs_store.specs.Ahead.{IsWanted, AreAhead, IsHopeless, MayGo}
-use Rattle.crs_store.specs.Levels.{levels_in}
+use Rattle.crs_store.specs.PlanLevels.{levels_in}
 use Rattle.crs_store.specs.Windows.{IsAble}
 
 pub item_at : {A : Type 0} (xs : List A) (k : ℕ) → k < length xs → (x : A) × (slice_get xs k ≡ Some x)

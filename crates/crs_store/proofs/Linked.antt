@@ -16,7 +16,7 @@ use Rattle.crs_model.specs.declared.plan.Plan.{Plan}
 use Rattle.crs_model.specs.declared.progress.Stretch.{Stretch}
 use Rattle.crs_model.specs.Bindings.{look_of}
 use Rattle.crs_model.specs.Plans.{chronicle}
-use Rattle.crs_model.specs.Seen.{window_of}
+use Rattle.crs_model.specs.SeenModels.{window_of}
 use Rattle.crs_model.proofs.Options.{of_some, some_if, get_within}
 use Rattle.crs_store.specs.declared.hooks.Hook.{Hook}
 use Rattle.crs_store.specs.Hooks.{Waits, key_of}

@@ -24,12 +24,12 @@ use Rattle.crs_model.proofs.Marks.{same_values}
 use Rattle.crs_model.specs.Verdicts.{IsMet, IsStretch, BodyIsBound}
 use Rattle.crs_model.specs.HasProgress.{IsMetBy}
 use Rattle.crs_store.specs.Windows.{IsOver}
-use Rattle.crs_store.specs.Judged.{IsMetTo}
+use Rattle.crs_store.specs.JudgedWindows.{IsMetTo}
 use Rattle.crs_store.proofs.Progress.{any_window, at_place}
 use Rattle.crs_stn.specs.Bound.{MeetsInPart}
 use Rattle.crs_model.specs.Partial.{dates_of}
 use Rattle.crs_base.specs.Seen.{entry_of}
-use Rattle.crs_model.specs.Seen.{event_of, window_of, assignment_of, given}
+use Rattle.crs_model.specs.SeenModels.{event_of, window_of, assignment_of, given}
 use Rattle.crs_model.specs.declared.recognition.Mark.{Mark}
 use Rattle.crs_model.specs.declared.recognition.Recognition.{Recognition}
 use Rattle.crs_store.specs.Answers.{IsRecognitionOf, IsRecognitionFrom}

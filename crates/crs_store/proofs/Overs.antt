@@ -10,7 +10,7 @@ use Rattle.crs_model.specs.declared.plan.Plan.{Plan}
 use Rattle.crs_model.specs.Models.{Window}
 use Rattle.crs_model.specs.Partial.{at}
 use Rattle.crs_model.specs.Plans.{chronicle, IsProper}
-use Rattle.crs_model.specs.Seen.{event_of}
+use Rattle.crs_model.specs.SeenModels.{event_of}
 use Rattle.crs_model.specs.Verdicts.{IsStretch}
 use Rattle.crs_model.proofs.Options.{some_if, and_some}
 use Rattle.crs_model.proofs.Opened.{in_place}
@@ -20,7 +20,7 @@ use Rattle.crs_instance.specs.Instances.{InstanceState, IsOf}
 use Rattle.crs_instance.proofs.Openings.{instance_is_open}
 use Rattle.crs_instance.proofs.Stretches.{anchors_of}
 use Rattle.crs_store.specs.Windows.{IsAble, IsOver, IsOpenAt, StartsAfter}
-use Rattle.crs_store.specs.Levels.{levels_in}
+use Rattle.crs_store.specs.PlanLevels.{levels_in}
 
 -- an instance over entries is open exactly where it is able
 pub open_able : (plan : Plan) (focus : Bool) (pool entries : List (Entry Sym)) (n : ℕ) (i : InstanceState) → IsOf plan i → IsOver plan focus pool entries n i → IsOpenAt plan focus pool entries n i.partial ↔ IsAble plan focus n i

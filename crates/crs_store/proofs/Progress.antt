@@ -19,7 +19,7 @@ use Rattle.crs_model.specs.Plans.{chronicle, IsProper}
 use Rattle.crs_model.specs.Ready.{HoldsOne}
 use Rattle.crs_model.specs.Verdicts.{Count, IsStretch, BodyIsBound}
 use Rattle.crs_model.specs.HasProgress.{IsCounted, IsProgress, IsMetBy, IsLostBy}
-use Rattle.crs_model.specs.Seen.{window_of}
+use Rattle.crs_model.specs.SeenModels.{window_of}
 use Rattle.crs_model.specs.declared.chronicle.Window.{Window as CodeWindow}
 use Rattle.crs_model.specs.declared.progress.Verdict.{Verdict}
 use Rattle.crs_model.specs.declared.progress.Verdict.TheVariants.{Met, Lost, Waiting}
@@ -32,7 +32,7 @@ use Rattle.crs_model.proofs.Progressing.{progress_up}
 use Rattle.crs_instance.specs.Instances.{InstanceState, IsOf, progress_at}
 use Rattle.crs_instance.specs.Followed.{IsStretchAt}
 use Rattle.crs_store.specs.Windows.{HasAt, Settles, Passes, Begins, IsSameInstance, IsFollowed, IsPassed, IsBegun}
-use Rattle.crs_store.specs.Judged.{AreStepped, IsJudged}
+use Rattle.crs_store.specs.JudgedWindows.{AreStepped, IsJudged}
 
 count_most : {A : Type 0} (P : A → Type 0) (xs : List A) (n : ℕ) → Count P xs n → n ≤ length xs
 count_most P [] n h = omega (arith, h)

@@ -23,7 +23,7 @@ use Rattle.crs_instance.specs.Followed.{Follows}
 use Rattle.crs_store.specs.Ahead.{MayGo}
 use Rattle.crs_store.specs.Forkings.{AreForksOfAll}
 use Rattle.crs_store.specs.Joins.{AreApart, IsPartOf, Renews}
-use Rattle.crs_store.specs.Levels.{levels_in}
+use Rattle.crs_store.specs.PlanLevels.{levels_in}
 use Rattle.crs_store.specs.Stores.{parts, AllOf, StoreState, IsStore, Stands, IsSameStore, levels_of, IsOfferedPrompt, IsSettledWith}
 use Rattle.crs_store.specs.Windows.{IsAble, IsOver, IsOpenAt, IsFollowed}
 use Rattle.crs_store.specs.Sweeps.{IsReady, IsFree, IsNow, TakesPrompt, SettlesIn}

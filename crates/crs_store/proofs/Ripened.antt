@@ -13,7 +13,7 @@ use Rattle.crs_model.specs.declared.recognition.Recognition.{Recognition}
 use Rattle.crs_model.specs.Open.{IsRecognisedWhole, whole}
 use Rattle.crs_model.specs.Partial.{Partial}
 use Rattle.crs_model.specs.Plans.{chronicle}
-use Rattle.crs_model.specs.Seen.{assignment_of}
+use Rattle.crs_model.specs.SeenModels.{assignment_of}
 use Rattle.crs_store.specs.Answers.{IsRecognitionFrom, IsRecognitionOfOne, TellsDone, AreFound, wholes}
 use Rattle.crs_store.specs.Ripenings.{LeftAt, AreLeft, Takes, TakesAt}
 use Rattle.crs_store.specs.Slots.{SlotsState, slot_at, handle_at, members}

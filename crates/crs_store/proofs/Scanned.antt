@@ -28,7 +28,7 @@ use Rattle.crs_model.specs.declared.chronicle.EventDef.{EventDef as CodeEvent}
 use Rattle.crs_model.specs.Partial.{Partial, at, put, IsAwaited, IsLevelClosed, dates_of}
 use Rattle.crs_model.specs.Plans.{chronicle, IsProper}
 use Rattle.crs_model.specs.Scans.{Decides, DecidesWith, StartsAt}
-use Rattle.crs_model.specs.Seen.{event_of}
+use Rattle.crs_model.specs.SeenModels.{event_of}
 use Rattle.crs_model.specs.Steps.{GoesOn}
 use Rattle.crs_model.proofs.Decided.{decided_start, decided_one, never_left, decided_end, decided_up, with_one_more}
 use Rattle.crs_model.proofs.Images.{image_none}
@@ -38,7 +38,7 @@ use Rattle.crs_model.proofs.Parts.{put_same, put_other, agrees_part}
 use Rattle.crs_model.proofs.Scanning.{put_closed}
 use Rattle.crs_stn.specs.Bound.{Agrees, Meets}
 use Rattle.crs_stn.specs.DateWindow.{IsLatest}
-use Rattle.crs_store.specs.Levels.{levels_in, AreToDecide, IsLevelAbove, IsNoLevelAbove, AreAwaited}
+use Rattle.crs_store.specs.PlanLevels.{levels_in, AreToDecide, IsLevelAbove, IsNoLevelAbove, AreAwaited}
 use Rattle.crs_store.specs.Scannings.{Adds, IsOnTheWay, IsKeptIfAble, IsDecided, IsDecidedAt, AreDecidedWith, AreForksAt}
 use Rattle.crs_store.specs.Stores.{parts}
 use Rattle.crs_store.specs.Sweeps.{IsNow}

@@ -16,7 +16,7 @@ use Rattle.crs_model.specs.Partial.{Partial, at, IsLevelClosed}
 use Rattle.crs_model.specs.Plans.{chronicle, IsProper}
 use Rattle.crs_model.specs.Open.{IsOpen, StandsFor, IsRecognisedWhole, before}
 use Rattle.crs_model.specs.Steps.{IsFresh}
-use Rattle.crs_model.specs.Seen.{event_of}
+use Rattle.crs_model.specs.SeenModels.{event_of}
 use Rattle.crs_model.proofs.Options.{of_some, some_if, cases_of}
 use Rattle.crs_model.proofs.Offers.{recognised_full}
 use Rattle.crs_instance.specs.Instances.{InstanceState, IsOf}
@@ -25,7 +25,7 @@ use Rattle.crs_instance.proofs.GoesOn.{root_goes_on}
 use Rattle.crs_instance.proofs.BindAnswers.{get-replicate}
 use Rattle.crs_store.specs.Ahead.{IsWanted, StandsUpTo, AreAhead, MayGo}
 use Rattle.crs_store.specs.Stores.{parts, AllOf, StoreState, IsStore, Stands, StandsAhead, IsSameStore, levels_of, IsOffered, IsOfferedAt}
-use Rattle.crs_store.specs.Levels.{levels_in}
+use Rattle.crs_store.specs.PlanLevels.{levels_in}
 use Rattle.crs_store.specs.Windows.{IsAble, IsOver, IsOpenAt, IsSameInstance}
 use Rattle.crs_store.specs.Sweeps.{IsFree, IsReady, TakesIn, TakesInSome}
 use Rattle.crs_store.proofs.Ahead.{stands_ahead, ahead_stands, some_stand, offered_ahead}

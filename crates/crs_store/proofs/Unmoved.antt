@@ -22,7 +22,7 @@ use Rattle.crs_instance.specs.Followed.{Follows}
 use Rattle.crs_instance.proofs.Deadline.{deadline_by}
 use Rattle.crs_instance.specs.CurrentLevel.{IsCurrentLevel}
 use Rattle.crs_instance.proofs.GoesOn.{deadline_tells, whole_goes_on}
-use Rattle.crs_store.specs.Levels.{levels_in}
+use Rattle.crs_store.specs.PlanLevels.{levels_in}
 use Rattle.crs_store.specs.Windows.{IsAble}
 use Rattle.crs_store.specs.Sweeps.{IsDone, is_whole}
 use Rattle.crs_store.specs.Dues.{IsStart, IsTurn, IsDue, IsUndue, IsUntouched, AreEnded}

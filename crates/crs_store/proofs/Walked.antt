@@ -13,7 +13,7 @@ use Rattle.crs_base.specs.Words.{IsIn}
 use Rattle.crs_base.proofs.Words.{in_from_each}
 use Rattle.crs_instance.specs.Instances.{InstanceState}
 use Rattle.crs_store.specs.Slots.{SlotsState, members, slot_at, handle_at, Becomes, Changes}
-use Rattle.crs_store.specs.Walks.{Walks}
+use Rattle.crs_store.specs.PlaceWalks.{Walks}
 use Rattle.crs_store.proofs.Members.{At}
 
 -- ---- the numbers of a list

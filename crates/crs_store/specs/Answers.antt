@@ -15,7 +15,7 @@ use Rattle.crs_model.specs.Scopes.{Scope, ListsNew}
 use Rattle.crs_model.specs.Open.{IsRecognisedWhole, before, whole}
 use Rattle.crs_model.specs.Partial.{Partial}
 use Rattle.crs_model.specs.Plans.{chronicle}
-use Rattle.crs_model.specs.Seen.{assignment_of, given}
+use Rattle.crs_model.specs.SeenModels.{assignment_of, given}
 use Rattle.crs_history.specs.Histories.{HistoryState, IsFarBack, StandsFor as HistoryStandsFor}
 use Rattle.crs_instance.specs.Instances.{InstanceState}
 use Rattle.crs_store.specs.Joins.{Renews}

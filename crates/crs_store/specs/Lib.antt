@@ -1,8 +1,8 @@
-pub mod Levels
+pub mod PlanLevels
 pub mod Ahead
 pub mod Stores
 pub mod Windows
-pub mod Judged
+pub mod JudgedWindows
 pub mod Hooks
 pub mod Slots
 pub mod Links
@@ -14,5 +14,5 @@ pub mod Tidy
 pub mod Joins
 pub mod Forkings
 pub mod Scannings
-pub mod Walks
+pub mod PlaceWalks
 pub mod Linkings

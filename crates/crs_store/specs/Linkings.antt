@@ -12,7 +12,7 @@ use Rattle.crs_model.specs.declared.date_window.DateWindow.{DateWindow}
 use Rattle.crs_model.specs.declared.plan.Plan.{Plan}
 use Rattle.crs_store.specs.declared.hooks.Hook.{Hook}
 use Rattle.crs_store.specs.Hooks.{Waits, key_of}
-use Rattle.crs_store.specs.Levels.{levels_in}
+use Rattle.crs_store.specs.PlanLevels.{levels_in}
 use Rattle.crs_store.specs.Links.{CanStart, IsLinkedAnew}
 use Rattle.crs_store.specs.Slots.{SlotsState, slot_at, handle_at}
 

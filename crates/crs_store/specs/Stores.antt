@@ -14,7 +14,7 @@ use Rattle.crs_instance.specs.Instances.{InstanceState, IsOf}
 use Rattle.crs_instance.specs.Followed.{Follows}
 use Rattle.crs_store.specs.Ahead.{StandsUpTo, AreAhead}
 use Rattle.crs_store.specs.Hooks.{LooksFor}
-use Rattle.crs_store.specs.Levels.{levels_in}
+use Rattle.crs_store.specs.PlanLevels.{levels_in}
 
 -- a store, as contracts see it
 pub record StoreState : Type 0 where

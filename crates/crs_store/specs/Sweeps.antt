@@ -13,10 +13,10 @@ use Rattle.crs_history.specs.Histories.{HistoryState}
 use Rattle.crs_instance.specs.Instances.{InstanceState}
 use Rattle.crs_store.specs.Ahead.{MayGo}
 use Rattle.crs_store.specs.Joins.{IsPartOf}
-use Rattle.crs_store.specs.Levels.{levels_in}
+use Rattle.crs_store.specs.PlanLevels.{levels_in}
 use Rattle.crs_store.specs.Stores.{parts}
 use Rattle.crs_store.specs.Windows.{IsRead, IsOver, IsOpenAt}
-use Rattle.crs_store.specs.Judged.{IsMetTo}
+use Rattle.crs_store.specs.JudgedWindows.{IsMetTo}
 
 -- no event has x
 abbrev pub IsFree : Entry Sym → Partial Sym → Type 0

@@ -14,7 +14,7 @@ use Rattle.crs_store.specs.Dues.{AreDue, AreKept}
 use Rattle.crs_store.specs.Links.{linked_by, Grows, IsLinked, IsLinkedAnew, IsArmed}
 use Rattle.crs_store.specs.Linkings.{AreLinkedAnew}
 use Rattle.crs_store.specs.Slots.{SlotsState, slot_at, handle_at}
-use Rattle.crs_store.specs.Walks.{NamesDone}
+use Rattle.crs_store.specs.PlaceWalks.{NamesDone}
 use Rattle.crs_store.specs.Sweeps.{IsDone}
 use Rattle.crs_store.specs.Windows.{IsAble}
 

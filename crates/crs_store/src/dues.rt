@@ -1,8 +1,8 @@
 ghost use Rattle.std.specs.Prelude.{◌≡◌, ◌≤◌, ◌<◌, ◌^◌, pos, ◌+ℤ◌, length, OnOk, All};
 ghost use Rattle.crs_model.specs.Plans.{IsProper};
-ghost use Rattle.crs_model.specs.Seen.{body_of};
+ghost use Rattle.crs_model.specs.SeenModels.{body_of};
 ghost use Rattle.crs_instance.specs.Instances.{IsOf};
-ghost use Rattle.crs_store.specs.Levels.{IsLastDate};
+ghost use Rattle.crs_store.specs.PlanLevels.{IsLastDate};
 ghost use Rattle.crs_store.specs.Dues.{IsStart, IsDueFor, IsFirstOf, StandsAtEach, AreDue, AreKept, AreCollected, HasPlaces};
 
 use crate::levels::{is_awaited, last_date};

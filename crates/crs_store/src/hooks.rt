@@ -5,7 +5,7 @@ ghost use Rattle.crs_model.specs.declared.plan.Plan.{Plan as Planned};
 ghost use Rattle.crs_model.specs.Bindings.{look_of};
 ghost use Rattle.crs_model.specs.Models.{Var};
 ghost use Rattle.crs_model.specs.Plans.{chronicle};
-ghost use Rattle.crs_model.specs.Seen.{term_of, body_of, event_of, window_of};
+ghost use Rattle.crs_model.specs.SeenModels.{term_of, body_of, event_of, window_of};
 ghost use Rattle.crs_store.specs.Hooks.{name_of, terms_of, IsHookOf, IsHookOfEvent, IsHookOfWindow, AreHooks, LooksFor, key_with, key_of, picked_argument};
 
 use crs_base::{Entry, Sym};

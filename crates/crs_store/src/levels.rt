@@ -3,7 +3,7 @@ ghost use Rattle.std.specs.Prelude.{◌<◌, ◌≤◌, ◌^◌, ◌↔◌, IsTr
 ghost use Rattle.crs_instance.specs.Instances.{IsOf};
 ghost use Rattle.crs_model.specs.Partial.{CanGoOn, IsAwaited};
 ghost use Rattle.crs_model.specs.Plans.{chronicle, IsProper};
-ghost use Rattle.crs_store.specs.Levels.{levels_in, IsLastOf, IsLevelAbove, IsNoLevelAbove, AreAwaited};
+ghost use Rattle.crs_store.specs.PlanLevels.{levels_in, IsLastOf, IsLevelAbove, IsNoLevelAbove, AreAwaited};
 
 use crs_focus::{current_level, level_of};
 use crs_instance::Instance;

@@ -6,7 +6,7 @@ ghost use Rattle.crs_base.specs.Words.{IsIn};
 ghost use Rattle.crs_history.specs.Histories.{EndsWith};
 ghost use Rattle.crs_instance.specs.Instances.{IsOf, window_at};
 ghost use Rattle.crs_model.specs.Plans.{IsProper};
-ghost use Rattle.crs_store.specs.Levels.{levels_in, AreToDecide};
+ghost use Rattle.crs_store.specs.PlanLevels.{levels_in, AreToDecide};
 ghost use Rattle.crs_store.specs.Scannings.{Adds, IsKeptIfAble, IsDecided, IsDecidedAt, AreDecidedWith};
 
 use crate::levels::{awaited_events, next_level};

@@ -8,7 +8,7 @@ ghost use Rattle.crs_instance.specs.Instances.{IsOf};
 ghost use Rattle.crs_model.specs.Plans.{IsProper};
 ghost use Rattle.crs_store.specs.Slots.{slot_at};
 ghost use Rattle.crs_store.specs.Sweeps.{IsDone};
-ghost use Rattle.crs_store.specs.Walks.{Walks, NamesDone};
+ghost use Rattle.crs_store.specs.PlaceWalks.{Walks, NamesDone};
 ghost use Rattle.crs_store.specs.Windows.{IsAble, IsFollowed, IsPassed};
 
 use crate::slots::Slots;

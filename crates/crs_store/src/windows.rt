@@ -4,7 +4,7 @@ ghost use Rattle.crs_model.specs.Plans.{chronicle, IsProper};
 ghost use Rattle.crs_instance.specs.Instances.{IsOf, progress_at};
 ghost use Rattle.crs_store.specs.Windows.{Settles, Passes, Begins, IsFollowed, IsPassed, IsBegun, IsAble, IsMetAt};
 ghost use Rattle.crs_store.specs.Sweeps.{IsDone};
-ghost use Rattle.crs_store.specs.Judged.{AreStepped, IsJudged, IsLostNowhere, IsMetTo};
+ghost use Rattle.crs_store.specs.JudgedWindows.{AreStepped, IsJudged, IsLostNowhere, IsMetTo};
 
 use crate::levels::can_go_on;
 use crs_base::Entry;

@@ -14,10 +14,10 @@ use Rattle.crs_log.specs.Run as run
 use Rattle.crs_log.specs.Run.{State, Outcome, Passed, Refused, Accepted, after_named, after_ordered, after_verdict, with_entry}
 use Rattle.crs_log.specs.SeenNames.{IsEntryIn, entry_seen, name_seen}
 use Rattle.crs_model.specs.declared.plan.Plans.{Plans}
-use Rattle.crs_engine.specs.Refusals.{test_refusal, answer_by}
+use Rattle.crs_engine.specs.EngineRefusals.{test_refusal, answer_by}
 use Rattle.crs_engine.specs.declared.refused.Refused.TheVariants.{Stopped, Late}
 use Rattle.crs_log.specs.Recognitions.{view_of}
-use Rattle.crs_report.specs.Lines.{refusal_line}
+use Rattle.crs_report.specs.OutputLines.{refusal_line}
 use Rattle.crs_top.specs.declared.session.Session.{Session}
 use Rattle.crs_top.specs.Session.{Represents, Brings, BringsAll}
 use Rattle.crs_top.specs.Tallies.{AllLive, with_refused}

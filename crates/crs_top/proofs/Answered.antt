@@ -26,7 +26,7 @@ use Rattle.crs_log.specs.Recognitions.{View, scope_in}
 use Rattle.crs_model.specs.Order.{Lists, assignment_cmp}
 use Rattle.crs_model.specs.Scopes.{Scope, scope_of, ListsNew}
 use Rattle.crs_model.specs.Plans.{chronicle, IsProper}
-use Rattle.crs_model.specs.Seen.{assignment_of, event_of, given}
+use Rattle.crs_model.specs.SeenModels.{assignment_of, event_of, given}
 use Rattle.crs_model.specs.Renaming.{text_in, AreKnown, renamed_assignment, renamed_entry, IsChronicleOf, IsEntryOf}
 use Rattle.crs_model.proofs.RenamedAssignments.{known_values, new_renamed}
 use Rattle.crs_model.proofs.RenamedWindows.{HasNoStar, no_stars}
@@ -34,7 +34,7 @@ use Rattle.crs_model.proofs.Options.{some_and}
 use Rattle.crs_log.specs.Trace.{Answer, answer_of, AreNew}
 use Rattle.crs_store.specs.Answers.{IsAnswer, IsRecognitionOf}
 use Rattle.crs_engine.specs.Marks.{ListsAllNew}
-use Rattle.crs_report.specs.Lines.{recognition_line}
+use Rattle.crs_report.specs.OutputLines.{recognition_line}
 use Rattle.crs_report.specs.Printed.{chronicle_at, AreBound, IsPrintable, line_seen}
 use Rattle.crs_top.specs.Session.{HasText, chronicle_in, entries_in, line_in, ArePrintable}
 use Rattle.crs_report.specs.Listeners.{notice_of}

@@ -7,10 +7,10 @@ use Rattle.crs_model.specs.Models.{Chronicle, Models}
 use Rattle.crs_model.specs.declared.models.ModelWord.{ModelWord}
 use Rattle.crs_top.specs.declared.status.Status.{Status}
 use Rattle.crs_top.specs.declared.status.Status.TheVariants.{Done, Refusals, Words, Rejected, ReadFault, WriteFault, Memory, TooLong}
-use Rattle.crs_top.specs.Models.{AreModelsIn, IsAccepted, IsFaulty, ClosesInconsistent}
+use Rattle.crs_top.specs.ModelTexts.{AreModelsIn, IsAccepted, IsFaulty, ClosesInconsistent}
 use Rattle.crs_top.specs.Inputs.{bytes_of}
 use Rattle.crs_top.specs.Logs.{Tail}
-use Rattle.crs_top.specs.Run.{Most, Runs, Completes}
+use Rattle.crs_top.specs.RunOutcomes.{Most, Runs, Completes}
 use Rattle.crs_top.specs.Texts.{Frame}
 use Rattle.crs_words.specs.declared.command.Listing.{Listing}
 use Rattle.crs_top.specs.Listings.{Prints, CompletesPrint}

@@ -9,7 +9,7 @@ use Rattle.crs_log.specs.Run.{at_start}
 use Rattle.crs_model.specs.Models.{Models}
 use Rattle.crs_model.specs.declared.models.ModelRefused.{ModelRefused}
 use Rattle.crs_model.specs.declared.models.ModelRefused.TheVariants.{At, Memory as NoMemory}
-use Rattle.crs_report.specs.Lines.{model_line}
+use Rattle.crs_report.specs.OutputLines.{model_line}
 use Rattle.crs_report.specs.Summaries.{summary_line}
 use Rattle.crs_report.specs.declared.summary.Summary.{Summary}
 use Rattle.crs_top.specs.declared.session.Session.{Session}
@@ -19,8 +19,8 @@ use Rattle.crs_top.specs.Drills.{SumsUp, Drills, CompletesDrill}
 use Rattle.crs_top.specs.Listings.{IsFaultyText}
 use Rattle.crs_top.specs.Loads.{Refuses}
 use Rattle.crs_top.specs.Logs.{summary_of, ended_as, Says}
-use Rattle.crs_top.specs.Models.{IsAccepted}
-use Rattle.crs_top.specs.Run.{Most}
+use Rattle.crs_top.specs.ModelTexts.{IsAccepted}
+use Rattle.crs_top.specs.RunOutcomes.{Most}
 use Rattle.crs_top.specs.Session.{IsUncounted}
 use Rattle.crs_top.specs.Summing.{TakesLog, IsSummed, WritesSummary}
 use Rattle.crs_top.specs.Tallies.{IsSummary}

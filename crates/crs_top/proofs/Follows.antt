@@ -7,7 +7,7 @@ use Rattle.crs_top.specs.declared.status.Status.{Status}
 use Rattle.crs_top.specs.declared.status.Status.TheVariants.{ReadFault, Memory}
 use Rattle.crs_top.specs.Inputs.{bytes_of}
 use Rattle.crs_top.specs.Logs.{Tail, HasReadLog}
-use Rattle.crs_top.specs.Run.{Follows}
+use Rattle.crs_top.specs.RunOutcomes.{Follows}
 use Rattle.crs_top.specs.Texts.{Frame}
 use Rattle.crs_top.proofs.Loads.{opened_stream, opened_left, failed_open, refused_open, nothing_read_of}
 

@@ -18,7 +18,7 @@ use Rattle.crs_model.specs.declared.plan.Plans.{Plans}
 use Rattle.crs_model.specs.declared.models.Name.{Name as CodeName}
 use Rattle.crs_model.specs.declared.models.Kind.{Kind as CodeKind}
 use Rattle.crs_model.specs.declared.models.Kind.TheVariants.{Message as CodeMessage, Attribute as CodeAttribute}
-use Rattle.crs_model.specs.Seen.{name_of}
+use Rattle.crs_model.specs.SeenModels.{name_of}
 use Rattle.std.proofs.lemmas.Bool.{le-ltb}
 use Rattle.crs_model.specs.Order.{put_in_order, in_key_order, HaveSameMembers}
 use Rattle.crs_log.specs.Recognitions.{view_of}

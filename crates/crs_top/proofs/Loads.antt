@@ -15,13 +15,13 @@ use Rattle.crs_model.specs.declared.models.ModelRefused.{ModelRefused}
 use Rattle.crs_model.specs.declared.models.ModelRefused.TheVariants.{At, Memory as NoMemory}
 use Rattle.crs_parse.specs.Meant.{read_of}
 use Rattle.crs_parse.specs.Faults.{after_lines, nothing_read}
-use Rattle.crs_report.specs.Lines.{model_line}
+use Rattle.crs_report.specs.OutputLines.{model_line}
 use Rattle.crs_top.specs.declared.status.Status.{Status}
 use Rattle.crs_top.specs.declared.status.Status.TheVariants.{Done, Refusals, Words, Rejected, ReadFault, WriteFault, Memory, TooLong}
 use Rattle.crs_top.specs.Inputs.{bytes_of, after, Opened, IsRead}
 use Rattle.crs_top.specs.Loads.{AreTaken, IsModelLine, LoadOutcome, EndsWithInput, Loaded, IsTooLong, Loads, Refuses}
 use Rattle.crs_top.specs.Logs.{AppendsFront, Says}
-use Rattle.crs_top.specs.Models.{IsFaulty}
+use Rattle.crs_top.specs.ModelTexts.{IsFaulty}
 
 size_line : model_line 0 Size ≡ codes "model line 0 size\n"
 unfolding digits

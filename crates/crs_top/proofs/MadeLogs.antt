@@ -16,7 +16,7 @@ use Rattle.crs_drill.specs.Drill.{grown, kind_of, dated, drawn, date_of, unit_of
 use Rattle.crs_drill.specs.DrillModels.{drill_models_text}
 use Rattle.crs_drill.proofs.Drawn.{AreStages, stages_none, kind_below, kind_stages, kind_base}
 use Rattle.crs_drill.proofs.MadeLines.{IsNumeral, numeral, lettered, IsWritten, plain_whole, split_line, entry_line, entry_ended, entry_written, clock_line, clock_written}
-use Rattle.crs_grammar.specs.Reading.{term_at, terms_on, values_on, arguments_at, pair_at, change_at, pattern_at, shift_at, anchor_at, span_of, level_of, event_of, noevent_of, most_at, occurs_of, hold_of, end_at, distance_of, values_of, differ_of, of_variable, variable_of, called_of, point_of, worded_of, inside_of, attribute_of, named_of, outside_of}
+use Rattle.crs_grammar.specs.TokenReading.{term_at, terms_on, values_on, arguments_at, pair_at, change_at, pattern_at, shift_at, anchor_at, span_of, level_of, event_of, noevent_of, most_at, occurs_of, hold_of, end_at, distance_of, values_of, differ_of, of_variable, variable_of, called_of, point_of, worded_of, inside_of, attribute_of, named_of, outside_of}
 use Rattle.crs_log.proofs.ItemLaw.{item_again}
 use Rattle.crs_log.specs.ItemOf.{Empty, what_is}
 use Rattle.crs_log.specs.Items.{Event, Item, Clock, Finish, Happens, IsStatement, log_number_of, in_dates}
@@ -27,7 +27,7 @@ use Rattle.crs_model.specs.declared.recognition.Mark.TheVariants.{Clock as AtClo
 use Rattle.crs_model.specs.Models.{Models, Name, Message}
 use Rattle.crs_parse.specs.Faults.{Fault}
 use Rattle.crs_parse.specs.Meant.{models_read}
-use Rattle.crs_top.specs.Models.{IsAccepted}
+use Rattle.crs_top.specs.ModelTexts.{IsAccepted}
 use Rattle.crs_top.specs.Texts.{Frame, setting_of, is_refused, some_refused}
 
 -- ---- the models

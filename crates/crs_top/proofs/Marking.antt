@@ -10,7 +10,7 @@ use Rattle.crs_model.specs.declared.recognition.Mark.TheVariants.{Clock, Finish}
 use Rattle.crs_engine.specs.Engines.{EngineState, HasMoved, kept_of}
 use Rattle.crs_engine.specs.Marks.{AfterMark}
 use Rattle.crs_engine.proofs.Marking.{moved_forward, moved_to}
-use Rattle.crs_engine.specs.Refusals.{clock_refusal, IsRefusedAs}
+use Rattle.crs_engine.specs.EngineRefusals.{clock_refusal, IsRefusedAs}
 use Rattle.crs_engine.specs.declared.refused.Refused.{Refused}
 use Rattle.crs_engine.specs.declared.refused.Refused.TheVariants.{Stopped, Back, Memory}
 use Rattle.std.proofs.lemmas.List.{length-map}
@@ -25,7 +25,7 @@ use Rattle.crs_top.specs.declared.session.Counts.{Counts}
 use Rattle.crs_top.specs.Tallies.{AllLive, Counted, with_mark, with_refused}
 use Rattle.crs_top.specs.Texts.{Frame, setting_of, fault_of, answer_line}
 use Rattle.crs_top.specs.Written.{Written, with_text, with_answer}
-use Rattle.crs_report.specs.Lines.{refusal_line}
+use Rattle.crs_report.specs.OutputLines.{refusal_line}
 use Rattle.crs_report.specs.Listeners.{notice_of}
 use Rattle.crs_top.specs.Notices.{notice_in}
 use Rattle.crs_top.proofs.Accepting.{refuse_brings}

@@ -16,7 +16,7 @@ use Rattle.crs_model.specs.declared.plan.Plans.{Plans}
 use Rattle.crs_model.specs.Models.{Chronicle, Name}
 use Rattle.crs_model.specs.Plans.{chronicle, IsProper}
 use Rattle.crs_model.specs.Renaming.{text_in, renamed_chronicle, renamed_name, renamed_models, IsChronicleOf}
-use Rattle.crs_model.specs.Seen.{chronicle_of, name_of, models_of}
+use Rattle.crs_model.specs.SeenModels.{chronicle_of, name_of, models_of}
 use Rattle.crs_log.specs.Run.{at_start}
 use Rattle.crs_log.specs.SeenNames.{name_seen, AreNamesIn}
 use Rattle.crs_parse.specs.Meant.{models_read}
@@ -24,10 +24,10 @@ use Rattle.crs_compile.specs.Compiled.{chronicles_in, ClosesFirst, IsRefusal}
 use Rattle.crs_engine.specs.Engines.{EngineState, StandsFor, plans_of, kept_of}
 use Rattle.crs_top.specs.Session.{HasText, chronicle_in, HasModels, HasEntries, Represents}
 use Rattle.crs_top.proofs.Living.{held_by, held_live}
-use Rattle.crs_top.specs.Models.{IsAccepted, ClosesInconsistent}
+use Rattle.crs_top.specs.ModelTexts.{IsAccepted, ClosesInconsistent}
 use Rattle.crs_top.specs.Prepared.{AreReadIn}
 use Rattle.crs_top.specs.Listings.{IsFaultyText}
-use Rattle.crs_parse.specs.Steps.{HaltsWith}
+use Rattle.crs_parse.specs.ModelSteps.{HaltsWith}
 use Rattle.crs_top.specs.Texts.{Frame}
 
 -- the refusals

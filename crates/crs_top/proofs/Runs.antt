@@ -10,8 +10,8 @@ use Rattle.crs_top.specs.declared.status.Status.TheVariants.{Done, Refusals, Wor
 use Rattle.crs_top.specs.Inputs.{bytes_of, after}
 use Rattle.crs_top.specs.Loads.{IsModelLine, LoadOutcome, EndsWithInput, Loaded}
 use Rattle.crs_top.specs.Logs.{Tail, LogOutcome}
-use Rattle.crs_top.specs.Models.{IsAccepted, IsFaulty}
-use Rattle.crs_top.specs.Run.{Most, Outcome, Runs, FollowOutcome, Followed}
+use Rattle.crs_top.specs.ModelTexts.{IsAccepted, IsFaulty}
+use Rattle.crs_top.specs.RunOutcomes.{Most, Outcome, Runs, FollowOutcome, Followed}
 use Rattle.crs_top.specs.Texts.{Frame}
 use Rattle.crs_top.proofs.Loads.{nothing_read_of}
 

@@ -6,7 +6,7 @@ use Rattle.std.specs.List.{AllByRecursion}
 use Rattle.std.specs.declared.rc.Rc.{Rc}
 use Rattle.std.proofs.Common.{Global}
 use Rattle.crs_model.specs.Models.{Chronicle}
-use Rattle.crs_model.specs.Seen.{chronicle_of}
+use Rattle.crs_model.specs.SeenModels.{chronicle_of}
 use Rattle.crs_base.specs.declared.symbols.Sym.{Sym}
 use Rattle.crs_base.specs.Entry.{Entry, entry_cmp}
 use Rattle.crs_base.specs.Words.{IsIn, Ordered}

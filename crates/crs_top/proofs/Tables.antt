@@ -1,7 +1,7 @@
 -- Tables that are written as logs, or refused.
 use Rattle.std.proofs.Common.{◌≡◌, ◌⊎◌, ◌∙◌, sym, refl, inl, inr, ℕ, arith, ◌^◌, List, codes, Err}
 use Rattle.std.specs.Fmt.{digits}
-use Rattle.crs_import.specs.Refusals.{refusal_line}
+use Rattle.crs_import.specs.TableRefusals.{refusal_line}
 use Rattle.crs_import.specs.Tables.{table_log}
 use Rattle.crs_import.specs.declared.refusals.ImportRefused.{ImportRefused}
 use Rattle.crs_import.specs.declared.refusals.ImportRefused.TheVariants.{Csv, Row, Memory}

@@ -9,10 +9,10 @@ use Rattle.crs_report.specs.Summaries.{summary_line}
 use Rattle.crs_report.specs.declared.summary.Summary.{Summary}
 use Rattle.crs_top.specs.declared.status.Status.{Status}
 use Rattle.crs_top.specs.declared.status.Status.TheVariants.{Done, Refusals, Rejected, WriteFault, Memory, TooLong}
-use Rattle.crs_top.specs.Commands.{Does, IsUnrefused}
+use Rattle.crs_top.specs.CommandOutcomes.{Does, IsUnrefused}
 use Rattle.crs_top.specs.Drills.{SumsUp, Drills, RefusesNothing}
 use Rattle.crs_top.specs.Logs.{ended_as, Says}
-use Rattle.crs_top.specs.Run.{standard}
+use Rattle.crs_top.specs.RunOutcomes.{standard}
 use Rattle.crs_top.specs.Texts.{Frame, some_refused}
 use Rattle.crs_words.specs.Commands.{Command, Run, Print, Drill, Import, command_of}
 use Rattle.crs_words.proofs.Bounds.{drill_bounds}

@@ -6,14 +6,14 @@ use Rattle.crs_report.specs.Listeners.{Member, keep_members}
 use Rattle.crs_words.specs.Kinds.{kinds_of}
 use Rattle.crs_words.specs.Commands.{Command, Run, Print, Drill, Import}
 use Rattle.crs_top.specs.declared.status.Status.TheVariants.{Memory}
-use Rattle.crs_top.specs.Commands.{Does}
+use Rattle.crs_top.specs.CommandOutcomes.{Does}
 use Rattle.crs_top.specs.Imports.{IsTableLog, IsTableLine}
 use Rattle.crs_top.specs.Inputs.{bytes_of}
 use Rattle.crs_top.specs.Listings.{IsListed}
 use Rattle.crs_top.specs.Loads.{Loaded, IsModelLine}
 use Rattle.crs_top.specs.Logs.{tail_of}
-use Rattle.crs_top.specs.Models.{IsFaulty}
-use Rattle.crs_top.specs.Run.{Most}
+use Rattle.crs_top.specs.ModelTexts.{IsFaulty}
+use Rattle.crs_top.specs.RunOutcomes.{Most}
 use Rattle.crs_top.proofs.Loads.{nothing_read_of, ends_wanting}
 use Rattle.crs_top.proofs.Runs.{run_ended}
 

@@ -10,8 +10,8 @@ use Rattle.crs_report.specs.declared.summary.Summary.{Summary}
 use Rattle.crs_top.specs.declared.status.Status.TheVariants.{Done, Refusals, Rejected, Memory, TooLong}
 use Rattle.crs_top.specs.Loads.{IsModelLine}
 use Rattle.crs_top.specs.Logs.{ended_as, Appends, Says}
-use Rattle.crs_top.specs.Models.{IsAccepted, IsFaulty}
-use Rattle.crs_top.specs.Run.{Most}
+use Rattle.crs_top.specs.ModelTexts.{IsAccepted, IsFaulty}
+use Rattle.crs_top.specs.RunOutcomes.{Most}
 use Rattle.crs_top.specs.Tallies.{IsSummaryText}
 use Rattle.crs_top.specs.Texts.{Frame, some_refused}
 

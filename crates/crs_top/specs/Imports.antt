@@ -1,7 +1,7 @@
 -- What the command that writes a table as a log does to a desk that tells its contents.
 use Rattle.std.specs.Prelude.{◌≡◌, ◌⊎◌, ◌^◌, ℕ, List, Ok, Err}
 use Rattle.crs_desk.specs.Desk.{Told}
-use Rattle.crs_import.specs.Refusals.{refusal_line}
+use Rattle.crs_import.specs.TableRefusals.{refusal_line}
 use Rattle.crs_import.specs.Tables.{table_log}
 use Rattle.crs_import.specs.declared.refusals.ImportRefused.{ImportRefused}
 use Rattle.crs_import.specs.declared.refusals.ImportRefused.TheVariants.{Csv, Row, Memory as NoMemory}

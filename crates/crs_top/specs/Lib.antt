@@ -6,14 +6,14 @@ pub mod Tallies
 pub mod Session
 pub mod Taking
 pub mod Logs
-pub mod Models
+pub mod ModelTexts
 pub mod Inputs
 pub mod Loads
 pub mod Prepared
-pub mod Run
+pub mod RunOutcomes
 pub mod Listings
 pub mod Imports
 pub mod Drills
 pub mod Summing
-pub mod Commands
+pub mod CommandOutcomes
 pub mod Rearranged

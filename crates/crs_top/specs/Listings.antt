@@ -5,7 +5,7 @@ use Rattle.crs_model.specs.declared.models.ModelWord.{ModelWord}
 use Rattle.crs_model.specs.declared.models.ModelRefused.{ModelRefused}
 use Rattle.crs_model.specs.declared.models.ModelRefused.TheVariants.{At, Memory as NoMemory}
 use Rattle.crs_model.specs.Models.{Models}
-use Rattle.crs_print.specs.Printed.{models_text}
+use Rattle.crs_print.specs.CanonicalText.{models_text}
 use Rattle.crs_compile.specs.Minimal.{IsMinimalText}
 use Rattle.crs_top.specs.declared.status.Status.{Status}
 use Rattle.crs_top.specs.declared.status.Status.TheVariants.{Done, Rejected, Memory}
@@ -13,7 +13,7 @@ use Rattle.crs_words.specs.declared.command.Listing.{Listing}
 use Rattle.crs_words.specs.declared.command.Listing.TheVariants.{Canonical, Minimal}
 use Rattle.crs_top.specs.Inputs.{bytes_of}
 use Rattle.crs_top.specs.Loads.{EndsWithInput, IsModelLine}
-use Rattle.crs_top.specs.Models.{AreModelsIn, IsFaulty}
+use Rattle.crs_top.specs.ModelTexts.{AreModelsIn, IsFaulty}
 
 -- what is printed of models
 abbrev pub IsListing : Listing → Models (List ℕ) → List ℕ → Type 0

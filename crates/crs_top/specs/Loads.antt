@@ -6,7 +6,7 @@ use Rattle.crs_desk.specs.declared.turn.Turn.{Turn}
 use Rattle.crs_model.specs.declared.models.ModelWord.{ModelWord}
 use Rattle.crs_model.specs.declared.models.ModelRefused.{ModelRefused}
 use Rattle.crs_model.specs.declared.models.ModelRefused.TheVariants.{At, Memory as NoMemory}
-use Rattle.crs_report.specs.Lines.{model_line}
+use Rattle.crs_report.specs.OutputLines.{model_line}
 use Rattle.crs_top.specs.declared.status.Status.{Status}
 use Rattle.crs_top.specs.declared.status.Status.TheVariants.{Done, Refusals, Words, Rejected, ReadFault, WriteFault, Memory, TooLong}
 use Rattle.crs_top.specs.Inputs.{bytes_of, after, Opened, IsRead}

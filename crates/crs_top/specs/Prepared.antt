@@ -5,11 +5,11 @@ use Rattle.crs_log.specs.Run.{at_start}
 use Rattle.crs_model.specs.declared.models.Models.{Models as CodeModels}
 use Rattle.crs_model.specs.ProperModels.{AreProper}
 use Rattle.crs_model.specs.Renaming.{text_in, renamed_models, AreModelsOf}
-use Rattle.crs_model.specs.Seen.{models_of}
+use Rattle.crs_model.specs.SeenModels.{models_of}
 use Rattle.crs_parse.specs.Meant.{models_read}
 use Rattle.crs_top.specs.declared.session.Session.{Session}
 use Rattle.crs_top.specs.Session.{HasText, Represents, IsUncounted}
-use Rattle.crs_top.specs.Models.{IsAccepted}
+use Rattle.crs_top.specs.ModelTexts.{IsAccepted}
 use Rattle.crs_top.specs.Texts.{Frame}
 
 -- the models are what the text means, with the symbols of this table, which may hold `symbols` of them

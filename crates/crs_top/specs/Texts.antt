@@ -11,7 +11,7 @@ use Rattle.crs_log.specs.Run.{Setting, State, Outcome, Passed, Refused, Accepted
 use Rattle.crs_log.specs.Trace.{Answer, Effect, IsTrace}
 use Rattle.crs_report.specs.declared.refusals.Fault.{Fault}
 use Rattle.crs_report.specs.declared.refusals.Fault.TheVariants as faults
-use Rattle.crs_report.specs.Lines.{recognition_line, refusal_line}
+use Rattle.crs_report.specs.OutputLines.{recognition_line, refusal_line}
 
 abbrev pub LogEntry : Type 0
 LogEntry = Entry (List ℕ)

@@ -3,7 +3,7 @@ ghost use Rattle.std.specs.Prelude.{◌≡◌, ◌≤◌, true, IfOk, OnOk};
 ghost use Rattle.crs_drill.specs.Drill.{drill_text};
 ghost use Rattle.crs_log.specs.Run.{at_start};
 ghost use Rattle.crs_top.specs.Drills.{Drills, SumsUp};
-ghost use Rattle.crs_top.specs.Run.{most_of};
+ghost use Rattle.crs_top.specs.RunOutcomes.{most_of};
 ghost use Rattle.crs_top.specs.Session.{IsReady, Represents, IsUncounted};
 ghost use Rattle.crs_top.specs.Status.{HasCauses};
 ghost use Rattle.crs_top.specs.Summing.{TakesLog, IsSummed, WritesSummary};

@@ -1,6 +1,6 @@
 // What is written for the lines of a log.
 ghost use Rattle.std.specs.Prelude.{◌≡◌, ◌++◌, OnOk, flat_map};
-ghost use Rattle.crs_report.specs.Lines.{refusal_line};
+ghost use Rattle.crs_report.specs.OutputLines.{refusal_line};
 ghost use Rattle.crs_top.specs.Session.{ArePrintable, line_in};
 ghost use Rattle.crs_top.specs.Written.{unwritten, with_text, with_answer};
 

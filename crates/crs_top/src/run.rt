@@ -6,9 +6,9 @@ ghost use Rattle.crs_top.specs.Session.{IsReady, Represents, IsUncounted};
 ghost use Rattle.crs_top.specs.Texts.{Frame};
 ghost use Rattle.crs_words.specs.Commands.{command_of};
 ghost use Rattle.crs_top.specs.Logs.{tail_of};
-ghost use Rattle.crs_top.specs.Run.{Runs, Follows, most_of, standard};
+ghost use Rattle.crs_top.specs.RunOutcomes.{Runs, Follows, most_of, standard};
 ghost use Rattle.crs_top.specs.Status.{HasCauses};
-ghost use Rattle.crs_top.specs.Commands.{Does, CompletesCommand, IsUnrefused};
+ghost use Rattle.crs_top.specs.CommandOutcomes.{Does, CompletesCommand, IsUnrefused};
 
 use crate::drilling::drill;
 use crate::limits::{Limits, STANDARD};

@@ -14,7 +14,7 @@ ghost use Rattle.crs_top.specs.Session.{IsReady, BringsAll, IsShort, ordered_wha
 ghost use Rattle.crs_top.specs.Tallies.{with_refused};
 ghost use Rattle.crs_top.specs.Texts.{setting_of};
 ghost use Rattle.crs_top.specs.Written.{with_text};
-ghost use Rattle.crs_report.specs.Lines.{refusal_line};
+ghost use Rattle.crs_report.specs.OutputLines.{refusal_line};
 
 use crate::output::Output;
 use crate::session::Session;

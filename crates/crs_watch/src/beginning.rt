@@ -8,7 +8,7 @@ ghost use Rattle.crs_history.specs.Looking.{AllAgree};
 ghost use Rattle.crs_model.specs.Models.{Hold as HoldBody};
 ghost use Rattle.crs_model.specs.Bindings.{look_of};
 ghost use Rattle.crs_model.specs.Matching.{PatternIs};
-ghost use Rattle.crs_model.specs.Seen.{term_of, pattern_of, body_of};
+ghost use Rattle.crs_model.specs.SeenModels.{term_of, pattern_of, body_of};
 ghost use Rattle.crs_model.specs.Verdicts.{Count, IsCount, PatternIsBound, BodyIsBound};
 ghost use Rattle.crs_model.specs.HasProgress.{IsProgress, IsCounted, IsBroken, IsUnbroken, IsWholeFor};
 ghost use Rattle.crs_model.specs.Ready.{HoldsOne};

@@ -3,7 +3,7 @@ ghost use Rattle.crs_base.specs.declared.symbols.Sym.{Sym};
 ghost use Rattle.crs_base.specs.Entry.{Entry as LogEntry};
 ghost use Rattle.crs_model.specs.Matching.{Binding};
 ghost use Rattle.crs_model.specs.Partial.{Partial};
-ghost use Rattle.crs_model.specs.Seen.{body_of, window_of};
+ghost use Rattle.crs_model.specs.SeenModels.{body_of, window_of};
 ghost use Rattle.crs_model.specs.Verdicts.{IsStretch, BodyIsBound};
 ghost use Rattle.crs_model.specs.HasProgress.{IsProgress, IsInRange, IsAbove};
 ghost use Rattle.crs_watch.specs.Judged.{IsToldBy, IsVerdict};

@@ -2,7 +2,7 @@ ghost use Rattle.std.specs.Prelude.{◌≤◌, length, map};
 ghost use Rattle.std.specs.List.{AllZip, AllByRecursion};
 ghost use Rattle.crs_model.specs.Bindings.{look_of};
 ghost use Rattle.crs_model.specs.Matching.{TermIs};
-ghost use Rattle.crs_model.specs.Seen.{term_of};
+ghost use Rattle.crs_model.specs.SeenModels.{term_of};
 ghost use Rattle.crs_model.specs.Verdicts.{TermIsBound};
 ghost use Rattle.crs_model.specs.ProperModels.{IsDefinite};
 

@@ -4,7 +4,7 @@ ghost use Rattle.crs_base.specs.Entry.{Entry as LogEntry};
 ghost use Rattle.crs_history.specs.Histories.{StandsFor};
 ghost use Rattle.crs_model.specs.Models.{Hold as HoldBody};
 ghost use Rattle.crs_model.specs.Bindings.{look_of};
-ghost use Rattle.crs_model.specs.Seen.{term_of, body_of};
+ghost use Rattle.crs_model.specs.SeenModels.{term_of, body_of};
 ghost use Rattle.crs_model.specs.Verdicts.{BodyIsBound};
 ghost use Rattle.crs_model.specs.HasProgress.{IsProgress, StartsWell, StartsIll};
 ghost use Rattle.crs_model.specs.Ready.{HoldsOne};

@@ -6,7 +6,7 @@ ghost use Rattle.crs_base.specs.Values.{IsChange, NewIs};
 ghost use Rattle.crs_model.specs.Models.{Hold as HoldBody};
 ghost use Rattle.crs_model.specs.Bindings.{look_of};
 ghost use Rattle.crs_model.specs.Matching.{PatternIs};
-ghost use Rattle.crs_model.specs.Seen.{term_of, pattern_of, body_of};
+ghost use Rattle.crs_model.specs.SeenModels.{term_of, pattern_of, body_of};
 ghost use Rattle.crs_model.specs.Verdicts.{IsDatedIn, PatternIsBound, BodyIsBound};
 ghost use Rattle.crs_model.specs.HasProgress.{IsProgress, Hits, Breaks, Spares};
 ghost use Rattle.crs_model.specs.Ready.{HoldsOne};

@@ -1,7 +1,7 @@
 use Rattle.std.proofs.Common.{◌≡◌, ◌-◌, arith}
 use Rattle.std.proofs.Common.{Less}
 use Rattle.crs_buffer.specs.declared.held.Held.{Held}
-use Rattle.crs_buffer.specs.Held.{held_cmp}
+use Rattle.crs_buffer.specs.HeldOrder.{held_cmp}
 use Rattle.crs_buffer.proofs.Queued.{dropped_one}
 use Rattle.crs_buffer.proofs.queue.place_of.Goals as goal
 

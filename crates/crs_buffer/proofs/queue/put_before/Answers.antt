@@ -1,6 +1,6 @@
 use Rattle.std.proofs.Common.{◌++◌, ap, ◌∙◌}
 use Rattle.std.specs.BTreeSet.{insert_key}
-use Rattle.crs_buffer.specs.Held.{held_cmp}
+use Rattle.crs_buffer.specs.HeldOrder.{held_cmp}
 use Rattle.crs_buffer.proofs.Queued.{insert_head}
 use Rattle.crs_buffer.proofs.queue.put_before.Goals as goal
 

@@ -1,5 +1,5 @@
 use Rattle.std.proofs.Common.{◌≡◌, ◌++◌, map, drop}
-use Rattle.crs_model.specs.Seen.{event_of}
+use Rattle.crs_model.specs.SeenModels.{event_of}
 use Rattle.crs_compile.proofs.minimal.point_names.Given as goal
 
 abbrev pub invariant-loop-event : goal.invariant-loop-event

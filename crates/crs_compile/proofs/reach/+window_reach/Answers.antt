@@ -1,6 +1,6 @@
 use Rattle.std.proofs.Common.{map}
 use Rattle.crs_stn.specs.Table.{most_of}
-use Rattle.crs_model.specs.Seen.{anchor_of, window_of}
+use Rattle.crs_model.specs.SeenModels.{anchor_of, window_of}
 use Rattle.crs_compile.proofs.Spans.{starts_more}
 use Rattle.crs_compile.proofs.reach.+window_reach.Goals as goal
 

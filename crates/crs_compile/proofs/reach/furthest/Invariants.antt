@@ -1,5 +1,5 @@
 use Rattle.crs_stn.specs.Table.{most_of}
-use Rattle.crs_model.specs.Seen.{anchor_of}
+use Rattle.crs_model.specs.SeenModels.{anchor_of}
 use Rattle.crs_compile.proofs.Spans.{IsFurthest}
 use Rattle.crs_compile.proofs.reach.furthest.Given as goal
 

@@ -1,7 +1,7 @@
 use Rattle.std.proofs.Common.{map, length}
 use Rattle.std.proofs.lemmas.List.{length-map}
 use Rattle.crs_stn.specs.Table.{most_of}
-use Rattle.crs_model.specs.Seen.{window_of}
+use Rattle.crs_model.specs.SeenModels.{window_of}
 use Rattle.crs_compile.proofs.Spans.{reach_joined}
 use Rattle.crs_compile.proofs.reach.reach_of.Goals as goal
 

@@ -1,5 +1,5 @@
 use Rattle.std.proofs.Common.{◌≡◌, map, drop}
-use Rattle.crs_desk.specs.Schedule.{is_failing_read}
+use Rattle.crs_desk.specs.FailingCalls.{is_failing_read}
 use Rattle.crs_desk.specs.FailingRead.{call_of}
 use Rattle.crs_desk.proofs.schedule.is_failing.Given as goal
 

@@ -2,7 +2,7 @@ use Rattle.std.proofs.Common.{List, length, map, subst, sym}
 use Rattle.crs_model.specs.declared.chronicle.EventDef.{EventDef}
 use Rattle.crs_model.specs.Levels.{level_in}
 use Rattle.crs_model.specs.Plans.{chronicle}
-use Rattle.crs_model.specs.Seen.{event_of}
+use Rattle.crs_model.specs.SeenModels.{event_of}
 use Rattle.crs_focus.specs.Current.{IsLeastUnset}
 use Rattle.crs_focus.proofs.Unset.{current_is}
 use Rattle.crs_focus.proofs.level.current_level.Goals as goal

@@ -1,7 +1,7 @@
 use Rattle.std.proofs.Common.{◌≡◌, ◌≤◌, ◌+◌, map, subst, sym, ◌∙◌, true≢false}
 use Rattle.std.specs.Prelude.{◌⊎◌, Some}
 use Rattle.crs_model.specs.Levels.{level_in}
-use Rattle.crs_model.specs.Seen.{event_of}
+use Rattle.crs_model.specs.SeenModels.{event_of}
 use Rattle.crs_focus.specs.Current.{IsLeastUnset}
 use Rattle.crs_focus.proofs.Unset.{least_bound, least_unbound}
 use Rattle.crs_focus.proofs.level.least_unset.Goals as goal

@@ -1,6 +1,6 @@
 use Rattle.std.proofs.Common.{map}
 use Rattle.crs_model.specs.Levels.{level_in}
-use Rattle.crs_model.specs.Seen.{event_of}
+use Rattle.crs_model.specs.SeenModels.{event_of}
 use Rattle.crs_focus.specs.Current.{IsLeastUnset}
 use Rattle.crs_focus.proofs.level.least_unset.Given as goal
 

@@ -2,7 +2,7 @@ use Rattle.std.proofs.Common.{◌≡◌, ◌≤◌, List, [], ◌∷◌, length,
 use Rattle.std.proofs.lemmas.List.{length-map}
 use Rattle.std.specs.Prelude.{None}
 use Rattle.crs_base.specs.Tokens.{Token}
-use Rattle.crs_grammar.specs.Reading.{whole, span_of}
+use Rattle.crs_grammar.specs.TokenReading.{whole, span_of}
 use Rattle.crs_grammar.proofs.parsing.range.Goals as goal
 
 whole_none : {A : Type 0} (x : A) (ts : List Token) → 1 ≤ length ts → whole x ts ≡ None

@@ -1,6 +1,6 @@
 use Rattle.std.proofs.Common.{◌≡◌, ◌++◌, drop}
 use Rattle.crs_base.specs.SeenTokens as places
-use Rattle.crs_grammar.specs.SeenTokens.{seen}
+use Rattle.crs_grammar.specs.GrammarTokens.{seen}
 use Rattle.crs_grammar.proofs.words.sliced.Given as goal
 
 -- those so far and those of what is left

@@ -2,7 +2,7 @@ use Rattle.std.proofs.Common.{◌≡◌, ◌+◌, cond, None, Some, sym, ap, ◌
 use Rattle.std.specs.Prelude.{is_some}
 use Rattle.std.specs.BTreeMap.{is_at}
 use Rattle.std.specs.Option.{option_copied}
-use Rattle.crs_history.specs.Numbers.{count_of, step_of, step_cmp}
+use Rattle.crs_history.specs.ListNumbers.{count_of, step_of, step_cmp}
 use Rattle.crs_history.proofs.Numbering.{step_added, step_numbering}
 use Rattle.crs_history.proofs.numbers.add_step.Goals as goal
 

@@ -2,8 +2,8 @@ use Rattle.std.proofs.Common.{◌≡◌, ◌∙◌, sym, ap, inr, true, rules, B
 use Rattle.std.proofs.lemmas.Result.{err_from_is_err_and}
 use Rattle.csv.specs.Records.{fields_of}
 use Rattle.crs_import.specs.Records.{line_of}
-use Rattle.crs_import.specs.Reading.{Took, Found}
-use Rattle.crs_import.specs.Seen.{line_seen}
+use Rattle.crs_import.specs.TableReading.{Took, Found}
+use Rattle.crs_import.specs.SeenTables.{line_seen}
 use Rattle.crs_import.proofs.Logs.{pushed, faulty, refused}
 use Rattle.crs_import.proofs.tables.push_record.Goals as goal
 

@@ -1,6 +1,6 @@
 use Rattle.std.proofs.Common.{◌≡◌, ◌∙◌, [], false, Bool, Some, Bor, List, ℕ, subst, rules}
-use Rattle.crs_import.specs.Reading.{rows_left}
-use Rattle.crs_import.specs.Steps.{PushesRow}
+use Rattle.crs_import.specs.TableReading.{rows_left}
+use Rattle.crs_import.specs.TableSteps.{PushesRow}
 use Rattle.crs_import.proofs.Logs.{at_end}
 use Rattle.crs_import.proofs.tables.read_rows.Goals as goal
 

@@ -1,5 +1,5 @@
 use Rattle.std.proofs.Common.{◌≡◌, Some, Bor, List, ℕ}
-use Rattle.crs_import.specs.Reading.{IsReading, rows_left}
+use Rattle.crs_import.specs.TableReading.{IsReading, rows_left}
 use Rattle.crs_import.specs.Tables.{headed, log_of, onto}
 use Rattle.crs_import.proofs.tables.read_rows.Given as goal
 

@@ -1,5 +1,5 @@
 use Rattle.std.proofs.Common.{◌≡◌, ◌+◌, ◌-◌, length, ℕ}
-use Rattle.crs_index.specs.Numbers.{slot, table}
+use Rattle.crs_index.specs.KeyNumbers.{slot, table}
 use Rattle.crs_index.proofs.numbers.open_rows.Given as goal
 
 abbrev pub invariant-loop-alloc : goal.invariant-loop-alloc

@@ -1,7 +1,7 @@
 use Rattle.std.proofs.Common.{rules}
 use Rattle.crs_base.specs.Seen.{entry_of}
 use Rattle.crs_model.specs.Matching.{PatternIs}
-use Rattle.crs_model.specs.Seen.{chronicle_of, pattern_of}
+use Rattle.crs_model.specs.SeenModels.{chronicle_of, pattern_of}
 use Rattle.crs_model.proofs.Matches.{met_yes}
 use Rattle.crs_instance.proofs.Pushes.{bound_not_at}
 use Rattle.crs_instance.proofs.instance.matched.Goals as goal

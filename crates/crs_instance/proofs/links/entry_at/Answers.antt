@@ -1,4 +1,4 @@
-use Rattle.crs_instance.specs.Links.{partial_of}
+use Rattle.crs_instance.specs.EntryLinks.{partial_of}
 use Rattle.crs_instance.proofs.Linked.{first_entry, other_entry, early_rest}
 use Rattle.crs_instance.proofs.links.entry_at.Goals as goal
 

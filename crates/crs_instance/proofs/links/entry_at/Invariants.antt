@@ -1,6 +1,6 @@
 use Rattle.std.proofs.Common.{◌≡◌, ℕ}
 use Rattle.crs_model.specs.Partial.{at}
-use Rattle.crs_instance.specs.Links.{partial_of, AreLinked, AreEarly}
+use Rattle.crs_instance.specs.EntryLinks.{partial_of, AreLinked, AreEarly}
 use Rattle.crs_instance.proofs.links.entry_at.Given as goal
 
 abbrev pub invariant-loop-here : goal.invariant-loop-here

@@ -1,5 +1,5 @@
 use Rattle.std.proofs.Common.{ℕ}
-use Rattle.crs_instance.specs.Links.{AreLinked}
+use Rattle.crs_instance.specs.EntryLinks.{AreLinked}
 use Rattle.crs_instance.proofs.Linked.{IsPart, ComesFrom}
 use Rattle.crs_instance.proofs.links.gives.Given as goal
 

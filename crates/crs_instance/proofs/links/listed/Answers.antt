@@ -1,7 +1,7 @@
 use Rattle.std.proofs.Common.{arith}
 use Rattle.std.specs.Option.{option_copied}
 use Rattle.crs_instance.specs.Instances.{seen_entry}
-use Rattle.crs_instance.specs.Links.{partial_of}
+use Rattle.crs_instance.specs.EntryLinks.{partial_of}
 use Rattle.crs_instance.proofs.Linked.{linked_len, all_listed}
 use Rattle.crs_instance.proofs.Pushes.{listed_more}
 use Rattle.crs_instance.proofs.links.listed.Goals as goal

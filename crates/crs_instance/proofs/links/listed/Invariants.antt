@@ -1,5 +1,5 @@
 use Rattle.std.proofs.Common.{take}
-use Rattle.crs_instance.specs.Links.{partial_of, AreLinked, AreListed}
+use Rattle.crs_instance.specs.EntryLinks.{partial_of, AreLinked, AreListed}
 use Rattle.crs_instance.proofs.links.listed.Given as goal
 
 abbrev pub invariant-loop-event : goal.invariant-loop-event

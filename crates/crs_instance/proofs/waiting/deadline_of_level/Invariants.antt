@@ -2,7 +2,7 @@ use Rattle.std.proofs.Common.{◌≡◌, map, true}
 use Rattle.std.specs.Prelude.{◌==◌}
 use Rattle.crs_stn.specs.DateWindow.{least_of}
 use Rattle.crs_model.specs.Levels.{level_in}
-use Rattle.crs_model.specs.Seen.{event_of}
+use Rattle.crs_model.specs.SeenModels.{event_of}
 use Rattle.crs_model.specs.Bits.{is_set}
 use Rattle.crs_instance.specs.Spans.{end_of, windows_of}
 use Rattle.crs_instance.specs.Instances.{window_at}

@@ -4,7 +4,7 @@ use Rattle.crs_base.specs.declared.symbols.Sym.{Sym}
 use Rattle.crs_base.specs.Seen.{entry_of}
 use Rattle.crs_model.specs.Bindings.{look_of, IsMet}
 use Rattle.crs_model.specs.Matching.{PatternIs}
-use Rattle.crs_model.specs.Seen.{pattern_of}
+use Rattle.crs_model.specs.SeenModels.{pattern_of}
 use Rattle.crs_model.specs.Verdicts.{PatternIsBound}
 use Rattle.crs_model.proofs.FitSays.{accepts_says, pattern_below}
 use Rattle.crs_model.proofs.matching.accepts.Goals as goal

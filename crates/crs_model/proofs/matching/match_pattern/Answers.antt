@@ -2,7 +2,7 @@ use Rattle.std.proofs.Common.{rules, List, map, ap}
 use Rattle.std.specs.Prelude.{Some, None, cond}
 use Rattle.crs_model.specs.declared.pattern.Term.{Term as CodeTerm}
 use Rattle.crs_base.specs.Seen.{entry_of}
-use Rattle.crs_model.specs.Seen.{term_of, pattern_of}
+use Rattle.crs_model.specs.SeenModels.{term_of, pattern_of}
 use Rattle.crs_model.proofs.FitSays.{pattern_then}
 use Rattle.crs_model.proofs.Matches.{met_yes}
 use Rattle.crs_model.proofs.matching.match_pattern.Goals as goal

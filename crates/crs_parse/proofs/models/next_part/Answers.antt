@@ -4,7 +4,7 @@ use Rattle.crs_grammar.specs.SeenStatements as seen
 use Rattle.crs_parse.specs.Faults as faults
 use Rattle.crs_base.specs.SeenLines.{line_seen}
 use Rattle.crs_parse.specs.SeenReading as see
-use Rattle.crs_parse.specs.Steps as steps
+use Rattle.crs_parse.specs.ModelSteps as steps
 use Rattle.crs_parse.proofs.Parts.{part_none, part_some, part_refused, moves_along}
 use Rattle.crs_parse.specs.Grows.{lines_symbols}
 use Rattle.crs_parse.proofs.Grows.{grows_first, grows_rest, grows_then, among_rest, among_own, among_then, if_each}

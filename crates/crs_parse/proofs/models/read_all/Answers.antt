@@ -2,7 +2,7 @@ use Rattle.std.proofs.Common.{arith, map, ap, sym, ◌∙◌}
 use Rattle.crs_base.specs.Lines.{lines_of}
 use Rattle.crs_parse.specs.Faults.{after_lines}
 use Rattle.crs_parse.specs.SeenReading as see
-use Rattle.crs_parse.specs.Steps as steps
+use Rattle.crs_parse.specs.ModelSteps as steps
 use Rattle.crs_parse.proofs.Grows.{grows_part, among_then}
 use Rattle.crs_parse.proofs.models.read_all.Goals as goal
 

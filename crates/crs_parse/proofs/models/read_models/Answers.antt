@@ -1,7 +1,7 @@
 use Rattle.std.proofs.Common.{sym, subst}
 use Rattle.crs_base.specs.Lines.{lines_of}
-use Rattle.crs_model.specs.Seen as view
-use Rattle.crs_parse.specs.Held.{IsHeldReading}
+use Rattle.crs_model.specs.SeenModels as view
+use Rattle.crs_parse.specs.HeldStatements.{IsHeldReading}
 use Rattle.crs_model.specs.ProperModels.{AreProper}
 use Rattle.crs_parse.specs.SeenReading as see
 use Rattle.crs_parse.proofs.HeldReading.{lines_read}

@@ -1,7 +1,7 @@
 use Rattle.std.proofs.Common.{◌≡◌, ◌++◌, drop, map}
 use Rattle.std.specs.List.{flat_map, AllByRecursion}
 use Rattle.crs_parse.specs.Meant as meant
-use Rattle.crs_parse.specs.Held as held
+use Rattle.crs_parse.specs.HeldStatements as held
 use Rattle.crs_grammar.specs.SeenStatements as seen
 use Rattle.crs_parse.proofs.numbering.bounds.Given as goal
 

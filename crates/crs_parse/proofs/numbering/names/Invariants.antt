@@ -1,9 +1,9 @@
 use Rattle.std.proofs.Common.{◌≡◌, ◌++◌, drop, map}
 use Rattle.std.specs.List.{AllByRecursion}
-use Rattle.crs_model.specs.Seen as view
+use Rattle.crs_model.specs.SeenModels as view
 use Rattle.crs_parse.specs.Meant as meant
 use Rattle.crs_model.specs.Renaming as renamed
-use Rattle.crs_parse.specs.Held as held
+use Rattle.crs_parse.specs.HeldStatements as held
 use Rattle.crs_parse.specs.SeenReading as see
 use Rattle.crs_parse.proofs.numbering.names.Given as goal
 

@@ -1,6 +1,6 @@
 use Rattle.std.proofs.Common.{◌≡◌, ◌++◌, drop, map}
 use Rattle.crs_model.specs.Renaming as renamed
-use Rattle.crs_parse.specs.Held as held
+use Rattle.crs_parse.specs.HeldStatements as held
 use Rattle.crs_parse.proofs.numbering.numbers.Given as goal
 
 -- those so far and those of what is left

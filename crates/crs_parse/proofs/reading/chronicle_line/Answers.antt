@@ -4,7 +4,7 @@ use Rattle.crs_parse.proofs.Bytes.{bytes_short}
 use Rattle.crs_parse.proofs.Premises.{are_read}
 use Rattle.crs_parse.specs.Grows.{Grows, read_symbols}
 use Rattle.crs_parse.proofs.Grows.{grows_inside}
-use Rattle.crs_parse.specs.Steps.{inside_line}
+use Rattle.crs_parse.specs.ModelSteps.{inside_line}
 use Rattle.crs_parse.proofs.reading.chronicle_line.Goals as goal
 
 pub step_inside-requires : goal.step_inside-requires

@@ -1,11 +1,11 @@
 use Rattle.std.proofs.Common.{sym, subst, length, ◌≤◌, ◌∙◌}
 use Rattle.crs_base.specs.SeenLines.{line_seen}
-use Rattle.crs_parse.specs.Steps.{HasSymbols}
+use Rattle.crs_parse.specs.ModelSteps.{HasSymbols}
 use Rattle.crs_parse.proofs.Bytes.{bytes_short}
 use Rattle.crs_parse.proofs.Premises.{are_declared}
 use Rattle.crs_parse.specs.Grows.{Grows, read_symbols}
 use Rattle.crs_parse.proofs.Grows.{grows_outside}
-use Rattle.crs_parse.specs.Steps.{outside_line}
+use Rattle.crs_parse.specs.ModelSteps.{outside_line}
 use Rattle.crs_parse.proofs.reading.outer_line.Goals as goal
 
 pub read_outside-requires : goal.read_outside-requires

@@ -1,6 +1,6 @@
 use Rattle.std.proofs.Common.{◌≡◌, ◌+◌, ◌≤◌, map, length}
 use Rattle.crs_base.specs.Lines.{lines_of}
-use Rattle.crs_parse.specs.Steps as steps
+use Rattle.crs_parse.specs.ModelSteps as steps
 use Rattle.crs_parse.specs.Grows.{Grows, AreAmong, lines_symbols}
 use Rattle.crs_parse.specs.SeenReading as see
 use Rattle.crs_parse.proofs.reading.read_chronicle.Given as goal

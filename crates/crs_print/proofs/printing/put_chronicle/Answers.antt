@@ -1,9 +1,9 @@
 use Rattle.std.proofs.Common.{◌≡◌, ◌∙◌, ◌++◌, map, List, ℕ, subst, sym}
 use Rattle.std.specs.List.{flat_map, AllByRecursion}
 use Rattle.crs_model.specs.Renaming as renamed
-use Rattle.crs_model.specs.Seen as view
+use Rattle.crs_model.specs.SeenModels as view
 use Rattle.crs_grammar.specs.Canon.{statement_line}
-use Rattle.crs_print.specs.Printed as from
+use Rattle.crs_print.specs.CanonicalText as from
 use Rattle.crs_print.specs.Said as said
 use Rattle.crs_grammar.specs.Statements.{Begin, Close, Between, Over}
 use Rattle.crs_print.proofs.Grown.{joined, points_are, points_known}

@@ -1,6 +1,6 @@
 use Rattle.crs_model.specs.Renaming as renamed
-use Rattle.crs_model.specs.Seen as view
-use Rattle.crs_print.specs.Printed as from
+use Rattle.crs_model.specs.SeenModels as view
+use Rattle.crs_print.specs.CanonicalText as from
 use Rattle.crs_print.specs.Said as said
 use Rattle.crs_print.proofs.Grown.{grown_step}
 use Rattle.crs_parse.proofs.Pushed.{held_step}

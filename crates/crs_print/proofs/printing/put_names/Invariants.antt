@@ -1,7 +1,7 @@
 use Rattle.std.proofs.Common.{◌≡◌, ◌++◌, drop, map}
 use Rattle.std.specs.List.{flat_map, AllByRecursion}
 use Rattle.crs_model.specs.Renaming as renamed
-use Rattle.crs_model.specs.Seen as view
+use Rattle.crs_model.specs.SeenModels as view
 use Rattle.crs_grammar.specs.Canon.{statement_line}
 use Rattle.crs_print.specs.Said as said
 use Rattle.crs_print.proofs.printing.put_names.Given as goal

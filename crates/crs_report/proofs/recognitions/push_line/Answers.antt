@@ -2,8 +2,8 @@ use Rattle.std.proofs.Common.{◌≡◌, ◌++◌, ℕ, List, [], ◌∷◌, map
 use Rattle.std.proofs.lemmas.Result.{IfOk-weaker}
 use Rattle.crs_base.specs.Seen.{entry_of}
 use Rattle.crs_model.specs.Renaming.{text_in, renamed_entry}
-use Rattle.crs_model.specs.Seen.{chronicle_of}
-use Rattle.crs_report.specs.Lines.{cites_text}
+use Rattle.crs_model.specs.SeenModels.{chronicle_of}
+use Rattle.crs_report.specs.OutputLines.{cites_text}
 use Rattle.crs_report.specs.Printed.{line_seen}
 use Rattle.crs_report.proofs.Lists.{written_line}
 use Rattle.crs_report.proofs.recognitions.push_line.Goals as goal

@@ -2,7 +2,7 @@ use Rattle.std.proofs.Common.{rules, ◌≡◌}
 use Rattle.std.specs.Prelude.{Some, slice_get}
 use Rattle.std.proofs.lemmas.Result.{on_ok_weaker}
 use Rattle.crs_model.specs.Plans.{chronicle}
-use Rattle.crs_model.specs.Seen.{window_of}
+use Rattle.crs_model.specs.SeenModels.{window_of}
 use Rattle.crs_instance.proofs.Stretches.{window_as}
 use Rattle.crs_store.proofs.DuePairs.{unbegun_undue, window_put}
 use Rattle.crs_store.proofs.dues.put_window_dues.Goals as goal

@@ -3,7 +3,7 @@ use Rattle.std.specs.Prelude.{Some, None}
 use Rattle.std.proofs.lemmas.List.{length-map}
 use Rattle.crs_agenda.specs.declared.timed.Handle.{Handle}
 use Rattle.crs_model.specs.Plans.{chronicle}
-use Rattle.crs_model.specs.Seen.{event_of, window_of}
+use Rattle.crs_model.specs.SeenModels.{event_of, window_of}
 use Rattle.crs_store.specs.declared.hooks.Hook.{Hook}
 use Rattle.crs_store.specs.Hooks.{IsHookOfEvent, IsHookOfWindow}
 use Rattle.crs_store.specs.Links.{linked_by, IsLinkedAnew, IsArmed}

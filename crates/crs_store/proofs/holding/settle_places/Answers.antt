@@ -1,7 +1,7 @@
 use Rattle.std.proofs.Common.{length, ap, ◌∙◌}
 use Rattle.std.proofs.lemmas.List.{length-map}
 use Rattle.crs_model.specs.Plans.{chronicle}
-use Rattle.crs_model.specs.Seen.{event_of}
+use Rattle.crs_model.specs.SeenModels.{event_of}
 use Rattle.crs_store.specs.Hooks.{IsHookOfEvent}
 use Rattle.crs_store.proofs.Hooking.{zip_long}
 use Rattle.crs_store.proofs.holding.settle_places.Goals as goal

@@ -1,6 +1,6 @@
 use Rattle.std.proofs.Common.{take, map}
 use Rattle.std.specs.List.{AllZip}
-use Rattle.crs_model.specs.Seen.{event_of}
+use Rattle.crs_model.specs.SeenModels.{event_of}
 use Rattle.crs_store.specs.Hooks.{IsHookOfEvent}
 use Rattle.crs_store.proofs.hooks.event_hooks.Given as goal
 

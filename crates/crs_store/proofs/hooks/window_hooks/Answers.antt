@@ -1,6 +1,6 @@
 use Rattle.std.proofs.Common.{rules, List, [], subst, sym}
 use Rattle.std.specs.List.{AllZip}
-use Rattle.crs_model.specs.Seen.{window_of}
+use Rattle.crs_model.specs.SeenModels.{window_of}
 use Rattle.crs_store.specs.declared.hooks.Hook.{Hook}
 use Rattle.crs_store.specs.Hooks.{IsHookOfWindow}
 use Rattle.crs_store.proofs.Hooking.{zip_more, zip_all}

@@ -1,6 +1,6 @@
 use Rattle.std.proofs.Common.{take, map}
 use Rattle.std.specs.List.{AllZip}
-use Rattle.crs_model.specs.Seen.{window_of}
+use Rattle.crs_model.specs.SeenModels.{window_of}
 use Rattle.crs_store.specs.Hooks.{IsHookOfWindow}
 use Rattle.crs_store.proofs.hooks.window_hooks.Given as goal
 

@@ -1,5 +1,5 @@
 use Rattle.std.proofs.Common.{rules, ◌≡◌, ◌+◌, ◌++◌, ◌∷◌, [], Bool, true, false, sym, subst}
-use Rattle.crs_store.specs.Levels.{levels_in, AreAwaited}
+use Rattle.crs_store.specs.PlanLevels.{levels_in, AreAwaited}
 use Rattle.crs_store.proofs.Awaiting.{awaited_more, unawaited_more}
 use Rattle.crs_store.proofs.levels.awaited_events.Goals as goal
 use Rattle.crs_store.proofs.levels.awaited_events.Goals.{then-is_awaited+in_ok-push, else-is_awaited}

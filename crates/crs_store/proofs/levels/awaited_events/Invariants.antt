@@ -1,4 +1,4 @@
-use Rattle.crs_store.specs.Levels.{levels_in, AreAwaited}
+use Rattle.crs_store.specs.PlanLevels.{levels_in, AreAwaited}
 use Rattle.crs_store.proofs.levels.awaited_events.Given as goal
 
 abbrev pub invariant-loop-event : goal.invariant-loop-event

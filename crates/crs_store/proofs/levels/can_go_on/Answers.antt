@@ -2,7 +2,7 @@ use Rattle.std.proofs.Common.{rules, refl, subst}
 use Rattle.std.specs.Prelude.{ℤ, pos, ◌≤ℤ◌, ◌↔◌, Option, None, IfSome}
 use Rattle.crs_model.specs.Partial.{CanGoOn}
 use Rattle.crs_model.specs.Plans.{chronicle}
-use Rattle.crs_store.specs.Levels.{levels_in}
+use Rattle.crs_store.specs.PlanLevels.{levels_in}
 use Rattle.crs_store.proofs.Awaiting.{last_tells}
 use Rattle.crs_store.proofs.levels.can_go_on.Goals as goal
 

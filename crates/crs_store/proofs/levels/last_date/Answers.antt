@@ -1,5 +1,5 @@
 use Rattle.std.proofs.Common.{rules, inr, refl}
-use Rattle.crs_store.specs.Levels.{levels_in}
+use Rattle.crs_store.specs.PlanLevels.{levels_in}
 use Rattle.crs_store.proofs.Awaiting.{whole_none, last_flat}
 use Rattle.crs_store.proofs.levels.last_date.Goals as goal
 

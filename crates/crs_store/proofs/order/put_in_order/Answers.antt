@@ -1,7 +1,7 @@
 use Rattle.std.proofs.Common.{rules}
 use Rattle.std.proofs.lemmas.List.Sorted.{ranks_by, answers_always}
 use Rattle.crs_model.specs.declared.recognition.Recognition.{Recognition}
-use Rattle.crs_model.specs.Seen.{assignment_of}
+use Rattle.crs_model.specs.SeenModels.{assignment_of}
 use Rattle.crs_store.proofs.Ascending.{entries_total, later}
 use Rattle.crs_store.proofs.order.put_in_order.Goals as goal
 

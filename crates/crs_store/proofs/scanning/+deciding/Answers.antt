@@ -11,7 +11,7 @@ use Rattle.crs_focus.specs.Candidacy.{IsCandidate, IsHeldFor}
 use Rattle.crs_focus.proofs.UpTo.{by_date}
 use Rattle.crs_history.specs.Histories.{IsKept}
 use Rattle.crs_instance.specs.Instances.{InstanceState, IsForked}
-use Rattle.crs_store.specs.Levels.{levels_in, AreToDecide, IsLevelAbove, IsNoLevelAbove}
+use Rattle.crs_store.specs.PlanLevels.{levels_in, AreToDecide, IsLevelAbove, IsNoLevelAbove}
 use Rattle.crs_store.specs.Scannings.{Adds, IsKeptIfAble, IsDecided, IsDecidedAt, AreDecidedWith}
 use Rattle.crs_store.proofs.Scanned.{adds_none, adds_as, adds_both, none_above, last_awaited, rest_to_decide, bound_to_decide, unbound_with, bound_with, none_with, more_with, enough_at, decided_both, never_decided, ended, gone_up, to_decide, fresh_next, named_as}
 use Rattle.crs_store.proofs.scanning.+deciding.Goals as goal

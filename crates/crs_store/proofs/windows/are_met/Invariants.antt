@@ -1,4 +1,4 @@
-use Rattle.crs_store.specs.Judged.{IsMetTo}
+use Rattle.crs_store.specs.JudgedWindows.{IsMetTo}
 use Rattle.crs_store.proofs.windows.are_met.Given as goal
 
 abbrev pub invariant-loop-k : goal.invariant-loop-k

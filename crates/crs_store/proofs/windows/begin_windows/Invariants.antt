@@ -1,5 +1,5 @@
 use Rattle.crs_store.specs.Windows.{Begins}
-use Rattle.crs_store.specs.Judged.{AreStepped}
+use Rattle.crs_store.specs.JudgedWindows.{AreStepped}
 use Rattle.crs_store.proofs.windows.begin_windows.Given as goal
 
 abbrev pub invariant-loop-k : goal.invariant-loop-k

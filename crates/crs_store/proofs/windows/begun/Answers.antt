@@ -5,7 +5,7 @@ use mir.Syntax.{w64}
 use Rattle.crs_model.specs.Bindings.{look_of}
 use Rattle.crs_model.specs.HasProgress.{IsProgress}
 use Rattle.crs_model.specs.Plans.{chronicle}
-use Rattle.crs_model.specs.Seen.{window_of, body_of}
+use Rattle.crs_model.specs.SeenModels.{window_of, body_of}
 use Rattle.crs_instance.proofs.Stretches.{window_as}
 use Rattle.crs_store.proofs.Progress.{holds_one, bound_of, begins_by, keeps_by, unbegun, any_window, some_of}
 use Rattle.crs_store.proofs.windows.begun.Goals as goal

@@ -1,4 +1,4 @@
-use Rattle.crs_store.specs.Judged.{IsLostNowhere}
+use Rattle.crs_store.specs.JudgedWindows.{IsLostNowhere}
 use Rattle.crs_store.proofs.windows.has_lost.Given as goal
 
 abbrev pub invariant-loop-k : goal.invariant-loop-k

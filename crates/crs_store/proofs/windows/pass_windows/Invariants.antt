@@ -1,6 +1,6 @@
 use Rattle.crs_instance.specs.Instances.{progress_at}
 use Rattle.crs_store.specs.Windows.{Passes}
-use Rattle.crs_store.specs.Judged.{AreStepped}
+use Rattle.crs_store.specs.JudgedWindows.{AreStepped}
 use Rattle.crs_store.proofs.windows.pass_windows.Given as goal
 
 abbrev pub invariant-loop-k : goal.invariant-loop-k

@@ -3,7 +3,7 @@ use Rattle.std.specs.Prelude.{ℤ, ◌≤ℤ◌, Some, slice_get}
 use Rattle.std.proofs.lemmas.Int.{to_z_pos}
 use mir.Syntax.{w64}
 use Rattle.crs_model.specs.Plans.{chronicle}
-use Rattle.crs_model.specs.Seen.{window_of}
+use Rattle.crs_model.specs.SeenModels.{window_of}
 use Rattle.crs_instance.proofs.Stretches.{window_as}
 use Rattle.crs_store.proofs.Progress.{holds_one, bound_of, passed_by, unbegun}
 use Rattle.crs_store.proofs.windows.passed.Goals as goal

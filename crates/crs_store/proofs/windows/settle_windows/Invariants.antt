@@ -1,7 +1,7 @@
 use Rattle.crs_base.specs.Seen.{entry_of}
 use Rattle.crs_instance.specs.Instances.{progress_at}
 use Rattle.crs_store.specs.Windows.{Settles}
-use Rattle.crs_store.specs.Judged.{AreStepped}
+use Rattle.crs_store.specs.JudgedWindows.{AreStepped}
 use Rattle.crs_store.proofs.windows.settle_windows.Given as goal
 
 abbrev pub invariant-loop-k : goal.invariant-loop-k

@@ -2,7 +2,7 @@ use Rattle.std.proofs.Common.{rules, ◌≡◌}
 use Rattle.std.specs.Prelude.{Some, slice_get}
 use Rattle.crs_base.specs.Seen.{entry_of}
 use Rattle.crs_model.specs.Plans.{chronicle}
-use Rattle.crs_model.specs.Seen.{window_of}
+use Rattle.crs_model.specs.SeenModels.{window_of}
 use Rattle.crs_instance.proofs.Stretches.{window_as}
 use Rattle.crs_store.proofs.Progress.{holds_one, bound_of, settled_by, unbegun}
 use Rattle.crs_store.proofs.windows.settled.Goals as goal

@@ -3,7 +3,7 @@ use Rattle.std.specs.Prelude.{ℤ, Some, slice_get}
 use Rattle.std.proofs.lemmas.Int.{to_z_pos}
 use mir.Syntax.{w64}
 use Rattle.crs_model.specs.Plans.{chronicle}
-use Rattle.crs_model.specs.Seen.{window_of, body_of}
+use Rattle.crs_model.specs.SeenModels.{window_of, body_of}
 use Rattle.crs_instance.proofs.Stretches.{window_as}
 use Rattle.crs_watch.specs.Judged.{IsToldBy}
 use Rattle.crs_store.proofs.Progress.{judged_waits, judged_by}

@@ -1,5 +1,5 @@
 use Rattle.std.proofs.Common.{inl}
-use Rattle.crs_top.specs.Run.{most_of}
+use Rattle.crs_top.specs.RunOutcomes.{most_of}
 use Rattle.crs_top.proofs.Drilled.{drill_refused}
 use Rattle.crs_top.proofs.drilling.drill.Goals as goal
 

@@ -1,6 +1,6 @@
 use Rattle.std.proofs.lemmas.Result.{err_from_is_err_and}
 use Rattle.crs_model.specs.Renaming.{text_in, renamed_models}
-use Rattle.crs_model.specs.Seen.{models_of}
+use Rattle.crs_model.specs.SeenModels.{models_of}
 use Rattle.crs_top.proofs.Preparing.{compile_faulty, consistent_models}
 use Rattle.crs_top.proofs.listing.canonical.Goals as goal
 

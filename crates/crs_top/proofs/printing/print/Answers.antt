@@ -2,7 +2,7 @@ use Rattle.std.proofs.Common.{ap, length, codes, ◌^◌}
 use Rattle.crs_top.specs.Inputs.{bytes_of}
 use Rattle.crs_top.specs.Loads.{IsTooLong, IsModelLine}
 use Rattle.crs_top.specs.Listings.{IsListed}
-use Rattle.crs_top.specs.Models.{IsFaulty}
+use Rattle.crs_top.specs.ModelTexts.{IsFaulty}
 use Rattle.crs_top.proofs.Loads.{ends_weaker, ends_refused, ends_printed, long_is_faulty, all_taken}
 use Rattle.crs_top.proofs.printing.print.Goals as goal
 

@@ -1,8 +1,8 @@
 use Rattle.std.proofs.Common.{ap, length, codes, ◌^◌}
 use Rattle.crs_top.specs.Loads.{IsTooLong, IsModelLine}
 use Rattle.crs_top.specs.Inputs.{bytes_of}
-use Rattle.crs_top.specs.Models.{IsFaulty}
-use Rattle.crs_top.specs.Run.{most_of}
+use Rattle.crs_top.specs.ModelTexts.{IsFaulty}
+use Rattle.crs_top.specs.RunOutcomes.{most_of}
 use Rattle.crs_top.proofs.Loads.{ends_weaker, ends_refused, long_is_faulty, all_taken}
 use Rattle.crs_top.proofs.Runs.{run_ended, run_followed}
 use Rattle.crs_top.proofs.run.recognise.Goals as goal

@@ -4,7 +4,7 @@ use Rattle.crs_words.proofs.Bounds.{drill_bounds}
 use Rattle.crs_words.specs.Commands.{command_of}
 use Rattle.crs_report.specs.Listeners.{Member, keep_members}
 use Rattle.crs_top.specs.Logs.{tail_of}
-use Rattle.crs_top.specs.Run.{most_of, Runs}
+use Rattle.crs_top.specs.RunOutcomes.{most_of, Runs}
 use Rattle.crs_top.proofs.Completes.{completes, completes_print, completes_import}
 use Rattle.crs_top.proofs.Drilled.{completes_drill}
 use Rattle.crs_top.proofs.Wanting.{wants}

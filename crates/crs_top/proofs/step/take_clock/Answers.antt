@@ -13,7 +13,7 @@ use Rattle.crs_top.specs.Written.{with_text, with_answer}
 use Rattle.crs_log.specs.Recognitions.{view_of}
 use Rattle.crs_top.specs.Texts.{setting_of, fault_of}
 use Rattle.crs_log.specs.Run as run
-use Rattle.crs_report.specs.Lines.{refusal_line}
+use Rattle.crs_report.specs.OutputLines.{refusal_line}
 use Rattle.std.specs.Prelude.{OnOk}
 use Rattle.crs_top.proofs.States.{answer_printable}
 use Rattle.crs_top.proofs.Marking.{still_running, clock_fine, clock_moved, clock_rises, clock_brings, back_brings}

@@ -1,6 +1,6 @@
 use Rattle.std.proofs.Common.{◌≡◌, sym, subst}
 use Rattle.std.specs.Prelude.{OnOk}
-use Rattle.crs_report.specs.Lines.{refusal_line}
+use Rattle.crs_report.specs.OutputLines.{refusal_line}
 use Rattle.std.proofs.lemmas.Result.{IfOk-weaker}
 use Rattle.crs_log.specs.Items.{Happens}
 use Rattle.crs_log.specs.Known.{Other, Named, BadArity, BadValue}

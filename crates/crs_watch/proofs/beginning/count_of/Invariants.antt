@@ -1,7 +1,7 @@
 use Rattle.std.proofs.Common.{ℕ, ◌+◌, ◌≤◌, ◌<◌, ◌^◌, length}
 use Rattle.crs_model.specs.Bindings.{look_of}
 use Rattle.crs_model.specs.Matching.{PatternIs}
-use Rattle.crs_model.specs.Seen.{pattern_of}
+use Rattle.crs_model.specs.SeenModels.{pattern_of}
 use Rattle.crs_model.specs.Verdicts.{Count}
 use Rattle.crs_watch.proofs.beginning.count_of.Given as goal
 

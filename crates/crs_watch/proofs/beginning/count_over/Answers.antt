@@ -7,7 +7,7 @@ use Rattle.crs_base.proofs.Sifted.{sifted_in}
 use Rattle.crs_history.specs.Looking.{IsNamedIn}
 use Rattle.crs_model.specs.Bindings.{look_of}
 use Rattle.crs_model.specs.Matching.{PatternIs}
-use Rattle.crs_model.specs.Seen.{pattern_of}
+use Rattle.crs_model.specs.SeenModels.{pattern_of}
 use Rattle.crs_model.specs.Verdicts.{IsDatedIn}
 use Rattle.crs_model.proofs.Beginning.{count_sifted}
 use Rattle.crs_watch.proofs.Counting.{count_iff, sifts_short}

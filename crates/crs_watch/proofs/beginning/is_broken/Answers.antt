@@ -4,7 +4,7 @@ use mir.Val.{SFits}
 use mir.Syntax.{w64}
 use Rattle.crs_model.specs.Models.{Hold}
 use Rattle.crs_model.specs.Bindings.{look_of}
-use Rattle.crs_model.specs.Seen.{body_of, term_of}
+use Rattle.crs_model.specs.SeenModels.{body_of, term_of}
 use Rattle.crs_model.specs.HasProgress.{IsUnbroken}
 use Rattle.crs_watch.proofs.beginning.is_broken.Goals as goal
 

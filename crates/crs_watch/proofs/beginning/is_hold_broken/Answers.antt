@@ -8,7 +8,7 @@ use Rattle.crs_base.specs.Values.{Attribute}
 use Rattle.crs_base.proofs.Deciding.{sym_tells}
 use Rattle.crs_model.specs.Bindings.{look_of}
 use Rattle.crs_model.specs.Matching.{TermIs}
-use Rattle.crs_model.specs.Seen.{term_of}
+use Rattle.crs_model.specs.SeenModels.{term_of}
 use Rattle.crs_model.specs.HasProgress.{IsWholeFor}
 use Rattle.crs_watch.specs.Begun.{Falls}
 use Rattle.crs_watch.proofs.Holds.{not_true, not_false, whole_by, broken_by}

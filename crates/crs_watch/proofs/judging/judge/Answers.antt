@@ -3,7 +3,7 @@ use Rattle.std.specs.Prelude.{ℤ, pos}
 use Rattle.std.proofs.lemmas.Int.{to_z-of_z}
 use mir.Val.{SFits}
 use mir.Syntax.{w64}
-use Rattle.crs_model.specs.Seen.{body_of, window_of}
+use Rattle.crs_model.specs.SeenModels.{body_of, window_of}
 use Rattle.crs_model.specs.Verdicts.{IsMet, IsLost}
 use Rattle.crs_model.specs.HasProgress.{IsMetBy, IsLostBy}
 use Rattle.crs_model.proofs.WindowLaws.{judged_by_progress}

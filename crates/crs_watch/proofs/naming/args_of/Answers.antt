@@ -5,7 +5,7 @@ use Rattle.std.proofs.lemmas.List.{get_or-take}
 use Rattle.crs_base.specs.declared.symbols.Sym.{Sym}
 use Rattle.crs_model.specs.Bindings.{look_of}
 use Rattle.crs_model.specs.Matching.{TermIs}
-use Rattle.crs_model.specs.Seen.{term_of}
+use Rattle.crs_model.specs.SeenModels.{term_of}
 use Rattle.crs_model.specs.Verdicts.{TermIsBound}
 use Rattle.crs_model.specs.ProperModels.{IsDefinite}
 use Rattle.crs_watch.proofs.Terms.{each_at, zip_from}

@@ -1,7 +1,7 @@
 use Rattle.std.proofs.Common.{◌≡◌, ℕ, ◌<◌, get_or, length}
 use Rattle.crs_model.specs.Bindings.{look_of}
 use Rattle.crs_model.specs.Matching.{TermIs}
-use Rattle.crs_model.specs.Seen.{term_of}
+use Rattle.crs_model.specs.SeenModels.{term_of}
 use Rattle.crs_watch.proofs.naming.args_of.Given as goal
 
 abbrev pub invariant-loop-i : goal.invariant-loop-i

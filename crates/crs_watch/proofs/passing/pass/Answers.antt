@@ -6,7 +6,7 @@ use mir.Syntax.{w64}
 use Rattle.crs_base.proofs.Deciding.{sym_tells}
 use Rattle.crs_model.specs.Models.{Hold}
 use Rattle.crs_model.specs.Bindings.{look_of}
-use Rattle.crs_model.specs.Seen.{body_of, term_of}
+use Rattle.crs_model.specs.SeenModels.{body_of, term_of}
 use Rattle.crs_model.specs.HasProgress.{StartsWell, StartsIll}
 use Rattle.crs_watch.proofs.Starts.{passes_early, passes_late, passes_start}
 use Rattle.crs_watch.proofs.passing.pass.Goals as goal

@@ -9,7 +9,7 @@ use Rattle.crs_base.specs.Values.{Attribute}
 use Rattle.crs_history.specs.Looking.{HasValueOver}
 use Rattle.crs_model.specs.Bindings.{look_of}
 use Rattle.crs_model.specs.Matching.{TermIs}
-use Rattle.crs_model.specs.Seen.{term_of}
+use Rattle.crs_model.specs.SeenModels.{term_of}
 use Rattle.crs_watch.proofs.Holds.{value_first, first_value, well_by, ill_by}
 use Rattle.crs_watch.proofs.passing.starts_well.Goals as goal
 

@@ -1,7 +1,7 @@
 use Rattle.std.proofs.Common.{sym, subst}
 use Rattle.crs_base.specs.Seen.{entry_of}
 use Rattle.crs_model.specs.Bindings.{look_of}
-use Rattle.crs_model.specs.Seen.{body_of}
+use Rattle.crs_model.specs.SeenModels.{body_of}
 use Rattle.crs_model.specs.HasProgress.{Spares}
 use Rattle.crs_watch.proofs.settling.breaks.Goals as goal
 

@@ -3,7 +3,7 @@ use Rattle.std.specs.List.{AllZip}
 use Rattle.crs_base.specs.Seen.{entry_of}
 use Rattle.crs_model.specs.Bindings.{look_of}
 use Rattle.crs_model.specs.Matching.{TermIs}
-use Rattle.crs_model.specs.Seen.{term_of}
+use Rattle.crs_model.specs.SeenModels.{term_of}
 use Rattle.crs_watch.proofs.Terms.{spared_by}
 use Rattle.crs_watch.proofs.settling.breaks_hold.Goals as goal
 

@@ -1,7 +1,7 @@
 use Rattle.std.proofs.Common.{◌≡◌, ◌⊎◌, ◌+◌, ℕ, suc, Bool, true, false, refl, inl, inr, arith, ◌∙◌}
 use Rattle.crs_base.specs.Seen.{entry_of}
 use Rattle.crs_model.specs.Bindings.{look_of}
-use Rattle.crs_model.specs.Seen.{body_of}
+use Rattle.crs_model.specs.SeenModels.{body_of}
 use Rattle.crs_model.specs.HasProgress.{Hits, Breaks, Spares}
 use Rattle.crs_model.proofs.WindowLaws.{settled_progress}
 use Rattle.crs_watch.proofs.settling.settle.Goals as goal

@@ -1,5 +1,5 @@
 use Rattle.std.proofs.Common.{◌≡◌, ◌+◌, ◌∷◌, ◌++◌, [], take, drop, suc, ap, ◌∙◌, arith}
-use Rattle.crs_history.specs.Held.{entries_in}
+use Rattle.crs_history.specs.KeptOrder.{entries_in}
 use Rattle.crs_history.proofs.Ageing.{one_more, state_is}
 use Rattle.crs_history.proofs.changed.Changed.age.Goals as goal
 

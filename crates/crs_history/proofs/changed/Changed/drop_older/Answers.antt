@@ -5,7 +5,7 @@ use Rattle.crs_base.specs.Seen.{entry_of}
 use Rattle.crs_base.specs.Sifted.{Sifts}
 use Rattle.crs_base.specs.Words.{IsIn}
 use Rattle.crs_history.specs.Dropping.{Drops}
-use Rattle.crs_history.specs.Held.{entries_in}
+use Rattle.crs_history.specs.KeptOrder.{entries_in}
 use Rattle.crs_history.proofs.Ageing.{removed, only_removed, some_taken, ascends}
 use Rattle.std.proofs.lemmas.Grind.{common_steps}
 use Rattle.crs_history.proofs.changed.Changed.drop_older.Goals as goal

@@ -2,7 +2,7 @@ use Rattle.std.proofs.Common.{◌≡◌, ◌≤◌, ◌∷◌, ◌++◌, [], len
 use Rattle.std.proofs.lemmas.List.{take-append-drop, take-append-le, drop-append-le}
 use Rattle.crs_base.specs.Seen.{entry_of}
 use Rattle.crs_history.specs.Histories.{IsAfterAll}
-use Rattle.crs_history.specs.Held.{entries_in}
+use Rattle.crs_history.specs.KeptOrder.{entries_in}
 use Rattle.crs_history.proofs.LaneEdits.{long_as}
 use Rattle.crs_history.proofs.Ageing.{ascends, inserted_last, state_is}
 use Rattle.std.proofs.lemmas.Grind.{common_steps}

@@ -5,7 +5,7 @@ use Rattle.crs_base.specs.Entry.{Entry}
 use Rattle.crs_base.specs.Seen.{entry_of}
 use Rattle.crs_history.specs.Histories.{attribute_of}
 use Rattle.crs_history.specs.Lanes.{lane_of, AreAlike, IsSetTo}
-use Rattle.crs_history.specs.Numbers.{Grows, number_from}
+use Rattle.crs_history.specs.ListNumbers.{Grows, number_from}
 use Rattle.crs_history.specs.Tracks.{TracksState, number_of, track_at, track_of, AreSame, IsTrackSetTo}
 use Rattle.crs_history.proofs.Numbering.{grows_on, number_kept, number_joined}
 use Rattle.crs_history.proofs.Trying.{on_err, by_result}

@@ -1,5 +1,5 @@
 use Rattle.std.proofs.Common.{sym, ap, ◌∙◌}
-use Rattle.crs_index.specs.Numbers.{number_in}
+use Rattle.crs_index.specs.KeyNumbers.{number_in}
 use Rattle.crs_index.specs.Indexes.{handles_at}
 use Rattle.crs_index.specs.Rows.{rows}
 use Rattle.crs_index.proofs.States.{opened, opened_same, given_back, kept_same, named_kept, named_same}

@@ -1,6 +1,6 @@
 use Rattle.std.proofs.Common.{ap, ◌∙◌, List}
 use Rattle.crs_agenda.specs.declared.timed.Handle.{Handle}
-use Rattle.crs_index.specs.Numbers.{number_in}
+use Rattle.crs_index.specs.KeyNumbers.{number_in}
 use Rattle.crs_agenda.specs.Freshness.{is_fresh}
 use Rattle.crs_index.specs.Indexes.{handles_at}
 use Rattle.crs_index.specs.Rows.{rows}

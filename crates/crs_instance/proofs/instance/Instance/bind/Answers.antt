@@ -9,7 +9,7 @@ use Rattle.crs_instance.specs.declared.links.Known.{Known}
 use Rattle.crs_instance.specs.declared.span.Span.{Span}
 use Rattle.crs_instance.specs.Extended.{IsExtended}
 use Rattle.crs_instance.specs.Instances.{InstanceState, IsOf}
-use Rattle.crs_instance.specs.Links.{known_in}
+use Rattle.crs_instance.specs.EntryLinks.{known_in}
 use Rattle.crs_instance.specs.Stored.{last_of}
 use Rattle.crs_instance.proofs.BindAnswers.{the_state}
 use Rattle.crs_instance.proofs.Kept.{kept_len, kept_room, kept_more}

@@ -3,7 +3,7 @@ use Rattle.std.proofs.lemmas.Int.{to_z-of_z}
 use mir.Val.{SFits}
 use mir.Syntax.{w64}
 use Rattle.crs_instance.specs.Instances.{InstanceState}
-use Rattle.crs_instance.specs.Links.{known_in}
+use Rattle.crs_instance.specs.EntryLinks.{known_in}
 use Rattle.crs_instance.proofs.Deadline.{last_is}
 use Rattle.crs_instance.proofs.GoesOn.{tells}
 use Rattle.crs_instance.proofs.Kept.{kept_len, kept_bits}

@@ -2,7 +2,7 @@ use Rattle.std.proofs.Common.{ap, sym, ◌∙◌}
 use Rattle.crs_model.specs.Levels.{level_in}
 use Rattle.crs_model.specs.Plans.{chronicle}
 use Rattle.crs_instance.specs.Instances.{InstanceState}
-use Rattle.crs_instance.specs.Links.{known_in}
+use Rattle.crs_instance.specs.EntryLinks.{known_in}
 use Rattle.crs_instance.proofs.Kept.{kept_len, kept_bits}
 use Rattle.crs_instance.proofs.Waits.{wait_yes, wait_no}
 use Rattle.crs_instance.specs.Spans.{end_of, windows_of}

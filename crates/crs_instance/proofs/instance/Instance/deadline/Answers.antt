@@ -2,9 +2,9 @@ use Rattle.std.proofs.Common.{rules, ap, map, length, arith, ◌∙◌}
 use Rattle.std.proofs.lemmas.Int.{to_z-of_z}
 use mir.Val.{SFits}
 use mir.Syntax.{w64}
-use Rattle.crs_model.specs.Seen.{event_of}
+use Rattle.crs_model.specs.SeenModels.{event_of}
 use Rattle.crs_instance.specs.Instances.{InstanceState}
-use Rattle.crs_instance.specs.Links.{known_in}
+use Rattle.crs_instance.specs.EntryLinks.{known_in}
 use Rattle.crs_instance.proofs.Deadline.{last_is, unread_least, read}
 use Rattle.crs_instance.proofs.Kept.{kept_len, kept_bits}
 use Rattle.crs_instance.specs.Spans.{end_of, windows_of}

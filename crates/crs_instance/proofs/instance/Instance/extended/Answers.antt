@@ -5,10 +5,10 @@ use Rattle.crs_base.specs.declared.symbols.Sym.{Sym}
 use Rattle.crs_base.specs.Seen.{entry_of}
 use Rattle.crs_instance.specs.declared.span.Span.{Span}
 use Rattle.crs_model.specs.Partial.{Partial, at}
-use Rattle.crs_model.specs.Seen.{event_of}
+use Rattle.crs_model.specs.SeenModels.{event_of}
 use Rattle.crs_instance.specs.declared.links.Links.{Links}
 use Rattle.crs_instance.specs.Instances.{InstanceState}
-use Rattle.crs_instance.specs.Links.{partial_of, AreLinked}
+use Rattle.crs_instance.specs.EntryLinks.{partial_of, AreLinked}
 use Rattle.crs_instance.specs.Narrowed.{IsNarrowed}
 use Rattle.crs_instance.proofs.BindAnswers.{the_state, answer_twice, answer_unmatched, answer_outside, answer_yes, event_as, pattern_as, inside_as}
 use Rattle.crs_instance.specs.Spans.{windows_of}

@@ -1,6 +1,6 @@
 use Rattle.std.proofs.Common.{◌≡◌, length, ap, ◌∙◌, arith}
 use Rattle.crs_instance.specs.Instances.{InstanceState}
-use Rattle.crs_instance.specs.Links.{known_in}
+use Rattle.crs_instance.specs.EntryLinks.{known_in}
 use Rattle.crs_instance.proofs.Kept.{kept_len, kept_bits}
 use Rattle.crs_instance.proofs.Masks.{set_is_some}
 use Rattle.crs_instance.specs.Spans.{end_of, windows_of}

@@ -1,6 +1,6 @@
 use Rattle.std.proofs.Common.{ap}
 use Rattle.crs_instance.specs.Instances.{InstanceState}
-use Rattle.crs_instance.specs.Links.{known_in}
+use Rattle.crs_instance.specs.EntryLinks.{known_in}
 use Rattle.crs_instance.proofs.Kept.{kept_whole}
 use Rattle.crs_instance.specs.Spans.{end_of, windows_of}
 use Rattle.crs_instance.proofs.instance.Instance.is_whole.Goals as goal

@@ -1,7 +1,7 @@
 use Rattle.std.proofs.Common.{rules, ◌≡◌, ◌+◌, length, ap, ◌∙◌, arith}
 use Rattle.std.specs.Prelude.{replicate, None}
 use Rattle.crs_instance.specs.declared.links.Links.{Links}
-use Rattle.crs_instance.specs.Links.{partial_of, known_in}
+use Rattle.crs_instance.specs.EntryLinks.{partial_of, known_in}
 use Rattle.crs_instance.proofs.BindAnswers.{root_of}
 use Rattle.crs_instance.specs.Spans.{windows_of, no_span}
 use Rattle.crs_instance.proofs.SpanSays.{windows_replicate}

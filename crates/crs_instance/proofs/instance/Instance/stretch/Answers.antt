@@ -2,7 +2,7 @@ use Rattle.std.proofs.Common.{rules, ◌∙◌, sym}
 use Rattle.std.proofs.lemmas.Int.{to_z-of_z}
 use mir.Val.{SFits}
 use mir.Syntax.{w64}
-use Rattle.crs_model.specs.Seen.{window_of}
+use Rattle.crs_model.specs.SeenModels.{window_of}
 use Rattle.crs_instance.proofs.Stretches.{window_as, anchors_of, stretch_unstarted, stretch_unended, stretch_bound}
 use Rattle.crs_instance.proofs.instance.Instance.stretch.Goals as goal
 

@@ -5,7 +5,7 @@ use Rattle.crs_base.specs.Lines.{lines_of, is_long}
 use Rattle.crs_base.specs.Symbols.{AreDistinct, is_known}
 use Rattle.crs_model.specs.Models.{Chronicle, Models}
 use Rattle.crs_parse.specs.Meant.{models_read}
-use Rattle.crs_print.specs.Printed.{models_text}
+use Rattle.crs_print.specs.CanonicalText.{models_text}
 
 -- a text of at most 2 ^ 20 bytes, of which no line has more than 4096
 pub record IsReadable (text : List ℕ) : Type 0 where

@@ -7,7 +7,7 @@ use Rattle.crs_report.specs.Listeners.{Member, keep_members}
 use Rattle.crs_words.specs.Kinds.{kinds_of}
 use Rattle.crs_words.specs.Commands.{Command, Run, Print, Drill, Import, usage_text}
 use Rattle.crs_top.specs.Logs.{tail_of, Says}
-use Rattle.crs_top.specs.Run.{Most, Runs, Completes}
+use Rattle.crs_top.specs.RunOutcomes.{Most, Runs, Completes}
 use Rattle.crs_top.specs.Listings.{Prints, CompletesPrint}
 use Rattle.crs_top.specs.Imports.{Imports, CompletesImport}
 use Rattle.crs_top.specs.Drills.{Drills, CompletesDrill, RefusesNothing}

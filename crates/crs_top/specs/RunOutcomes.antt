@@ -9,7 +9,7 @@ use Rattle.crs_top.specs.declared.status.Status.TheVariants.{Done, Refusals, Wor
 use Rattle.crs_top.specs.Inputs.{bytes_of, after, Opened, IsRead}
 use Rattle.crs_top.specs.Loads.{AreTaken, IsModelLine}
 use Rattle.crs_top.specs.Logs.{Tail, IsEndedText, Appends, IsPrompt, IsCutShort, LogOutcome, AppendsFront}
-use Rattle.crs_top.specs.Models.{IsAccepted, IsFaulty}
+use Rattle.crs_top.specs.ModelTexts.{IsAccepted, IsFaulty}
 use Rattle.crs_top.specs.Texts.{Frame, IsWholeText, some_refused}
 
 -- how much a call takes in: the distinct symbols, the accepted entries, the bytes of a log

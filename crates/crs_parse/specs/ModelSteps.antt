@@ -4,7 +4,7 @@ use Rattle.std.specs.List.{AllByRecursion}
 use Rattle.crs_base.specs.Symbols.{is_symbol, with_texts}
 use Rattle.crs_base.specs.Tokens.{Token, tokens_of, is_model_mark}
 use Rattle.crs_grammar.specs.Statements.{Heading, Statement, Message, Attribute, Begin, Close, is_inside}
-use Rattle.crs_grammar.specs.Reading.{◌>>=◌, inside_of, outside_of}
+use Rattle.crs_grammar.specs.TokenReading.{◌>>=◌, inside_of, outside_of}
 use Rattle.crs_parse.specs.Faults.{Name, Written, Reading, own_fault, nameless, begun, message_named, attribute_named, with_statement, symbols_of}
 use Rattle.crs_model.specs.declared.models.ModelWord.{ModelWord}
 use Rattle.crs_model.specs.declared.models.ModelWord.TheVariants.{Form as FormWord, Limit as LimitWord}

@@ -1,7 +1,7 @@
 -- What the steps of reading a table do to the log.
 use Rattle.std.specs.Prelude.{◌≡◌, ◌+◌, ℕ, Bool, true, false, List, [], Option, Some}
 use Rattle.csv.specs.declared.reader.Reader.{Reader}
-use Rattle.crs_import.specs.Reading.{IsReading, rows_left}
+use Rattle.crs_import.specs.TableReading.{IsReading, rows_left}
 use Rattle.crs_import.specs.Tables.{headed, log_of, onto}
 
 -- the first record has the names, and the lines of those behind it are the log

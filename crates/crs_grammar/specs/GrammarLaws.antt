@@ -7,7 +7,7 @@ use Rattle.crs_base.specs.Tokens.{Token, tokens_of, is_model_mark}
 use Rattle.crs_grammar.specs.Canon.{statement_text}
 use Rattle.crs_grammar.specs.Statements.{Statement, is_inside}
 use Rattle.crs_grammar.specs.Forms.{Part, Symbol, Number, Integer, Missing, Means, form_of}
-use Rattle.crs_grammar.specs.Reading.{statement_of}
+use Rattle.crs_grammar.specs.TokenReading.{statement_of}
 
 -- what is read from tokens is what they mean
 abbrev pub ReadIsMeant : Type 0
