@@ -1,5 +1,5 @@
 -- What an engine stands for after a mark, and its answer.
-use Rattle.std.proofs.Common.{◌≡◌, ◌≢◌, max, ℕ, zero, suc, ◌<◌, ◌≤◌, ◌-◌, ◌^◌, List, [], ◌∷◌, ◌++◌, length, map, refl, sym, ap, subst, ◌∙◌, inl, inr, arith, append_assoc, append-nil, length-append, take, drop, Bool, true, not, nat_lt}
+use Rattle.std.proofs.Common.{◌≡◌, ◌≢◌, max, ℕ, zero, suc, ◌<◌, ◌≤◌, ◌^◌, List, [], ◌∷◌, ◌++◌, length, refl, sym, ap, subst, ◌∙◌, inl, inr, arith, append_assoc, append-nil, length-append, take, drop, Bool, true, not, nat_lt}
 use Rattle.std.specs.List.{AllByRecursion, AllZip, list_any}
 use Rattle.std.proofs.lemmas.Bool.{true≢false, or_parts}
 use Rattle.std.specs.declared.cmp.Ordering.TheVariants.{Less}
@@ -33,7 +33,7 @@ use Rattle.crs_engine.specs.Engines.{HasMoved, EngineState, StandsFor, HaveNumbe
 use Rattle.crs_engine.proofs.Floors.{floor_later}
 use Rattle.crs_engine.specs.Marks.{ListsAllNew, AfterMark}
 use Rattle.crs_engine.specs.Moves.{AreSameStores, IsTakenIn, IsGivenFresh, AreGivenFresh, AreOffered, HasPut, AreOfferedAll, AreAdvanced, AreMarked, IsRestOf, date_after}
-use Rattle.crs_engine.proofs.Settling.{date_within}
+use Rattle.crs_engine.proofs.Settling.{date_within, offered_without}
 use Rattle.crs_engine.proofs.Pools.{arrived_all, arrived_none, pool_to, pool_from, pool_apart, stands_alike, among_plain, among_prompt}
 use Rattle.crs_engine.proofs.Order.{numbers_few, ordered_left, ordered_right, ordered_cross, before_parts, since_parts}
 
@@ -335,13 +335,13 @@ module _ (seen new : EngineState) (mark : Mark) (answer : List Recognition) (sam
     (few : seen.accepted < 2 ^ 32) (of : AreStoresOf seen.focus (plans_of seen.plans) 0 seen.stores) (later : seen.horizon ≤ new.horizon)
     (marked : AreMarked new.horizon mark seen.stores seen.history seen.waiting seen.fresh new.stores new.history new.waiting answer) (same : AreSameStores seen.stores new.stores) (s w : List (Entry Sym)) (stands : StandsFor seen s w) where
   parted : w ≡ (marked.settled).done ++ new.waiting
-  parted = sym stands.held ∙ (marked.settled).due.parted
+  parted = sym stands.held ∙ (marked.settled).taken.parted
 
   now_before : before new.horizon w ≡ (marked.settled).done
-  now_before = ap (before new.horizon) parted ∙ before_parts new.horizon (marked.settled).done new.waiting (marked.settled).due.before (marked.settled).due.after
+  now_before = ap (before new.horizon) parted ∙ before_parts new.horizon (marked.settled).done new.waiting (marked.settled).taken.before marked.after
 
   now_since : since new.horizon w ≡ new.waiting
-  now_since = ap (since new.horizon) parted ∙ since_parts new.horizon (marked.settled).done new.waiting (marked.settled).due.before (marked.settled).due.after
+  now_since = ap (since new.horizon) parted ∙ since_parts new.horizon (marked.settled).done new.waiting (marked.settled).taken.before marked.after
 
   whole : (s ++ (marked.settled).done) ++ new.waiting ≡ s ++ w
   whole = append_assoc s (marked.settled).done new.waiting ∙ ap (λ (t : List (Entry Sym)). s ++ t) (sym parted)
@@ -362,7 +362,7 @@ module _ (seen new : EngineState) (mark : Mark) (answer : List Recognition) (sam
   done_after = all_left (λ x. seen.horizon ≤ x.date) (marked.settled).done new.waiting (subst (λ (t : List (Entry Sym)). AllByRecursion (λ x. seen.horizon ≤ x.date) t) parted stands.waiting_after)
 
   all_before : AllByRecursion (λ x. x.date < new.horizon) (s ++ (marked.settled).done)
-  all_before = all_append (λ x. x.date < new.horizon) s (marked.settled).done (all_each {P = λ x. x.date < seen.horizon} s (λ x l. omega arith) stands.settled_before) (marked.settled).due.before
+  all_before = all_append (λ x. x.date < new.horizon) s (marked.settled).done (all_each {P = λ x. x.date < seen.horizon} s (λ x l. omega arith) stands.settled_before) (marked.settled).taken.before
 
   few_settled : length (s ++ (marked.settled).done) < 2 ^ 32
   few_settled = let a = numbers_few seen.accepted ((s ++ (marked.settled).done) ++ new.waiting) numbered in let b = length-append (s ++ (marked.settled).done) new.waiting in omega arith
@@ -407,7 +407,7 @@ module _ (seen new : EngineState) (mark : Mark) (answer : List Recognition) (sam
   done_inside x i = in_append_right s w x (subst (IsIn x) (sym parted) (in_append_left (marked.settled).done new.waiting x i))
 
   offers : (e : ℕ) × StandTogether marked.between new.history s had (s ++ (marked.settled).done) (s ++ w) [] e seen.horizon new.horizon × (e ≤ new.horizon)
-  offers = offered_all new.horizon (marked.settled).done marked.pooled marked.between seen.history new.history s had s (s ++ w) seen.horizon seen.horizon together (marked.settled).offered apart done_after (marked.settled).due.before done_inside
+  offers = offered_all new.horizon (marked.settled).done marked.pooled marked.between seen.history new.history s had s (s ++ w) seen.horizon seen.horizon together (offered_without new.horizon (marked.settled).done new.waiting marked.pooled marked.between seen.history new.history marked.after (marked.settled).offered) apart done_after (marked.settled).taken.before done_inside
       (ordered_right (λ x y. x.date ≤ y.date) s (marked.settled).done (in_dates (s ++ (marked.settled).done) up_now)) later few_settled
 
   of_pooled : AreStoresOf seen.focus (plans_of seen.plans) 0 marked.pooled
@@ -433,7 +433,7 @@ module _ (seen new : EngineState) (mark : Mark) (answer : List Recognition) (sam
   stands_parted : StandsFor new (s ++ (marked.settled).done) new.waiting
   stands_parted = record {
     settled_before = all_before;
-    waiting_after = (marked.settled).due.after;
+    waiting_after = marked.after;
     in_order = up;
     numbered = subst (λ (n : ℕ). HaveNumbersBelow n ((s ++ (marked.settled).done) ++ new.waiting)) (sym same_count) numbered;
     held = refl;
@@ -474,7 +474,7 @@ drop_all (x ∷ xs) (suc n) e = drop_all xs n (omega arith)
 pub history_before : (h g : ℕ) (past now : HistoryState) (olds news : List StoreState) (held fresh rest : List (Entry Sym)) (mark : Mark) (answer : List Recognition) → AllByRecursion (λ x. x.date < g) past.entries → g ≤ h → AreMarked h mark olds past held fresh news now rest answer → AllByRecursion (λ x. x.date < h) now.entries
 history_before h g past now olds news held fresh rest mark answer before_g later m =
     subst (λ (t : List (Entry Sym)). AllByRecursion (λ x. x.date < h) t) (sym (m.settled).kept)
-    (all_append (λ x. x.date < h) past.entries (m.settled).done (all_each {P = λ x. x.date < g} past.entries (λ x l. omega arith) before_g) (m.settled).due.before)
+    (all_append (λ x. x.date < h) past.entries (m.settled).done (all_each {P = λ x. x.date < g} past.entries (λ x l. omega arith) before_g) (m.settled).taken.before)
 
 -- a slice of all stores is written back whole
 pub written_back : (olds news : List StoreState) (n : ℕ) → n ≡ length olds → AreSameStores olds news → take n (news ++ drop (length news) olds) ≡ news

@@ -4,7 +4,7 @@ use Rattle.std.specs.List.{AllByRecursion}
 use Rattle.std.specs.Ordering.{is_lt}
 use Rattle.std.specs.declared.cmp.Ordering.{Ordering}
 use Rattle.std.specs.declared.cmp.Ordering.TheVariants.{Less, Equal, Greater}
-use Rattle.std.proofs.lemmas.Bool.{lt-ltb, le-ltb, ltb-true, ltb-false, not-true, not-false, cases_lt}
+use Rattle.std.proofs.lemmas.Bool.{lt-ltb, le-ltb, ltb-true, ltb-false, not-true, cases_lt}
 use Rattle.std.proofs.lemmas.List.Elements.{filter-append}
 use Rattle.crs_base.specs.declared.symbols.Sym.{Sym}
 use Rattle.crs_base.specs.Words.{IsIn, Ordered}
@@ -125,7 +125,7 @@ stands_alike s was pool other entries d g there back k =
         marked = k.stands.marked;
         distinct = k.stands.distinct;
         each = λ a i. (open_in c (levels_of s) pool other entries d a there (k.stands.each a i).0, (k.stands.each a i).1);
-        all = λ a o. k.stands.all a (open_in c (levels_of s) other pool entries d a back o.0, o.1);
+        all = λ a o w. k.stands.all a (open_in c (levels_of s) other pool entries d a back o.0, o.1) w;
       };
       follows = k.follows;
       judged = k.judged;

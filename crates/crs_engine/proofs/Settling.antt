@@ -18,7 +18,7 @@ use Rattle.crs_history.specs.Histories.{HistoryState, EndsWith, IsAfterAll, Stan
 use Rattle.crs_store.specs.Ahead.{AreAhead}
 use Rattle.crs_store.specs.Stores.{StoreState, IsSameStore}
 use Rattle.crs_store.specs.Answers.{IsAdvanced}
-use Rattle.crs_engine.specs.Moves.{AreSameStores, IsGivenFresh, AreGivenFresh, AreOffered, HasPut, AreOfferedAll, AreTaken, ArePut, AreSettledInPart, AreSettled, IsRestOf, AreAdvanced, date_after}
+use Rattle.crs_engine.specs.Moves.{AreSameStores, IsGivenFresh, AreGivenFresh, AreOffered, HasPut, AreOfferedAll, AreTaken, ArePut, AreSettled, IsRestOf, AreAdvanced, date_after}
 use Rattle.crs_engine.proofs.Order.{ordered_cross, ordered_right, ordered_without}
 
 pub same_all : (ss : List StoreState) → AreSameStores ss ss
@@ -311,7 +311,7 @@ ahead_without ahead beyond xs rest h a = record {
   within = a.within;
 }
 
-offered_without : (h : ℕ) (xs rest : List (Entry Sym)) (olds news : List StoreState) (past now : HistoryState) → AllByRecursion (λ x. h ≤ x.date) rest → AreOfferedAll h rest olds past xs news now → AreOfferedAll h [] olds past xs news now
+pub offered_without : (h : ℕ) (xs rest : List (Entry Sym)) (olds news : List StoreState) (past now : HistoryState) → AllByRecursion (λ x. h ≤ x.date) rest → AreOfferedAll h rest olds past xs news now → AreOfferedAll h [] olds past xs news now
 offered_without h [] rest olds news past now after o = o
 offered_without h (x ∷ xs) rest olds news past now after o = (
   o.0,
@@ -327,7 +327,7 @@ offered_without h (x ∷ xs) rest olds news past now after o = (
 
 -- what is known between two pieces
 pub record AreSettledByPieces (olds : List StoreState) (past : HistoryState) (held : List (Entry Sym)) (h : ℕ) (news : List StoreState) (now : HistoryState) (rest : List (Entry Sym)) : Type 0 where
-  pub part : AreSettledInPart olds past held h news now rest
+  pub part : AreSettled olds past held h news now rest
   pub order : IsInKeyOrder (now.entries ++ rest)
   pub floor : now.floor ≡ past.floor
 
@@ -338,7 +338,7 @@ pieces_none olds past held h order = record {
   floor = refl;
 }
 
-module _ (olds mid news : List StoreState) (past put now : HistoryState) (held : List (Entry Sym)) (h : ℕ) (between rest : List (Entry Sym)) (so : AreSettledByPieces olds past held h mid put between) (piece : AreSettledInPart mid put between h news now rest) where
+module _ (olds mid news : List StoreState) (past put now : HistoryState) (held : List (Entry Sym)) (h : ℕ) (between rest : List (Entry Sym)) (so : AreSettledByPieces olds past held h mid put between) (piece : AreSettled mid put between h news now rest) where
   abbrev done_on : List (Entry Sym)
   done_on = (so.part).done ++ piece.done
 
@@ -362,17 +362,10 @@ module _ (olds mid news : List StoreState) (past put now : HistoryState) (held :
   }
 
 -- once none is due any more
-pub settled_whole : (olds news : List StoreState) (past now : HistoryState) (held : List (Entry Sym)) (h : ℕ) (rest : List (Entry Sym)) → AreSettledByPieces olds past held h news now rest → AllByRecursion (λ x. h ≤ x.date) rest → AreSettled olds past held h news now rest
-settled_whole olds news past now held h rest so after = record {
-  same = (so.part).same;
-  done = (so.part).done;
-  due = record { parted = ((so.part).taken).parted; before = ((so.part).taken).before; after = after };
-  kept = (so.part).kept;
-  offered = offered_without h (so.part).done rest olds news past now after (so.part).offered;
-}
-
-pub settled_at_end : (olds news : List StoreState) (past now : HistoryState) (held : List (Entry Sym)) (h : ℕ) (rest after : List (Entry Sym)) → AreSettledByPieces olds past held h news now rest → AllByRecursion (λ x. h ≤ x.date) rest → after ≡ left rest h → AreSettled olds past held h news now after
-settled_at_end olds news past now held h rest after so none r = subst (AreSettled olds past held h news now) (sym (r ∙ left_none h rest none)) (settled_whole olds news past now held h rest so none)
+pub settled_at_end : (olds news : List StoreState) (past now : HistoryState) (held : List (Entry Sym)) (h : ℕ) (rest after : List (Entry Sym)) → AreSettledByPieces olds past held h news now rest → AllByRecursion (λ x. h ≤ x.date) rest → after ≡ left rest h
+    → AreSettled olds past held h news now after × AllByRecursion (λ x. h ≤ x.date) after
+settled_at_end olds news past now held h rest after so none r =
+    subst (λ (t : List (Entry Sym)). AreSettled olds past held h news now t × AllByRecursion (λ x. h ≤ x.date) t) (sym (r ∙ left_none h rest none)) (so.part, none)
 
 pub rest_at_end : (olds news : List StoreState) (past now : HistoryState) (held : List (Entry Sym)) (h : ℕ) (rest after : List (Entry Sym)) → AreSettledByPieces olds past held h news now rest → IsRestOf rest after → IsRestOf held after
 rest_at_end olds news past now held h rest after so r = rest_on held rest after ((so.part).done, ((so.part).taken).parted) r

@@ -62,31 +62,17 @@ pub record AreTaken (h : ℕ) (taken held rest : List (Entry Sym)) : Type 0 wher
   pub parted : held ≡ taken ++ rest
   pub before : AllByRecursion (λ x. x.date < h) taken
 
--- those of the entries that are dated before h, and then the others
-pub record AreDue (h : ℕ) (due held rest : List (Entry Sym)) : Type 0 where
-  pub parted : held ≡ due ++ rest
-  pub before : AllByRecursion (λ x. x.date < h) due
-  pub after : AllByRecursion (λ x. h ≤ x.date) rest
-
 -- the first of the entries were put last in the history
 abbrev pub ArePut : HistoryState → List (Entry Sym) → HistoryState → Type 0
 ArePut past entries now = (done : List (Entry Sym)) × (rest : List (Entry Sym)) × (entries ≡ done ++ rest) × (now.entries ≡ past.entries ++ done) × (now.floor ≡ past.floor)
 
 -- the first of the entries, all dated before h, were taken out in turn, put last in the history, and offered
-pub record AreSettledInPart (olds : List StoreState) (past : HistoryState) (held : List (Entry Sym)) (h : ℕ) (news : List StoreState) (now : HistoryState) (rest : List (Entry Sym)) : Type 0 where
+pub record AreSettled (olds : List StoreState) (past : HistoryState) (held : List (Entry Sym)) (h : ℕ) (news : List StoreState) (now : HistoryState) (rest : List (Entry Sym)) : Type 0 where
   pub same : AreSameStores olds news
   pub done : List (Entry Sym)
   pub taken : AreTaken h done held rest
   pub kept : now.entries ≡ past.entries ++ done
   pub offered : AreOfferedAll h rest olds past done news now
-
--- the entries dated before h were taken out in turn, put last in the history, and offered; the rest is dated at or after h
-pub record AreSettled (olds : List StoreState) (past : HistoryState) (held : List (Entry Sym)) (h : ℕ) (news : List StoreState) (now : HistoryState) (rest : List (Entry Sym)) : Type 0 where
-  pub same : AreSameStores olds news
-  pub done : List (Entry Sym)
-  pub due : AreDue h done held rest
-  pub kept : now.entries ≡ past.entries ++ done
-  pub offered : AreOfferedAll h [] olds past done news now
 
 -- the rest of the entries
 abbrev pub IsRestOf : List (Entry Sym) → List (Entry Sym) → Type 0
@@ -99,11 +85,12 @@ AreAdvanced history h mark (o ∷ olds) news answer =
     (n : StoreState) × (rest : List StoreState) × (first : List Recognition) × (more : List Recognition)
     × (news ≡ n ∷ rest) × (answer ≡ first ++ more) × IsAdvanced o history h mark n first × AreAdvanced history h mark olds rest more
 
--- those accepted since the last mark came to the pools, the settled entries were offered, and then each store was advanced
+-- those accepted since the last mark came to the pools, the entries dated before h were settled and no others, and then each store was advanced
 pub record AreMarked (h : ℕ) (mark : Mark) (olds : List StoreState) (past : HistoryState) (held fresh : List (Entry Sym)) (news : List StoreState) (now : HistoryState) (rest : List (Entry Sym)) (answer : List Recognition) : Type 0 where
   pub pooled : List StoreState
   pub given : AreGivenFresh past fresh olds pooled
   pub same_pooled : AreSameStores olds pooled
   pub between : List StoreState
   pub settled : AreSettled pooled past held h between now rest
+  pub after : AllByRecursion (λ x. h ≤ x.date) rest
   pub advanced : AreAdvanced now h mark between news answer

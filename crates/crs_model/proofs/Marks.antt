@@ -11,7 +11,7 @@ use Rattle.crs_model.specs.Models.{Chronicle, EventDef}
 use Rattle.crs_model.specs.Matching.{Binding, Assignment, IsAssignment}
 use Rattle.crs_model.specs.Partial.{Partial, at, IsPartial, EqualsAll, GivesNoneTwice}
 use Rattle.crs_model.specs.Proper.{IsNamed}
-use Rattle.crs_model.specs.Open.{IsOpen, IsRecognised, IsRecognisedWhole, StandsFor, before, whole}
+use Rattle.crs_model.specs.Open.{IsOpen, IsRecognised, IsRecognisedWhole, AllWanted, StandsFor, before, whole}
 use Rattle.crs_model.specs.Images.{IsImage}
 use Rattle.crs_model.specs.Verdicts.{IsMet}
 use Rattle.crs_model.specs.Steps.{GoesOn}
@@ -163,7 +163,7 @@ module _ {S : Type 0} where
 
 -- ---- a mark
 
-module _ {S : Type 0} (c : Chronicle S) (named : IsNamed c) (level : ℕ → ℕ) (held : List (Partial S)) (was pool entries : List (Entry S)) (d g h : ℕ) (stands : StandsFor c level held was pool entries d g)
+module _ {S : Type 0} (c : Chronicle S) (named : IsNamed c) (level : ℕ → ℕ) (held : List (Partial S)) (was pool entries : List (Entry S)) (d g h : ℕ) (stands : StandsFor c level AllWanted held was pool entries d g)
     (later : d ≤ h) (dated : (e : Entry S) → IsIn e entries → e.date < h) (in_dates : InDates entries) where
   marked_before : g ≤ h
   marked_before = let m = stands.marked in omega arith
@@ -196,7 +196,7 @@ module _ {S : Type 0} (c : Chronicle S) (named : IsNamed c) (level : ℕ → ℕ
     λ w.
         let s = same_values c named pool was b w.0 r.assignment (w.2).assignment (unwhole b.entries (w.0).entries w.1) in
         fresh (subst (λ (t : Assignment S). IsRecognised c was (before g entries) g t) (sym s) w.2),
-  )
+  ) tt
 
   pub held_is_new : (b : Assignment S) → IsIn (whole b) held → IsRecognised c was (before g entries) g b → ⊥
   held_is_new b i r = (stands.each (whole b) i).1 (b, refl, r)
@@ -205,14 +205,14 @@ module _ {S : Type 0} (c : Chronicle S) (named : IsNamed c) (level : ℕ → ℕ
   abbrev pub Lives : Partial S → Type 0
   Lives a = IsOpen c level pool entries h a × (IsRecognisedWhole c pool entries h a → ⊥)
 
-  pub marked : (out : List (Partial S)) → IsImage (GoesOn Lives) held out → StandsFor c level out pool pool entries h h
+  pub marked : (out : List (Partial S)) → IsImage (GoesOn Lives) held out → StandsFor c level AllWanted out pool pool entries h h
   marked out im = record {
     was_in = λ e i. i;
     entries_in = stands.entries_in;
     marked = omega arith;
     distinct = im.distinct;
     each = λ a i. let r = im.sound a i in ((r.2).1.0, λ rec. (r.2).1.1 (subst (λ (t : List (Entry S)). IsRecognisedWhole c pool t h a) same_entries rec));
-    all = λ a k. im.complete a a
-        (stands.all a (open_before a k.0, λ rec. k.1 (rec.0, rec.1, subst (λ (t : List (Entry S)). IsRecognised c pool t h rec.0) (sym same_entries) (still_recognised rec.0 rec.2))))
+    all = λ a k w. im.complete a a
+        (stands.all a (open_before a k.0, λ rec. k.1 (rec.0, rec.1, subst (λ (t : List (Entry S)). IsRecognised c pool t h rec.0) (sym same_entries) (still_recognised rec.0 rec.2))) tt)
         (refl, (k.0, λ rec. k.1 (subst (λ (t : List (Entry S)). IsRecognisedWhole c pool t h a) (sym same_entries) rec)));
   }

@@ -51,11 +51,15 @@ module _ {S : Type 0} where
   abbrev pub IsKept : Chronicle S → (ℕ → ℕ) → List (Entry S) → List (Entry S) → List (Entry S) → ℕ → ℕ → Partial S → Type 0
   IsKept c level was pool entries d g a = IsOpen c level pool entries d a × (IsRecognisedWhole c was (before g entries) g a → ⊥)
 
-  -- What is held, without repeats, is exactly that. `was` is the pool at the last mark, whose horizon is g.
-  pub record StandsFor (c : Chronicle S) (level : ℕ → ℕ) (held : List (Partial S)) (was pool entries : List (Entry S)) (d g : ℕ) : Type 0 where
+  -- each is wanted
+  abbrev pub AllWanted : Partial S → Type 0
+  AllWanted a = Unit {0}
+
+  -- What is held, without repeats, is so, and all that is so and wanted is held. `was` is the pool at the last mark, whose horizon is g.
+  pub record StandsFor (c : Chronicle S) (level : ℕ → ℕ) (Wanted : Partial S → Type 0) (held : List (Partial S)) (was pool entries : List (Entry S)) (d g : ℕ) : Type 0 where
     pub was_in : (e : Entry S) → IsIn e was → IsIn e pool
     pub entries_in : (e : Entry S) → IsIn e entries → IsIn e pool
     pub marked : g ≤ d
     pub distinct : Ordered (λ a b. a ≡ b → ⊥) held
     pub each : (a : Partial S) → IsIn a held → IsKept c level was pool entries d g a
-    pub all : (a : Partial S) → IsKept c level was pool entries d g a → IsIn a held
+    pub all : (a : Partial S) → IsKept c level was pool entries d g a → Wanted a → IsIn a held

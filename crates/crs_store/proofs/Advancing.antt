@@ -12,7 +12,7 @@ use Rattle.crs_base.specs.Entry.{Entry}
 use Rattle.crs_model.specs.Matching.{Assignment, AreDistinct}
 use Rattle.crs_model.specs.Partial.{Partial, at, IsLevelClosed}
 use Rattle.crs_model.specs.Plans.{chronicle}
-use Rattle.crs_model.specs.Open.{IsNew, IsLive, IsOpen, IsRecognised, StandsFor, IsRecognisedWhole, before, whole}
+use Rattle.crs_model.specs.Open.{IsNew, IsLive, IsOpen, IsRecognised, AllWanted, StandsFor, IsRecognisedWhole, before, whole}
 use Rattle.crs_model.specs.SeenModels.{assignment_of}
 use Rattle.crs_model.specs.Steps.{GoesOn}
 use Rattle.crs_model.specs.Images.{IsImage}
@@ -24,7 +24,7 @@ use Rattle.crs_instance.specs.Followed.{Follows}
 use Rattle.crs_store.specs.Stores.{parts, AllOf, StoreState, IsStore, StandsAhead, IsSameStore, levels_of}
 use Rattle.crs_store.specs.PlanLevels.{levels_in}
 use Rattle.crs_store.specs.Windows.{IsAble, IsOver, IsPassed}
-use Rattle.crs_store.specs.Ahead.{StandsUpTo}
+use Rattle.crs_store.specs.Ahead.{IsWanted}
 use Rattle.crs_store.specs.Sweeps.{is_whole, IsDone}
 use Rattle.crs_store.specs.Answers.{IsAnswer, IsMarked, IsAdvanced, IsRecognitionOf, IsRecognitionOfOne, TellsDone, MovesOn, wholes}
 use Rattle.crs_base.proofs.Alls.{all_both}
@@ -53,7 +53,7 @@ module _ (old new : StoreState) (is : IsStore old) (history : HistoryState) (mar
     (moves : MovesOn old.plan old.focus history old.date h old.number mark old.held new.held answer)
     (was pool settled : List (Entry Sym)) (d g : ℕ) (stands : StandsAhead old was pool settled [] d g h) (kept : HistoryStandsFor settled history) (far : IsFarBack old.plan.reach g history.floor) (few : length settled < 2 ^ 32)
     (apart : AreDistinct pool) (later : d ≤ h) (dated : (e : Entry Sym) → IsIn e settled → e.date < h) (in_dates : InDates settled) where
-  one_now : StandsUpTo (chronicle old.plan) (levels_of old) (parts old.held) was pool settled [] d g h
+  one_now : StandsFor (chronicle old.plan) (levels_of old) (IsWanted (chronicle old.plan) (levels_of old) pool settled [] h) (parts old.held) was pool settled d g
   one_now = stands.stands
 
   mid : List InstanceState
@@ -98,7 +98,7 @@ module _ (old new : StoreState) (is : IsStore old) (history : HistoryState) (mar
       (λ i q k. (open_able old.plan old.focus pool settled h i q.0 q.1).0 k)
       moves.passed.0 moves.able (all_both (IsOf old.plan) (IsOver old.plan old.focus pool settled h) moves.passed.0 of_mid over_mid) distinct_mid moves.passed.2)
 
-  one_then : StandsFor (chronicle old.plan) (levels_of old) (parts moves.able) was pool settled h g
+  one_then : StandsFor (chronicle old.plan) (levels_of old) AllWanted (parts moves.able) was pool settled h g
   one_then = passed_ahead (chronicle old.plan) (levels_of old) (parts old.held) was pool settled d g h (parts moves.able) later one_now stay
 
   abbrev pub Full : Partial Sym → Type 0
@@ -177,7 +177,7 @@ module _ (old new : StoreState) (is : IsStore old) (history : HistoryState) (mar
   pub is_marked : IsMarked old new mark was pool settled g h answer
   is_marked = record {
     stands = record {
-      stands = same_levels old new same pool pool settled h h (parts new.held) (marked (chronicle old.plan) is.proper.named (levels_of old) (parts moves.able) was pool settled h g h one_then (omega arith) dated in_dates (parts new.held) left);
+      stands = same_levels old new same (λ c levels. StandsFor c levels AllWanted (parts new.held) pool pool settled h h) (marked (chronicle old.plan) is.proper.named (levels_of old) (parts moves.able) was pool settled h g h one_then (omega arith) dated in_dates (parts new.held) left);
       follows = subst (λ (p : Plan). AllByRecursion (Follows p settled h) new.held) (sym same.plan) (follows_of old.plan old.focus pool settled h new.held over_new);
       judged = judged;
     };

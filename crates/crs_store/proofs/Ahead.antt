@@ -8,7 +8,7 @@ use Rattle.crs_base.specs.Entry.{Entry}
 use Rattle.crs_base.proofs.Words.{in_append, in_append_left, in_append_right}
 use Rattle.crs_model.specs.Models.{Chronicle}
 use Rattle.crs_model.specs.Partial.{Partial, at, IsAwaited}
-use Rattle.crs_model.specs.Open.{IsOpen, IsRecognisedWhole, StandsFor, before}
+use Rattle.crs_model.specs.Open.{IsOpen, IsRecognisedWhole, AllWanted, StandsFor, before}
 use Rattle.crs_model.specs.Images.{IsImage}
 use Rattle.crs_model.specs.Steps.{IsFresh, GoesOn}
 use Rattle.crs_model.specs.Scans.{GoesOnByLevel}
@@ -17,12 +17,12 @@ use Rattle.crs_model.proofs.Offers.{before_more, recognised_full, recognised_giv
 use Rattle.crs_model.proofs.Options.{of_some}
 use Rattle.crs_model.proofs.Parts.{at_within, none_back, put_same, open_back}
 use Rattle.crs_model.proofs.Rests.{rest, length_rest, rest_at, rest_part, rest_free, rest_closed, rest_awaits, rest_grows}
-use Rattle.crs_store.specs.Ahead.{IsWanted, StandsUpTo}
+use Rattle.crs_store.specs.Ahead.{IsWanted}
 
 module _ (c : Chronicle Sym) (level : ℕ → ℕ) (held : List (Partial Sym)) (was pool entries : List (Entry Sym)) (d g : ℕ) where
   -- what has all that is open has all that is wanted
-  pub stands_ahead : StandsFor c level held was pool entries d g → (later : List (Entry Sym)) (h : ℕ) → StandsUpTo c level held was pool entries later d g h
-  stands_ahead s later h = record { was_in = s.was_in; entries_in = s.entries_in; marked = s.marked; distinct = s.distinct; each = s.each; all = λ a k w. s.all a k }
+  pub stands_ahead : StandsFor c level AllWanted held was pool entries d g → (later : List (Entry Sym)) (h : ℕ) → StandsFor c level (IsWanted c level pool entries later h) held was pool entries d g
+  stands_ahead s later h = record { was_in = s.was_in; entries_in = s.entries_in; marked = s.marked; distinct = s.distinct; each = s.each; all = λ a k w. s.all a k tt }
 
   -- what is open at h is wanted where nothing more comes
   wanted_last : (h : ℕ) (a : Partial Sym) → IsOpen c level pool entries h a → IsWanted c level pool entries [] h a
@@ -34,26 +34,26 @@ module _ (c : Chronicle Sym) (level : ℕ → ℕ) (held : List (Partial Sym)) (
   }
 
   -- what was judged at the last date is exact
-  pub ahead_stands : StandsUpTo c level held was pool entries [] d g d → StandsFor c level held was pool entries d g
-  ahead_stands s = record { was_in = s.was_in; entries_in = s.entries_in; marked = s.marked; distinct = s.distinct; each = s.each; all = λ a k. s.all a k (wanted_last d a k.0) }
+  pub ahead_stands : StandsFor c level (IsWanted c level pool entries [] d) held was pool entries d g → StandsFor c level AllWanted held was pool entries d g
+  ahead_stands s = record { was_in = s.was_in; entries_in = s.entries_in; marked = s.marked; distinct = s.distinct; each = s.each; all = λ a k w. s.all a k (wanted_last d a k.0) }
 
   -- what is open at h of what is held, where nothing more comes
-  pub passed_ahead : (h : ℕ) (out : List (Partial Sym)) → d ≤ h → StandsUpTo c level held was pool entries [] d g h → IsImage (GoesOn (IsOpen c level pool entries h)) held out → StandsFor c level out was pool entries h g
+  pub passed_ahead : (h : ℕ) (out : List (Partial Sym)) → d ≤ h → StandsFor c level (IsWanted c level pool entries [] h) held was pool entries d g → IsImage (GoesOn (IsOpen c level pool entries h)) held out → StandsFor c level AllWanted out was pool entries h g
   passed_ahead h out later s im = record {
     was_in = s.was_in;
     entries_in = s.entries_in;
     marked = let m = s.marked in omega arith;
     distinct = im.distinct;
     each = λ a i. let r = im.sound a i in ((r.2).1, λ rec. (s.each r.0 r.1).1 (subst (IsRecognisedWhole c was (before g entries) g) (r.2).0 rec));
-    all = λ a k. im.complete a a (s.all a (open_before a k.0, k.1) (wanted_last h a k.0)) (refl, k.0);
+    all = λ a k w. im.complete a a (s.all a (open_before a k.0, k.1) (wanted_last h a k.0)) (refl, k.0);
   }
     where
       open_before : (a : Partial Sym) → IsOpen c level pool entries h a → IsOpen c level pool entries d a
       open_before a k = same_pool c pool entries [] was d h g later (λ e i. absurd i) level a (subst (λ (t : List (Entry Sym)). IsOpen c level pool t h a) (sym (append-nil entries)) k)
 
 -- some of what is held, where what isn't there isn't wanted
-pub some_stand : (c : Chronicle Sym) (level : ℕ → ℕ) (held some : List (Partial Sym)) (was pool entries later : List (Entry Sym)) (d g h : ℕ) → StandsUpTo c level held was pool entries later d g h → Ordered (λ a b. a ≡ b → ⊥) some → ((a : Partial Sym) → IsIn a some → IsIn a held) → ((a : Partial Sym) → IsIn a held → IsWanted c level pool entries later h a → IsIn a some)
-    → StandsUpTo c level some was pool entries later d g h
+pub some_stand : (c : Chronicle Sym) (level : ℕ → ℕ) (held some : List (Partial Sym)) (was pool entries later : List (Entry Sym)) (d g h : ℕ) → StandsFor c level (IsWanted c level pool entries later h) held was pool entries d g → Ordered (λ a b. a ≡ b → ⊥) some → ((a : Partial Sym) → IsIn a some → IsIn a held) → ((a : Partial Sym) → IsIn a held → IsWanted c level pool entries later h a → IsIn a some)
+    → StandsFor c level (IsWanted c level pool entries later h) some was pool entries d g
 some_stand c level held some was pool entries later d g h s distinct back kept = record {
   was_in = s.was_in;
   entries_in = s.entries_in;
@@ -66,7 +66,7 @@ some_stand c level held some was pool entries later d g h s distinct back kept =
 -- ---- an entry is offered
 
 module _ (c : Chronicle Sym) (level : ℕ → ℕ) (pool entries was later : List (Entry Sym)) (d n g h : ℕ) (on : d ≤ n) (x : Entry Sym) (x_date : d ≤ x.date) (fresh : IsFresh pool x) (held out : List (Partial Sym))
-    (stands : StandsUpTo c level held was pool entries (x ∷ later) d g h) where
+    (stands : StandsFor c level (IsWanted c level pool entries (x ∷ later) h) held was pool entries d g) where
   abbrev pub Fine : Partial Sym → Type 0
   Fine = IsOpen c level (pool ++ x ∷ []) (entries ++ x ∷ []) n
 
@@ -161,7 +161,7 @@ module _ (c : Chronicle Sym) (level : ℕ → ℕ) (pool entries was later : Lis
   fine_of b a (inl s) = s.1
   fine_of b a (inr f) = f.3
 
-  pub offered_ahead : IsImage (GoesOnByLevel level Fine x) held out → StandsUpTo c level out was (pool ++ x ∷ []) (entries ++ x ∷ []) later n g h
+  pub offered_ahead : IsImage (GoesOnByLevel level Fine x) held out → StandsFor c level (IsWanted c level (pool ++ x ∷ []) (entries ++ x ∷ []) later h) out was (pool ++ x ∷ []) (entries ++ x ∷ []) n g
   offered_ahead im = record {
     was_in = λ e i. in_append_left pool (x ∷ []) e (stands.was_in e i);
     entries_in = more_entries;

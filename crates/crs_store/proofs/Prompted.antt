@@ -1,13 +1,13 @@
 -- What a store stands for where an entry comes to its pool, and where one of the pool is settled.
-use Rattle.std.proofs.Common.{◌≡◌, ℕ, ◌≤◌, List, [], ◌∷◌, ◌++◌, refl, sym, ap, subst, ◌∙◌, inl, inr, arith, append-nil}
+use Rattle.std.proofs.Common.{◌≡◌, ℕ, ◌≤◌, List, [], ◌∷◌, ◌++◌, refl, sym, ap, subst, inl, inr, arith, append-nil}
 use Rattle.std.specs.Prelude.{Some}
 use Rattle.crs_base.specs.declared.symbols.Sym.{Sym}
 use Rattle.crs_base.specs.Words.{IsIn}
 use Rattle.crs_base.specs.Entry.{Entry}
-use Rattle.crs_base.proofs.Words.{in_append, in_append_left, in_append_right}
+use Rattle.crs_base.proofs.Words.{in_append, in_append_left}
 use Rattle.crs_model.specs.Models.{Chronicle}
 use Rattle.crs_model.specs.Partial.{Partial, at}
-use Rattle.crs_model.specs.Open.{IsOpen, IsRecognisedWhole, StandsFor, before}
+use Rattle.crs_model.specs.Open.{IsOpen, IsRecognisedWhole, AllWanted, StandsFor, before}
 use Rattle.crs_model.specs.Images.{IsImage}
 use Rattle.crs_model.specs.Steps.{IsFresh, GoesOn}
 use Rattle.crs_model.specs.Scans.{GoesOnByLevel}
@@ -17,7 +17,7 @@ use Rattle.crs_model.proofs.Options.{of_some}
 use Rattle.crs_model.proofs.Parts.{at_within, put_same, open_back}
 use Rattle.crs_model.proofs.Rests.{rest, length_rest, rest_at, rest_part, rest_free, rest_closed, rest_awaits, rest_grows}
 
-module _ (c : Chronicle Sym) (level : ℕ → ℕ) (held out : List (Partial Sym)) (was pool entries : List (Entry Sym)) (d g : ℕ) (stands : StandsFor c level held was pool entries d g) (x : Entry Sym) (dated : d ≤ x.date) where
+module _ (c : Chronicle Sym) (level : ℕ → ℕ) (held out : List (Partial Sym)) (was pool entries : List (Entry Sym)) (d g : ℕ) (stands : StandsFor c level AllWanted held was pool entries d g) (x : Entry Sym) (dated : d ≤ x.date) where
   -- ---- x comes to the pool
 
   module _ (fresh : IsFresh pool x) where
@@ -69,23 +69,23 @@ module _ (c : Chronicle Sym) (level : ℕ → ℕ) (held out : List (Partial Sym
     fine_of b a (inl s) = s.1
     fine_of b a (inr f) = f.3
 
-    pub came_to_pool : IsImage (GoesOnByLevel level FineNow x) held out → StandsFor c level out was (pool ++ x ∷ []) entries d g
+    pub came_to_pool : IsImage (GoesOnByLevel level FineNow x) held out → StandsFor c level AllWanted out was (pool ++ x ∷ []) entries d g
     came_to_pool im = record {
       was_in = λ e i. in_append_left pool (x ∷ []) e (stands.was_in e i);
       entries_in = λ e i. in_append_left pool (x ∷ []) e (stands.entries_in e i);
       marked = stands.marked;
       distinct = im.distinct;
       each = λ a i. let r = im.sound a i in (fine_of r.0 a r.2, not_new r.0 a r.1 r.2);
-      all = λ a k. elim (given_or_new pool x a (given_of a k.0)) [
+      all = λ a k w. elim (given_or_new pool x a (given_of a k.0)) [
         | inl new ↦
             let e = new.0 in
             let i = new.1 in
             let b = rest level e a in
             let awaits = rest_awaits level e a k.0.closed x i in
             im.complete b a
-            (stands.all b (parent a k.0 e i, λ rec. recognised_full c was (before g entries) g b e rec awaits.within (rest_free level e a)))
+            (stands.all b (parent a k.0 e i, λ rec. recognised_full c was (before g entries) g b e rec awaits.within (rest_free level e a)) tt)
             (inr (e, awaits, rest_grows level e a k.0.closed x i, k.0))
-        | inr old ↦ im.complete a a (stands.all a (without a k.0 old, k.1)) (inl (refl, k.0))
+        | inr old ↦ im.complete a a (stands.all a (without a k.0 old, k.1) tt) (inl (refl, k.0))
       ];
     }
 
@@ -98,7 +98,7 @@ module _ (c : Chronicle Sym) (level : ℕ → ℕ) (held out : List (Partial Sym
     same_before : before g (entries ++ x ∷ []) ≡ before g entries
     same_before = before_more g entries (x ∷ []) (λ e i. let l = late e i in let m = stands.marked in omega arith)
 
-    pub was_settled : IsImage (GoesOn (IsOpen c level pool (entries ++ x ∷ []) n)) held out → StandsFor c level out was pool (entries ++ x ∷ []) n g
+    pub was_settled : IsImage (GoesOn (IsOpen c level pool (entries ++ x ∷ []) n)) held out → StandsFor c level AllWanted out was pool (entries ++ x ∷ []) n g
     was_settled im = record {
       was_in = stands.was_in;
       entries_in = λ e i. elim (in_append entries (x ∷ []) e i) [
@@ -112,7 +112,7 @@ module _ (c : Chronicle Sym) (level : ℕ → ℕ) (held out : List (Partial Sym
             (r.2).1,
             λ rec. (stands.each r.0 r.1).1 (subst (λ (t : Partial Sym). IsRecognisedWhole c was (before g entries) g t) (r.2).0 (subst (λ (t : List (Entry Sym)). IsRecognisedWhole c was t g a) same_before rec)),
           );
-      all = λ a k. im.complete a a
-          (stands.all a (same_pool c pool entries (x ∷ []) was d n g later late level a k.0, λ rec. k.1 (subst (λ (t : List (Entry Sym)). IsRecognisedWhole c was t g a) (sym same_before) rec)))
+      all = λ a k w. im.complete a a
+          (stands.all a (same_pool c pool entries (x ∷ []) was d n g later late level a k.0, λ rec. k.1 (subst (λ (t : List (Entry Sym)). IsRecognisedWhole c was t g a) (sym same_before) rec)) tt)
           (refl, k.0);
     }

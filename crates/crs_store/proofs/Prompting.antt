@@ -1,20 +1,20 @@
 -- What comes of the instances of a prompt chronicle.
-use Rattle.std.proofs.Common.{Bool, true, false, ◌≡◌, ℕ, ◌≤◌, List, [], ◌∷◌, ◌++◌, refl, sym, ap, subst, ◌∙◌, inl, inr, ◌⊎◌, arith}
-use Rattle.std.specs.Prelude.{Some, None, pos, ◌≤ℤ◌}
+use Rattle.std.proofs.Common.{Bool, true, false, ◌≡◌, ℕ, List, [], ◌∷◌, ◌++◌, refl, sym, ap, subst, ◌∙◌, inl, inr, arith}
+use Rattle.std.specs.Prelude.{Some}
 use Rattle.std.specs.List.{AllByRecursion}
 use Rattle.std.proofs.lemmas.List.{map-append}
 use Rattle.crs_base.specs.declared.symbols.Sym.{Sym}
 use Rattle.crs_base.specs.Words.{IsIn, Ordered}
 use Rattle.crs_base.specs.Entry.{Entry}
 use Rattle.crs_base.proofs.Alls.{all_each, all_both, all_append}
-use Rattle.crs_base.proofs.Words.{in_append, in_append_left, in_append_right, in_from_each, each_from_in, in_map, in_map_back}
+use Rattle.crs_base.proofs.Words.{in_append_left, in_append_right, in_from_each, each_from_in, in_map, in_map_back}
 use Rattle.crs_history.specs.Histories.{HistoryState}
 use Rattle.crs_history.proofs.FarBack.{far_later}
 use Rattle.crs_model.specs.declared.plan.Plan.{Plan}
 use Rattle.crs_model.specs.Images.{IsImage}
 use Rattle.crs_model.specs.Partial.{Partial, at, IsLevelClosed}
 use Rattle.crs_model.specs.Plans.{chronicle, IsProper}
-use Rattle.crs_model.specs.Scans.{GoesOnByLevel, IsForkByLevel}
+use Rattle.crs_model.specs.Scans.{GoesOnByLevel}
 use Rattle.crs_model.specs.Steps.{GoesOn}
 use Rattle.crs_model.proofs.Options.{of_some}
 use Rattle.crs_model.proofs.ScanImages.{both_by_level}
@@ -22,9 +22,10 @@ use Rattle.crs_instance.specs.Instances.{InstanceState, IsOf}
 use Rattle.crs_instance.specs.Followed.{Follows}
 use Rattle.crs_store.specs.Ahead.{MayGo}
 use Rattle.crs_store.specs.Forkings.{AreForksOfAll}
-use Rattle.crs_store.specs.Joins.{AreApart, IsPartOf, Renews}
+use Rattle.crs_store.specs.Joins.{IsPartOf, Renews}
 use Rattle.crs_store.specs.PlanLevels.{levels_in}
 use Rattle.crs_store.specs.Stores.{parts, AllOf, StoreState, IsStore, Stands, IsSameStore, levels_of, IsOfferedPrompt, IsSettledWith}
+use Rattle.crs_model.specs.Open.{AllWanted, StandsFor}
 use Rattle.crs_store.specs.Windows.{IsAble, IsOver, IsOpenAt, IsFollowed}
 use Rattle.crs_store.specs.Sweeps.{IsReady, IsFree, IsNow, TakesPrompt, SettlesIn}
 use Rattle.crs_store.proofs.Hopeless.{able_hopeful}
@@ -131,7 +132,7 @@ module _ (old new : StoreState) (history : HistoryState) (x : Entry Sym) (is : I
       let ready : IsReady x (parts old.held) = (each_from_in (IsFree x) (parts old.held) (λ a i e j. fresh x (given was pool settled g g stands a i e x j) refl), one.distinct) in
       let r = taken pool settled dated (record { kept = kept; few = few; far = far }) one.entries_in (over was pool settled g g stands) ready in
       record {
-        stands = same_levels old new same was (pool ++ x ∷ []) settled g g (parts new.held) (came_to_pool (chronicle old.plan) (levels_of old) (parts old.held) (parts new.held) was pool settled g g one x dated fresh r.0);
+        stands = same_levels old new same (λ c levels. StandsFor c levels AllWanted (parts new.held) was (pool ++ x ∷ []) settled g g) (came_to_pool (chronicle old.plan) (levels_of old) (parts old.held) (parts new.held) was pool settled g g one x dated fresh r.0);
         follows = subst (λ (p : Plan). AllByRecursion (Follows p settled g) new.held) (sym same.plan) (follows_of old.plan old.focus (pool ++ x ∷ []) settled g new.held r.1);
         judged = judged ∙ stands.judged;
       }
@@ -143,7 +144,7 @@ module _ (old new : StoreState) (history : HistoryState) (x : Entry Sym) (is : I
       let taken = subst (λ (k : ℕ). SettlesIn old.plan old.focus history x k old.held new.held) stands.judged takes in
       let r = taken pool settled dated (record { kept = kept; few = few; far = far_d }) (floor_early old.plan is.proper d history.floor far_d) (over was pool settled d g stands) one.distinct in
       record {
-        stands = same_levels old new same was pool (settled ++ x ∷ []) x.date g (parts new.held) (was_settled (chronicle old.plan) (levels_of old) (parts old.held) (parts new.held) was pool settled d g one x dated x.date dated inside r.0);
+        stands = same_levels old new same (λ c levels. StandsFor c levels AllWanted (parts new.held) was pool (settled ++ x ∷ []) x.date g) (was_settled (chronicle old.plan) (levels_of old) (parts old.held) (parts new.held) was pool settled d g one x dated x.date dated inside r.0);
         follows = subst (λ (p : Plan). AllByRecursion (Follows p (settled ++ x ∷ []) x.date) new.held) (sym same.plan) (follows_of old.plan old.focus pool (settled ++ x ∷ []) x.date new.held r.1);
         judged = judged;
       }

@@ -14,7 +14,7 @@ use Rattle.crs_model.specs.declared.plan.Plan.{Plan}
 use Rattle.crs_model.specs.Models.{Chronicle}
 use Rattle.crs_model.specs.Partial.{Partial, at, IsLevelClosed}
 use Rattle.crs_model.specs.Plans.{chronicle, IsProper}
-use Rattle.crs_model.specs.Open.{IsOpen, StandsFor, IsRecognisedWhole, before}
+use Rattle.crs_model.specs.Open.{IsOpen, AllWanted, StandsFor, IsRecognisedWhole, before}
 use Rattle.crs_model.specs.Steps.{IsFresh}
 use Rattle.crs_model.specs.SeenModels.{event_of}
 use Rattle.crs_model.proofs.Options.{of_some, some_if, cases_of}
@@ -23,7 +23,7 @@ use Rattle.crs_instance.specs.Instances.{InstanceState, IsOf}
 use Rattle.crs_instance.specs.Followed.{Follows}
 use Rattle.crs_instance.proofs.GoesOn.{root_goes_on}
 use Rattle.crs_instance.proofs.BindAnswers.{get-replicate}
-use Rattle.crs_store.specs.Ahead.{IsWanted, StandsUpTo, AreAhead, MayGo}
+use Rattle.crs_store.specs.Ahead.{IsWanted, AreAhead, MayGo}
 use Rattle.crs_store.specs.Stores.{parts, AllOf, StoreState, IsStore, Stands, StandsAhead, IsSameStore, levels_of, IsOffered, IsOfferedAt}
 use Rattle.crs_store.specs.PlanLevels.{levels_in}
 use Rattle.crs_store.specs.Windows.{IsAble, IsOver, IsOpenAt, IsSameInstance}
@@ -71,26 +71,21 @@ follows_of plan focus pool entries n is over = each_from_in (Follows plan entrie
 
 -- ---- an entry is offered
 
-pub given_ahead : (c : Chronicle Sym) (level : ℕ → ℕ) (held : List (Partial Sym)) (was pool entries later : List (Entry Sym)) (d g h : ℕ) → StandsUpTo c level held was pool entries later d g h → (a : Partial Sym) → IsIn a held → (e : ℕ) (y : Entry Sym) → at a e ≡ Some y → IsIn y pool
+pub given_ahead : (c : Chronicle Sym) (level : ℕ → ℕ) (held : List (Partial Sym)) (was pool entries later : List (Entry Sym)) (d g h : ℕ) → StandsFor c level (IsWanted c level pool entries later h) held was pool entries d g → (a : Partial Sym) → IsIn a held → (e : ℕ) (y : Entry Sym) → at a e ≡ Some y → IsIn y pool
 given_ahead c level held was pool entries later d g h stands a i e y j = of_some (at a e) y _ j ((stands.each a i).0.partial.given e)
 
-pub closed_ahead : (c : Chronicle Sym) (level : ℕ → ℕ) (held : List (Partial Sym)) (was pool entries later : List (Entry Sym)) (d g h : ℕ) → StandsUpTo c level held was pool entries later d g h → (a : Partial Sym) → IsIn a held → IsLevelClosed level a
+pub closed_ahead : (c : Chronicle Sym) (level : ℕ → ℕ) (held : List (Partial Sym)) (was pool entries later : List (Entry Sym)) (d g h : ℕ) → StandsFor c level (IsWanted c level pool entries later h) held was pool entries d g → (a : Partial Sym) → IsIn a held → IsLevelClosed level a
 closed_ahead c level held was pool entries later d g h stands a i = (stands.each a i).0.closed
 
 -- no instance gives a new entry
-ready : (c : Chronicle Sym) (level : ℕ → ℕ) (held : List (Partial Sym)) (was pool entries later : List (Entry Sym)) (d g h : ℕ) (x : Entry Sym) → StandsUpTo c level held was pool entries later d g h → IsFresh pool x → IsReady x held
+ready : (c : Chronicle Sym) (level : ℕ → ℕ) (held : List (Partial Sym)) (was pool entries later : List (Entry Sym)) (d g h : ℕ) (x : Entry Sym) → StandsFor c level (IsWanted c level pool entries later h) held was pool entries d g → IsFresh pool x → IsReady x held
 ready c level held was pool entries later d g h x stands fresh = (each_from_in (IsFree x) held (λ a i e j. fresh x (given_ahead c level held was pool entries later d g h stands a i e x j) refl), stands.distinct)
 
 -- what was shown of the levels of one store is so of another with the same plan and focus
-pub same_levels : (old new : StoreState) → IsSameStore old new → (was pool entries : List (Entry Sym)) (d g : ℕ) (held : List (Partial Sym)) → StandsFor (chronicle old.plan) (levels_of old) held was pool entries d g → StandsFor (chronicle new.plan) (levels_of new) held was pool entries d g
-same_levels old new same was pool entries d g held h =
-    subst (λ (b : Bool). StandsFor (chronicle new.plan) (levels_in new.plan b) held was pool entries d g) (sym same.focus)
-    (subst (λ (p : Plan). StandsFor (chronicle p) (levels_in p old.focus) held was pool entries d g) (sym same.plan) h)
-
-pub same_levels_ahead : (old new : StoreState) → IsSameStore old new → (was pool entries later : List (Entry Sym)) (d g h : ℕ) (held : List (Partial Sym)) → StandsUpTo (chronicle old.plan) (levels_of old) held was pool entries later d g h → StandsUpTo (chronicle new.plan) (levels_of new) held was pool entries later d g h
-same_levels_ahead old new same was pool entries later d g h held k =
-    subst (λ (b : Bool). StandsUpTo (chronicle new.plan) (levels_in new.plan b) held was pool entries later d g h) (sym same.focus)
-    (subst (λ (p : Plan). StandsUpTo (chronicle p) (levels_in p old.focus) held was pool entries later d g h) (sym same.plan) k)
+pub same_levels : (old new : StoreState) → IsSameStore old new → (P : Chronicle Sym → (ℕ → ℕ) → Type 0) → P (chronicle old.plan) (levels_of old) → P (chronicle new.plan) (levels_of new)
+same_levels old new same P h =
+    subst (λ (b : Bool). P (chronicle new.plan) (levels_in new.plan b)) (sym same.focus)
+    (subst (λ (p : Plan). P (chronicle p) (levels_in p old.focus)) (sym same.plan) h)
 
 -- a store that stands for what is settled does so with anything ahead
 pub ahead_of : (s : StoreState) (was pool entries later : List (Entry Sym)) (d g h : ℕ) → Stands s was pool entries d g → StandsAhead s was pool entries later d g h
@@ -124,7 +119,7 @@ store_offered old new history x until ahead beyond up is same judged takes was s
     let all = offered_ahead c level settled settled was later d until g h (omega arith) x dated fresh (parts old.held) (parts made) one r.0 in
     let some = some_stand c level (parts made) (parts new.held) was now now later until g h all (takes.2.apart all.distinct) (parts_sub made new.held takes.2.back) (wanted_stays old.plan is.proper old.focus now now later ahead beyond h made new.held coming takes.2.each) in
     record {
-      stands = same_levels_ahead old new same was now now later until g h (parts new.held) some;
+      stands = same_levels old new same (λ c levels. StandsFor c levels (IsWanted c levels now now later h) (parts new.held) was now now until g) some;
       follows = subst (λ (p : Plan). AllByRecursion (Follows p now until) new.held) (sym same.plan) (each_from_in (Follows old.plan now until) new.held (λ i k. (in_from_each (IsOver old.plan old.focus now now until) made r.1 i (takes.2.back i k)).follows));
       judged = judged;
     }
@@ -181,7 +176,7 @@ root_able plan focus proper i of is =
     given_none : (o : Option (Entry Sym)) (y : Entry Sym) → o ≡ Some y → o ≡ None → ⊥
     given_none o y j f = absurd cc
 
-stands_root : (plan : Plan) (focus : Bool) → IsProper plan → (a : Partial Sym) → length a ≡ length (chronicle plan).events → a ≡ replicate (length plan.chronicle.events) None → IsOpenAt plan focus [] [] 0 a → StandsFor (chronicle plan) (levels_in plan focus) (a ∷ []) [] [] [] 0 0
+stands_root : (plan : Plan) (focus : Bool) → IsProper plan → (a : Partial Sym) → length a ≡ length (chronicle plan).events → a ≡ replicate (length plan.chronicle.events) None → IsOpenAt plan focus [] [] 0 a → StandsFor (chronicle plan) (levels_in plan focus) AllWanted (a ∷ []) [] [] [] 0 0
 stands_root plan focus proper a len is fine =
     let none : Option (Entry Sym) = None in
     let free : (e : ℕ) → at a e ≡ None = (λ e. ap (λ (t : Partial Sym). at t e) is ∙ get-replicate (length plan.chronicle.events) e none) in
@@ -198,7 +193,7 @@ stands_root plan focus proper a len is fine =
         )
         | inr never ↦ absurd never
       ];
-      all = λ b k. inl (ext_get_or none b a (k.0.partial.len ∙ sym len) (λ e l. by (at b e) (cases_of (at b e)) (k.0.partial.given e) ∙ sym (free e)));
+      all = λ b k w. inl (ext_get_or none b a (k.0.partial.len ∙ sym len) (λ e l. by (at b e) (cases_of (at b e)) (k.0.partial.given e) ∙ sym (free e)));
     }
   where
     by : (o : Option (Entry Sym)) → (o ≡ None) ⊎ ((y : Entry Sym) × (o ≡ Some y)) → IfSome o (λ y. IsIn y []) → o ≡ None
@@ -208,9 +203,9 @@ stands_root plan focus proper a len is fine =
 pub new_stands : (plan : Plan) (focus : Bool) → IsProper plan → (i : InstanceState) → IsOf plan i → i.partial ≡ replicate (length plan.chronicle.events) None → (s : StoreState) → s.plan ≡ plan → s.focus ≡ focus → s.held ≡ i ∷ [] → s.date ≡ 0 → Stands s [] [] [] 0 0
 new_stands plan focus proper i of is s sp sf sh judged = record {
   stands =
-      subst (λ (b : Bool). StandsFor (chronicle s.plan) (levels_in s.plan b) (parts s.held) [] [] [] 0 0) (sym sf)
-      (subst (λ (q : Plan). StandsFor (chronicle q) (levels_in q focus) (parts s.held) [] [] [] 0 0) (sym sp)
-      (subst (λ (t : List InstanceState). StandsFor (chronicle plan) (levels_in plan focus) (parts t) [] [] [] 0 0) (sym sh)
+      subst (λ (b : Bool). StandsFor (chronicle s.plan) (levels_in s.plan b) AllWanted (parts s.held) [] [] [] 0 0) (sym sf)
+      (subst (λ (q : Plan). StandsFor (chronicle q) (levels_in q focus) AllWanted (parts s.held) [] [] [] 0 0) (sym sp)
+      (subst (λ (t : List InstanceState). StandsFor (chronicle plan) (levels_in plan focus) AllWanted (parts t) [] [] [] 0 0) (sym sh)
       (stands_root plan focus proper i.partial (of.len ∙ sym (length-map plan.chronicle.events event_of)) is (root_open plan focus proper i of is))));
   follows = subst (λ (q : Plan). AllByRecursion (Follows q [] 0) s.held) (sym sp) (subst (AllByRecursion (Follows plan [] 0)) (sym sh) (root_follows plan proper i of is, tt));
   judged = judged;

@@ -1,13 +1,13 @@
 -- What is held where a store is told which entries come next: it may leave out what can't be recognised with them.
 use Rattle.std.specs.Prelude.{◌≡◌, ◌≤◌, ◌<◌, ◌<ℤ◌, ◌⊎◌, ℕ, ℤ, pos, List, ◌++◌, length, Bool, false, Some, None, IfSome, slice_get}
 use Rattle.crs_base.specs.declared.symbols.Sym.{Sym}
-use Rattle.crs_base.specs.Words.{IsIn, Ordered}
+use Rattle.crs_base.specs.Words.{IsIn}
 use Rattle.crs_base.specs.Entry.{Entry}
 use Rattle.crs_model.specs.declared.plan.Plan.{Plan}
 use Rattle.crs_model.specs.Models.{Chronicle}
 use Rattle.crs_model.specs.Partial.{Partial, at, IsAwaited}
 use Rattle.crs_model.specs.Plans.{chronicle}
-use Rattle.crs_model.specs.Open.{IsOpen, IsKept}
+use Rattle.crs_model.specs.Open.{IsOpen}
 use Rattle.crs_instance.specs.Instances.{InstanceState, IsOf, window_at}
 
 -- a may become what is open at h once the later entries are settled too: an event that it awaits has one of these there, or none
@@ -16,15 +16,6 @@ pub record IsWanted (c : Chronicle Sym) (level : ℕ → ℕ) (pool entries late
   pub fine : IsOpen c level (pool ++ later) (entries ++ later) h grown
   pub has : (e : ℕ) (x : Entry Sym) → at a e ≡ Some x → at grown e ≡ Some x
   pub added : (e : ℕ) (x : Entry Sym) → IsAwaited level a e → at grown e ≡ Some x → IsIn x later
-
--- What is held, without repeats, is open and wasn't recognised, and all that is so and may become what is open at h by the later entries is held.
-pub record StandsUpTo (c : Chronicle Sym) (level : ℕ → ℕ) (held : List (Partial Sym)) (was pool entries later : List (Entry Sym)) (d g h : ℕ) : Type 0 where
-  pub was_in : (e : Entry Sym) → IsIn e was → IsIn e pool
-  pub entries_in : (e : Entry Sym) → IsIn e entries → IsIn e pool
-  pub marked : g ≤ d
-  pub distinct : Ordered (λ a b. a ≡ b → ⊥) held
-  pub each : (a : Partial Sym) → IsIn a held → IsKept c level was pool entries d g a
-  pub all : (a : Partial Sym) → IsKept c level was pool entries d g a → IsWanted c level pool entries later h a → IsIn a held
 
 -- the later entries are among those ahead, or not before a date that isn't after h
 pub record AreAhead (ahead : List (Entry Sym)) (beyond : ℕ) (later : List (Entry Sym)) (h : ℕ) : Type 0 where

@@ -8,11 +8,11 @@ use Rattle.crs_model.specs.declared.plan.Plan.{Plan}
 use Rattle.crs_model.specs.Partial.{Partial}
 use Rattle.crs_model.specs.Plans.{chronicle, IsProper}
 use Rattle.crs_model.specs.Steps.{IsFresh}
-use Rattle.crs_model.specs.Open.{StandsFor}
+use Rattle.crs_model.specs.Open.{AllWanted, StandsFor}
 use Rattle.crs_history.specs.Histories.{HistoryState, IsFarBack, StandsFor as HistoryStandsFor}
 use Rattle.crs_instance.specs.Instances.{InstanceState, IsOf}
 use Rattle.crs_instance.specs.Followed.{Follows}
-use Rattle.crs_store.specs.Ahead.{StandsUpTo, AreAhead}
+use Rattle.crs_store.specs.Ahead.{IsWanted, AreAhead}
 use Rattle.crs_store.specs.Hooks.{LooksFor}
 use Rattle.crs_store.specs.PlanLevels.{levels_in}
 
@@ -45,7 +45,7 @@ levels_of s = levels_in s.plan s.focus
 
 -- What is held is exactly what can still be recognised and wasn't, with the progress of its windows, and was judged last at d.
 pub record Stands (s : StoreState) (was pool entries : List (Entry Sym)) (d g : ℕ) : Type 0 where
-  pub stands : StandsFor (chronicle s.plan) (levels_of s) (parts s.held) was pool entries d g
+  pub stands : StandsFor (chronicle s.plan) (levels_of s) AllWanted (parts s.held) was pool entries d g
   pub follows : AllByRecursion (Follows s.plan entries d) s.held
   pub judged : s.date ≡ d
 
@@ -57,7 +57,7 @@ pub record IsSameStore (old new : StoreState) : Type 0 where
 
 -- The same where the later entries come next, up to h: what can't be recognised with them may be left out.
 pub record StandsAhead (s : StoreState) (was pool entries later : List (Entry Sym)) (d g h : ℕ) : Type 0 where
-  pub stands : StandsUpTo (chronicle s.plan) (levels_of s) (parts s.held) was pool entries later d g h
+  pub stands : StandsFor (chronicle s.plan) (levels_of s) (IsWanted (chronicle s.plan) (levels_of s) pool entries later h) (parts s.held) was pool entries d g
   pub follows : AllByRecursion (Follows s.plan entries d) s.held
   pub judged : s.date ≡ d
 

@@ -11,7 +11,7 @@ use Rattle.crs_model.specs.declared.plan.Plan.{Plan}
 use Rattle.crs_model.specs.Models.{Chronicle, EventDef}
 use Rattle.crs_model.specs.Partial.{Partial}
 use Rattle.crs_model.specs.Levels.{level_in, reads_levels}
-use Rattle.crs_model.specs.Open.{IsLive, IsRecognisedWhole, StandsFor as Keeps, before, pool_among}
+use Rattle.crs_model.specs.Open.{IsLive, IsRecognisedWhole, AllWanted, StandsFor as Keeps, before, pool_among}
 use Rattle.crs_model.specs.Order.{AreAll, arrived}
 use Rattle.crs_model.specs.Plans.{chronicle, IsProper}
 use Rattle.crs_model.specs.Renaming.{text_in, renamed_event, IsChronicleOf, IsEntryOf}
@@ -30,11 +30,11 @@ use Rattle.crs_top.proofs.States.{settled_now, arrived_now, known_settled, known
 
 -- what is kept at the mark, and was recognised by then, lives
 kept_live : {S : Type 0} (c : Chronicle S) (level : ℕ → ℕ) (held : List (Partial S)) (pool settled : List (Entry S)) (h : ℕ)
-    → before h settled ≡ settled → Keeps c level held pool pool settled h h → AreAll (IsLive c level pool settled h) held
+    → before h settled ≡ settled → Keeps c level AllWanted held pool pool settled h h → AreAll (IsLive c level pool settled h) held
 kept_live c level held pool settled h is k = record {
   distinct = k.distinct;
   each = λ a i. let l = k.each a i in (l.0, subst (λ es. IsRecognisedWhole c pool es h a → ⊥) is l.1);
-  all = λ a l. k.all a (l.0, subst (λ es. IsRecognisedWhole c pool es h a → ⊥) (sym is) l.1);
+  all = λ a l. k.all a (l.0, subst (λ es. IsRecognisedWhole c pool es h a → ⊥) (sym is) l.1) tt;
 }
 
 -- events keep their levels with other symbols
@@ -70,11 +70,11 @@ module _ (texts : List (List ℕ)) (distinct : AreDistinct texts) (m : ℕ) (set
   store_live focus p s proper of at =
       let c = chronicle p in
       let pool : List (Entry Sym) = pool_among c settled came in
-      let one : Keeps c (level_in c.events s.focus) (parts s.held) pool pool settled h h =
-      subst (λ (q : Plan). Keeps (chronicle q) (level_in (chronicle q).events s.focus)
+      let one : Keeps c (level_in c.events s.focus) AllWanted (parts s.held) pool pool settled h h =
+      subst (λ (q : Plan). Keeps (chronicle q) (level_in (chronicle q).events s.focus) AllWanted
       (parts s.held) pool pool settled h h) at.plan (at.stands).stands in
-      let two : Keeps c (level_in c.events (reads_levels c focus)) (parts s.held) pool pool settled h h =
-      subst (λ (b : Bool). Keeps c (level_in c.events b) (parts s.held) pool pool settled h h) at.focus_is one in
+      let two : Keeps c (level_in c.events (reads_levels c focus)) AllWanted (parts s.held) pool pool settled h h =
+      subst (λ (b : Bool). Keeps c (level_in c.events b) AllWanted (parts s.held) pool pool settled h h) at.focus_is one in
       let all = before_all h settled (λ e i. in_from_each (λ (x : Entry Sym). x.date < h) settled dated e i) in
       let live = kept_live c (level_in c.events (reads_levels c focus)) (parts s.held) pool settled h all two in
       let there = live_renamed (text_in texts) (HasText texts) (apart texts distinct) c of proper.named (stars_of texts distinct p proper)

@@ -6,7 +6,7 @@ use Rattle.crs_base.specs.declared.entry.Entry.{Entry as CodeEntry}
 use Rattle.crs_base.specs.declared.symbols.Sym.{Sym}
 use Rattle.crs_base.specs.Entry.{Entry}
 use Rattle.crs_base.specs.Seen.{entry_of}
-use Rattle.crs_engine.specs.Moves.{AreSettledInPart, IsRestOf}
+use Rattle.crs_engine.specs.Moves.{AreSettled, IsRestOf}
 use Rattle.crs_engine.proofs.Settling.{pieces_none, piece_more, first_taken, each_waiting, each_late, same_on, rest_behind, rest_at_end, settled_at_end}
 use Rattle.crs_engine.proofs.moving.settle.Goals as goal
 
@@ -27,7 +27,7 @@ pub loop-first-preserved : goal.loop-first-preserved
 loop-first-preserved g c =
     let out = first_taken c.args.h c.loop-first.buffer c.release_before.new.self (entry_of c.in-Some.first.value) (sym c.release_before.ensures.first ∙ ap (λ (o : Option (Rc CodeEntry Global)). option_map (λ r. entry_of r.value) o) c.in-Some.is) c.release_before.ensures.rest in
     piece_more c.args.stores.now c.loop-first.stores c.settle_piece.new.stores c.args.history.now c.loop-first.history c.settle_piece.new.history c.args.buffer.now c.args.h c.loop-first.buffer c.settle_piece.new.buffer c.loop-first.invariant
-    (subst (λ (t : List (Entry Sym)). AreSettledInPart c.loop-first.stores c.loop-first.history t c.args.h c.settle_piece.new.stores c.settle_piece.new.history c.settle_piece.new.buffer) (sym out.0) ((c.in_ok-settle_piece.ensures {u = tt}).settled))
+    (subst (λ (t : List (Entry Sym)). AreSettled c.loop-first.stores c.loop-first.history t c.args.h c.settle_piece.new.stores c.settle_piece.new.history c.settle_piece.new.buffer) (sym out.0) ((c.in_ok-settle_piece.ensures {u = tt}).settled))
     c.settle_piece.ensures.order c.settle_piece.ensures.floor
 
 pub returns-in_err-settle_piece-clause-same : goal.returns-in_err-settle_piece-clause-same
@@ -40,4 +40,7 @@ returns-in_err-settle_piece-clause-rest g c =
     (subst (λ (t : List (Entry Sym)). IsRestOf t c.settle_piece.new.buffer) (sym out.0) (rest_behind (entry_of c.in-Some.first.value) c.release_before.new.self c.settle_piece.new.buffer c.settle_piece.ensures.rest))
 
 pub returns-clause-settled : goal.returns-clause-settled
-returns-clause-settled g c = settled_at_end c.args.stores.now c.loop-first.stores c.args.history.now c.loop-first.history c.args.buffer.now c.args.h c.loop-first.buffer c.release_before.new.self c.loop-first.invariant (c.release_before.ensures.none.0 (search rules)) c.release_before.ensures.rest
+returns-clause-settled g c = (settled_at_end c.args.stores.now c.loop-first.stores c.args.history.now c.loop-first.history c.args.buffer.now c.args.h c.loop-first.buffer c.release_before.new.self c.loop-first.invariant (c.release_before.ensures.none.0 (search rules)) c.release_before.ensures.rest).0
+
+pub returns-clause-after : goal.returns-clause-after
+returns-clause-after g c = (settled_at_end c.args.stores.now c.loop-first.stores c.args.history.now c.loop-first.history c.args.buffer.now c.args.h c.loop-first.buffer c.release_before.new.self c.loop-first.invariant (c.release_before.ensures.none.0 (search rules)) c.release_before.ensures.rest).1

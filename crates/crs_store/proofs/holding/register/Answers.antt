@@ -6,7 +6,7 @@ use Rattle.crs_model.specs.Plans.{chronicle}
 use Rattle.crs_model.specs.SeenModels.{event_of, window_of}
 use Rattle.crs_store.specs.declared.hooks.Hook.{Hook}
 use Rattle.crs_store.specs.Hooks.{IsHookOfEvent, IsHookOfWindow}
-use Rattle.crs_store.specs.Links.{linked_by, IsLinkedAnew, IsArmed}
+use Rattle.crs_store.specs.Links.{IsLinkedAnew, IsArmed}
 use Rattle.crs_store.specs.Dues.{AreDue}
 use Rattle.crs_store.specs.Slots.{slot_at, handle_at}
 use Rattle.crs_store.proofs.Hooking.{zip_long}

@@ -1,4 +1,4 @@
-use Rattle.std.proofs.Common.{[], subst}
+use Rattle.std.proofs.Common.{[]}
 use Rattle.crs_base.specs.Seen.{entry_of}
 use Rattle.crs_store.specs.Ahead.{MayGo}
 use Rattle.crs_store.specs.Slots.{members}

@@ -1,4 +1,4 @@
-use Rattle.std.proofs.Common.{rules, List, ℕ, ◌≤◌, ◌-◌, subst, sym, ap, true, le_refl}
+use Rattle.std.proofs.Common.{rules, List, ℕ, ◌≤◌, subst, sym, ap, true, le_refl}
 use Rattle.crs_store.specs.Stores.{StoreState}
 use Rattle.crs_base.proofs.Alls.{all_each}
 use Rattle.crs_engine.specs.Engines.{EngineState, IsEngine, IsWaiting}
@@ -18,7 +18,7 @@ invariant_of-self g c =
           c.mark_all.new.stores c.mark_all.new.history c.mark_all.new.buffer c.mark_all.new.fresh c.args.t c.args.h c.self.inside.accepted c.self.inside.stopped c.self.invariant.0 same c.mark_all.ensures.rest c.requires.small
           c.mark_all.ensures.order c.mark_all.ensures.floor
           (λ running. history_before c.args.h c.self.inside.horizon c.self.inside.history c.mark_all.new.history c.deref_mut.result.now c.mark_all.new.stores c.self.inside.buffer c.self.inside.fresh c.mark_all.new.buffer c.args.mark c.in-Ok.answer (c.self.invariant.0.settled running) forward ((c.in-Ok.ensures {u = tt}).marked))
-          forward (((c.in-Ok.ensures {u = tt}).marked).settled).due.after (λ running. (c.in-Ok.ensures {u = tt}).none)),
+          forward ((c.in-Ok.ensures {u = tt}).marked).after (λ running. (c.in-Ok.ensures {u = tt}).none)),
       c.self.invariant.1,
     )
 
