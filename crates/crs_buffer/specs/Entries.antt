@@ -1,5 +1,5 @@
 -- Entries in key order. S is the type of symbols.
-use Rattle.std.specs.Prelude.{◌≡◌, ℕ, List, [], ◌∷◌, Option, Some, None, nat_lt, cond}
+use Rattle.std.specs.Prelude.{◌≡◌, ◌==◌, ℕ, List, [], ◌∷◌, Option, Some, None, nat_lt, cond, not, filter}
 use Rattle.std.specs.List.{AllByRecursion}
 use Rattle.std.specs.declared.cmp.Ordering.TheVariants.{Equal}
 use Rattle.crs_base.specs.Entry.{Entry, entry_cmp}
@@ -18,3 +18,7 @@ module _ {S : Type 0} where
   abbrev pub left : List (Entry S) → ℕ → List (Entry S)
   left [] h = []
   left (e ∷ es) h = cond (nat_lt e.date h) es (e ∷ es)
+
+  -- those with another arrival number than n
+  abbrev pub without_arrival : ℕ → List (Entry S) → List (Entry S)
+  without_arrival n es = filter (λ e. not (e.arrival == n)) es

@@ -1,5 +1,5 @@
 -- Where an entry stands among others that are held.
-use Rattle.std.specs.Prelude.{◌≡◌, List}
+use Rattle.std.specs.Prelude.{◌≡◌, ◌==◌, ℕ, List, Bool, not}
 use Rattle.std.specs.List.{AllByRecursion}
 use Rattle.std.specs.declared.cmp.Ordering.TheVariants.{Less, Greater}
 use Rattle.crs_buffer.specs.declared.held.Held.{Held}
@@ -17,3 +17,7 @@ ComesAfter k hs = AllByRecursion (λ y. held_cmp k y ≡ Greater) hs
 -- one of them has the key of k
 abbrev pub IsTaken : Held → List Held → Type 0
 IsTaken k hs = IsNewKey (entry_in k) (entries_of hs) → ⊥
+
+-- its arrival number is another than n
+abbrev pub arrived_otherwise : ℕ → Held → Bool
+arrived_otherwise n h = not (h.entry.value.arrival == n)

@@ -3,10 +3,12 @@ ghost use Rattle.std.specs.List.{AllByRecursion};
 ghost use Rattle.crs_base.specs.Entry.{IsInKeyOrder};
 ghost use Rattle.crs_base.specs.Seen.{entry_of};
 ghost use Rattle.crs_model.specs.Order.{put_in_order};
-ghost use Rattle.crs_buffer.specs.Entries.{released, left, IsNewKey};
+ghost use Rattle.crs_buffer.specs.Entries.{released, left, without_arrival, IsNewKey};
 
 use crate::held::Held;
-use crate::queue::{compare_before, first_of, place_of, put_at, put_before, take_first};
+use crate::queue::{
+    compare_before, drop_arrival, first_of, place_of, put_at, put_before, take_first,
+};
 use crs_base::Entry;
 use std::alloc::{AllocError, Global};
 use std::cmp::Ordering;
@@ -64,6 +66,15 @@ impl Buffer {
             Ordering::Equal => Ok(()),
             Ordering::Less => put_before(&mut self.set, &mut self.queue, place, held),
         }
+    }
+
+    /// Takes the entry with this arrival number back out. That is for want of memory alone: it walks
+    /// over all entries.
+    pub fn take_back(&mut self, arrival: u32)
+        ensures rest { self.new ≡ without_arrival arrival self.old }
+        ensures sorted { IsInKeyOrder self.new }
+    {
+        drop_arrival(&mut self.set, &mut self.queue, arrival);
     }
 
     /// The date of the entry of least key.

@@ -1,11 +1,11 @@
 //! Entries in a set, and behind all of them those of a queue.
-ghost use Rattle.std.specs.Prelude.{true, Some, ◌≡◌, ◌≤◌, ◌<◌, ◌-◌, ◌++◌, [], ◌∷◌, length, drop, take, OnOk, OnErr, IfSome, IsNone, ◌↔◌, slice_get, option_copied, option_to_list};
+ghost use Rattle.std.specs.Prelude.{true, filter, Some, ◌≡◌, ◌≤◌, ◌<◌, ◌-◌, ◌++◌, [], ◌∷◌, length, drop, take, OnOk, OnErr, IfSome, IsNone, ◌↔◌, slice_get, option_copied, option_to_list};
 ghost use Rattle.std.specs.List.{AllByRecursion, insert};
 ghost use Rattle.std.specs.List.Sorted.{IsStrictlySortedBy};
 ghost use Rattle.std.specs.BTreeSet.{insert_key};
 ghost use Rattle.std.specs.declared.cmp.Ordering.TheVariants.{Less, Equal, Greater};
 ghost use Rattle.crs_buffer.specs.HeldOrder.{held_cmp};
-ghost use Rattle.crs_buffer.specs.Queues.{ComesAfter, ComesBefore, IsTaken};
+ghost use Rattle.crs_buffer.specs.Queues.{ComesAfter, ComesBefore, IsTaken, arrived_otherwise};
 
 use crate::held::Held;
 use std::alloc::AllocError;
@@ -176,4 +176,26 @@ pub(crate) fn take_first(set: &mut BTreeSet<Held>, queue: &mut VecDeque<Held>) -
         Some(held) => Some(held),
         None => queue.pop_front(),
     }
+}
+
+/// Drops those with this arrival number from the set.
+fn drop_from_set(set: &mut BTreeSet<Held>, arrival: u32)
+    ensures { set.new.keys ≡ filter (arrived_otherwise arrival) set.old.keys }
+{
+    set.retain(|held| held.entry.arrival != arrival);
+}
+
+/// Drops those with this arrival number from the queue.
+fn drop_from_queue(queue: &mut VecDeque<Held>, arrival: u32)
+    ensures { queue.new.items ≡ filter (arrived_otherwise arrival) queue.old.items }
+{
+    queue.retain(|held| held.entry.arrival != arrival);
+}
+
+/// Drops those with this arrival number, in a walk over all.
+pub(crate) fn drop_arrival(set: &mut BTreeSet<Held>, queue: &mut VecDeque<Held>, arrival: u32)
+    ensures { set.new.keys ++ queue.new.items ≡ filter (arrived_otherwise arrival) (set.old.keys ++ queue.old.items) }
+{
+    drop_from_set(set, arrival);
+    drop_from_queue(queue, arrival);
 }

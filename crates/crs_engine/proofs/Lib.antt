@@ -6,3 +6,4 @@ pub mod Accepting
 pub mod Marking
 pub mod Floors
 pub mod Forgetting
+pub mod TakenBack

@@ -1,4 +1,4 @@
-ghost use Rattle.std.specs.Prelude.{◌≡◌, ◌<◌, ◌≤◌, ◌-◌, ◌^◌, ◌↔◌, ◌⊎◌, [], length, IsTrue, IsSome, OnOk, IfOk, Err, false, List as Items};
+ghost use Rattle.std.specs.Prelude.{◌≡◌, ◌<◌, ◌≤◌, ◌-◌, ◌^◌, ◌↔◌, ◌⊎◌, [], length, IsTrue, IsSome, OnOk, IfOk, Err, true, false, List as Items};
 ghost use Rattle.std.specs.List.{AllByRecursion};
 ghost use Rattle.crs_base.specs.declared.symbols.Sym.{Sym};
 ghost use Rattle.crs_base.specs.Entry.{Entry as LogEntry};
@@ -173,6 +173,7 @@ impl Engine {
         ensures refused { IsRefusedAs (accept_refusal self.old entry.date) result }
         ensures unchanged { IsSome (accept_refusal self.old entry.date) → self.new ≡ self.old }
         ensures raised { IsTrue self.new.stopped ↔ (IsTrue self.old.stopped ⊎ (result ≡ Err Memory)) }
+        ensures wanting { result ≡ Err Memory → self.new ≡ record self.old { stopped = true } }
         ensures accepted { OnOk result (HasAccepted self.old self.new) }
         ensures stands { OnOk result ((settled : Items (LogEntry Sym)) (waiting : Items (LogEntry Sym)) → StandsFor self.old settled waiting → StandsFor self.new settled (put_in_order (entry_of entry) waiting)) }
     {

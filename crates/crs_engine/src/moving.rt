@@ -6,7 +6,7 @@ ghost use Rattle.crs_base.specs.Entry.{Entry as LogEntry, IsInKeyOrder};
 ghost use Rattle.crs_base.specs.Seen.{entry_of};
 ghost use Rattle.crs_history.specs.Histories.{EndsWith, StandsFor};
 ghost use Rattle.crs_model.specs.declared.recognition.Recognition.{Recognition};
-ghost use Rattle.crs_engine.specs.Moves.{IsTakenIn, IsGivenFresh, AreGivenFresh, put_where, AreSameStores, AreOffered, AreOfferedAll, AreTaken, ArePut, AreSettledInPart, AreSettled, IsRestOf, AreAdvanced, AreMarked, date_after};
+ghost use Rattle.crs_engine.specs.Moves.{IsTakenIn, IsGivenFresh, AreGivenFresh, put_where, AreSameStores, AreOffered, AreOfferedAll, AreTaken, ArePut, AreSettled, IsRestOf, AreAdvanced, AreMarked, date_after};
 ghost use Rattle.crs_buffer.specs.Entries.{IsNewKey};
 ghost use Rattle.crs_model.specs.Order.{put_in_order};
 ghost use Rattle.crs_store.specs.Stores.{IsSameStore};
@@ -241,7 +241,7 @@ fn settle_piece<L: Ledger>(
     ensures rest { IsRestOf buffer.old buffer.new }
     ensures order { IsInKeyOrder (history.new.entries ++ buffer.new) }
     ensures floor { history.new.floor ≡ history.old.floor }
-    ensures settled { OnOk result (AreSettledInPart stores.old history.old (entry_of first.value ∷ buffer.old) h stores.new history.new buffer.new) }
+    ensures settled { OnOk result (AreSettled stores.old history.old (entry_of first.value ∷ buffer.old) h stores.new history.new buffer.new) }
 {
     take_piece(buffer, due, first, h)?;
     settle_due(stores, history, buffer, due.as_slice(), h, steps)?;
@@ -268,6 +268,7 @@ pub(crate) fn settle<L: Ledger>(
     ensures order { IsInKeyOrder (history.new.entries ++ buffer.new) }
     ensures floor { history.new.floor ≡ history.old.floor }
     ensures settled { OnOk result (AreSettled stores.old history.old buffer.old h stores.new history.new buffer.new) }
+    ensures after { OnOk result (AllByRecursion (λ x. h ≤ x.date) buffer.new) }
 {
     while let Some(first) = buffer.release_before(h) {
         settle_piece(stores, history, buffer, due, first, h, steps)?;
@@ -359,6 +360,7 @@ pub(crate) fn forget_behind(history: &mut History, h: u64, reach: i64)
 }
 
 /// Puts the entry into the buffer, and where it is wanted among those accepted since the last mark.
+/// An error leaves both as they were.
 pub(crate) fn hold(
     alloc: Global,
     buffer: &mut Buffer,
@@ -370,10 +372,17 @@ pub(crate) fn hold(
     ensures fresh { IsNewKey (entry_of entry) fresh.old → OnOk result (fresh.new ≡ put_where wanted (entry_of entry) fresh.old) }
     ensures sorted { OnOk result (IsInKeyOrder buffer.new) }
     ensures err { OnErr result (buffer.new ≡ buffer.old) }
+    ensures fresh_err { AllByRecursion (λ x. x.arrival < entry.arrival) fresh.old → OnErr result (fresh.new ≡ fresh.old) }
 {
+    let arrival = entry.arrival;
     let shared = Rc::new(alloc, entry)?;
-    if wanted {
-        fresh.put(shared.clone()?)?;
+    if !wanted {
+        return buffer.put(shared);
     }
-    buffer.put(shared)
+    fresh.put(shared.clone()?)?;
+    let Ok(()) = buffer.put(shared) else {
+        fresh.take_back(arrival);
+        return Err(AllocError);
+    };
+    Ok(())
 }
