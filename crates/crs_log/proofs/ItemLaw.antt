@@ -18,11 +18,11 @@ module _ {A B : Type 0} where
       same : (a b : B) → Some a ≡ Some b → a ≡ b
       same a b e = cc
 
-  chained : (f : A → Option B) (o : Option A) (y : B) → option_and_then f o ≡ Some y → (x : A) × (o ≡ Some x) × (f x ≡ Some y)
+  pub chained : (f : A → Option B) (o : Option A) (y : B) → option_and_then f o ≡ Some y → (x : A) × (o ≡ Some x) × (f x ≡ Some y)
   chained f None y e = cc
   chained f (Some x) y e = (x, refl, e)
 
-guarded : {A : Type 0} (b : Bool) (o : Option A) (y : A) → cond b o None ≡ Some y → (b ≡ true) × (o ≡ Some y)
+pub guarded : {A : Type 0} (b : Bool) (o : Option A) (y : A) → cond b o None ≡ Some y → (b ≡ true) × (o ≡ Some y)
 guarded true o y e = (refl, e)
 guarded false o y e = cc
 

@@ -15,3 +15,4 @@ pub mod Canonicals
 pub mod ReadEntries
 pub mod Walks
 pub mod Traces
+pub mod Staying

@@ -20,7 +20,7 @@ pub use binding::Binding;
 pub use bits::is_set_at;
 pub use chronicle::{Anchor, Body, Chronicle, EventDef, VarSet, Window};
 pub use date_window::DateWindow;
-pub use laws::recognised_stays;
+pub use laws::{limits_of_models, recognised_stays};
 pub use matching::{accepts, bind_if_fits, bind_vars, fits};
 pub use models::{Kind, ModelRefused, ModelWord, Models, Name};
 pub use pattern::{Pattern, Term};

@@ -7,7 +7,8 @@ use Rattle.crs_model.specs.declared.recognition.Mark.{Mark}
 use Rattle.crs_model.specs.Models.{Models}
 use Rattle.crs_log.specs.Reading.{numbered, whole_lines}
 use Rattle.crs_log.specs.Run as run
-use Rattle.crs_log.specs.Run.{Setting, State, Outcome, Passed, Refused, Accepted, Marked, at_start, outcomes}
+use Rattle.crs_log.specs.Run.{Setting, State, Outcome, Passed, Refused, Accepted, Marked, at_start, after_lines, outcomes}
+use Rattle.crs_log.specs.Recognitions.{View, view_of}
 use Rattle.crs_log.specs.Trace.{Answer, Effect, IsTrace}
 use Rattle.crs_report.specs.declared.refusals.Fault.{Fault}
 use Rattle.crs_report.specs.declared.refusals.Fault.TheVariants as faults
@@ -58,6 +59,10 @@ setting_of f = record { names = f.models.names; symbols = f.symbols; entries = f
 -- what these lines of a log bring, of which the first is met at the start, and the state behind them
 abbrev pub IsTraceOf : Frame → List Line → List Effect → State → Type 0
 IsTraceOf f lines effects last = IsTrace (setting_of f) f.models.chronicles (at_start f.texts) (numbered lines) effects last
+
+-- what recognition reads behind these lines
+abbrev pub view_behind : Frame → List Line → View
+view_behind f lines = view_of (after_lines (setting_of f) (at_start f.texts) (numbered lines))
 
 -- the text of what they bring
 abbrev pub IsTextOf : Frame → List Line → List ℕ → Type 0

@@ -16,7 +16,7 @@ mod status;
 mod step;
 mod table;
 
-pub use laws::{log_text_is_one, rearranged_logs_have_one_text, recognised_stays};
+pub use laws::{log_text_is_one, rearranged_logs_have_one_text, recognitions_stay};
 pub use limits::{Limits, STANDARD};
 pub use run::{run_program, run_with};
 pub use status::Status;
