@@ -124,7 +124,7 @@ module _ (plan : Plan) (focus : Bool) (i : InstanceState) (handle : Handle) (sin
   }
 
   pub all_firsts : (n : ℕ) (old new : Schedule) → AreFirstsTo n old new → length i.partial ≤ n → (e : ℕ) → StandsAtEach (IsFirstOf plan focus i e) handle since new.pairs
-  all_firsts n old new p all e t f l m = p.below e (let a = (f.0).within in omega arith) t f l m
+  all_firsts n old new p all e t f l m = p.below e (let a = (f.1).within in omega arith) t f l m
 
   -- the pairs of the deadline, of the events and of the windows below n are in, and the others stay
   pub record ArePutTo (n : ℕ) (old new : Schedule) : Type 0 where

@@ -51,21 +51,21 @@ can_start_or_not i e d = elim (start_or_later (window_at i.windows e).least d) [
 ]
 
 -- where no date is due from d on before h, what can start by h can by d
-pub starts_early : (plan : Plan) (focus : Bool) (i : InstanceState) (d h : ℕ) → IsUndue plan focus i d h → (e : ℕ) → IsAwaited (levels_in plan focus) i.partial e → CanStart i e h → CanStart i e d
-starts_early plan focus i d h undue e w can = elim (start_or_later (window_at i.windows e).least d) [
+pub starts_early : (plan : Plan) (focus : Bool) (i : InstanceState) (d h : ℕ) → plan.chronicle.prompt ≡ false → IsUndue plan focus i d h → (e : ℕ) → IsAwaited (levels_in plan focus) i.partial e → CanStart i e h → CanStart i e d
+starts_early plan focus i d h plain undue e w can = elim (start_or_later (window_at i.windows e).least d) [
   | inl s ↦ s
   | inr r ↦
       let q = of_some (window_at i.windows e).least (pos r.0 +ℤ pos 1) (λ m. m ≤ℤ pos h) r.2 can in
-      absurd (undue r.0 (inr (inr (e, (w, r.2)))) r.1 (omega (arith, ints)))
+      absurd (undue r.0 (inr (inr (e, (plain, w, r.2)))) r.1 (omega (arith, ints)))
 ]
 
 -- the same of the date by which it is waited for
 pub starts_linked : (plan : Plan) (focus : Bool) (i : InstanceState) (d h : ℕ) → IsUndue plan focus i d h → (e : ℕ) → IsAwaited (levels_in plan focus) i.partial e → CanStart i e (linked_by plan h) → CanStart i e (linked_by plan d)
-starts_linked plan focus i d h undue e w can = by plan.chronicle.prompt can
+starts_linked plan focus i d h undue e w can = by plan.chronicle.prompt refl can
   where
-    by : (b : Bool) → CanStart i e (if b then 2 ^ 42 else h) → CanStart i e (if b then 2 ^ 42 else d)
-    by true c = c
-    by false c = starts_early plan focus i d h undue e w c
+    by : (b : Bool) → plan.chronicle.prompt ≡ b → CanStart i e (if b then 2 ^ 42 else h) → CanStart i e (if b then 2 ^ 42 else d)
+    by true p c = c
+    by false p c = starts_early plan focus i d h p undue e w c
 
 -- ---- one instance
 

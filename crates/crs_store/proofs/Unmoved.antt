@@ -191,7 +191,7 @@ module _ (plan : Plan) (focus : Bool) (i : InstanceState) (d : ℕ) (done : IsDo
   -- for what is done no later date is due
   pub done_undue : (t : ℕ) → IsDue plan focus i t → d ≤ t → ⊥
   done_undue t (inl s) l = let c = s.1 in none_free i.partial c.0 done.0 (c.1).within (c.1).unbound
-  done_undue t (inr (inr f)) l = let w = (f.1).0 in none_free i.partial f.0 done.0 w.within w.unbound
+  done_undue t (inr (inr f)) l = let w = (f.1).1 in none_free i.partial f.0 done.0 w.within w.unbound
   done_undue t (inr (inl s)) l =
       let w = and_some (slice_get (chronicle plan).windows s.0) _ s.1 in
       let r = w.2 in turn_ended (w.0).body r.0 r.1 t

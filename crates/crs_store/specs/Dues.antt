@@ -1,5 +1,5 @@
 -- The dates after which an instance has to be judged anew, though no entry touches it.
-use Rattle.std.specs.Prelude.{◌≡◌, ◌⊎◌, ◌≤◌, ◌<◌, ◌^◌, ℕ, ℤ, pos, ◌+ℤ◌, ◌≤ℤ◌, ◌<ℤ◌, List, Bool, true, Some, IfSome, IsSomeAnd, slice_get}
+use Rattle.std.specs.Prelude.{◌≡◌, ◌⊎◌, ◌≤◌, ◌<◌, ◌^◌, ℕ, ℤ, pos, ◌+ℤ◌, ◌≤ℤ◌, ◌<ℤ◌, List, Bool, true, false, Some, IfSome, IsSomeAnd, slice_get}
 use Rattle.crs_base.specs.declared.symbols.Sym.{Sym}
 use Rattle.crs_base.specs.Words.{IsIn}
 use Rattle.crs_base.specs.Entry.{Entry}
@@ -31,9 +31,9 @@ abbrev pub IsDueFor : Plan → InstanceState → ℕ → ℕ → Type 0
 IsDueFor plan i k t =
     IsSomeAnd (slice_get (chronicle plan).windows k) (λ w. (from : ℤ) × (to : ℤ) × IsStretch i.partial w from to × BodyIsBound (look_of i.binding) w.body × IsTurn w.body from to t)
 
--- t is the date before the first at which this event, which is awaited, can come
+-- t is the date before the first at which this event, which is awaited, can come, where the chronicle isn't prompt: an instance of a prompt one waits for its events whatever their dates
 abbrev pub IsFirstOf : Plan → Bool → InstanceState → ℕ → ℕ → Type 0
-IsFirstOf plan focus i e t = IsAwaited (levels_in plan focus) i.partial e × ((window_at i.windows e).least ≡ Some (pos t +ℤ pos 1))
+IsFirstOf plan focus i e t = (plan.chronicle.prompt ≡ false) × IsAwaited (levels_in plan focus) i.partial e × ((window_at i.windows e).least ≡ Some (pos t +ℤ pos 1))
 
 -- after t the instance has to be judged anew: t is the last date at which its awaited events can come, or such a date of a window, or of an event
 abbrev pub IsDue : Plan → Bool → InstanceState → ℕ → Type 0

@@ -152,7 +152,8 @@ fn put_first(
     Ok(())
 }
 
-/// Puts the handle in at these dates of all events.
+/// Puts the handle in at these dates of all events. An instance of a prompt chronicle waits for all its
+/// events from the start, so no date of theirs changes anything: it takes a fifth off a prompt drill.
 fn put_firsts(
     calendar: &mut Calendar,
     plan: &Plan,
@@ -169,6 +170,9 @@ fn put_firsts(
     ensures kept { AreKept calendar.old.pairs calendar.new.pairs }
     ensures stood { calendar.new.date ≡ calendar.old.date }
 {
+    if plan.chronicle.prompt {
+        return Ok(());
+    }
     for event in 0..plan.chronicle.events.len() as u8 {
         put_first(calendar, plan, focus, instance, event, handle, since)?;
     }
