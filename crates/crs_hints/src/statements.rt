@@ -29,6 +29,8 @@ const HOLD: &str = "a hold wants a value behind a ':': hold(NAME: VALUE, (FROM, 
 
 const VALUES: &str = "a list of values stands in round brackets: in (VALUE, VALUE)";
 
+const PROMPT: &str = "the word before 'chronicle' is 'prompt', or none: prompt chronicle NAME {";
+
 const NO_STATEMENT: &str = "no statement begins so";
 
 /// The words with which statements begin.
@@ -86,7 +88,19 @@ fn attribute(rest: &[Piece<'_>]) -> Result<(), Stop> {
     }
 }
 
+/// Whether `prompt` and a name stand next, where a chronicle's name alone does.
+fn is_prompt_behind(rest: &[Piece<'_>]) -> bool {
+    match rest {
+        [piece, other, ..] => piece.is_word(b"prompt") && other.word().is_some(),
+        _ => false,
+    }
+}
+
+/// A chronicle, behind the word `chronicle`.
 fn chronicle(rest: &[Piece<'_>]) -> Result<(), Stop> {
+    if is_prompt_behind(rest) {
+        return Err(stop_before(rest, PROMPT));
+    }
     let rest = name(rest, "a chronicle's name is wanted here: chronicle NAME {")?;
     let rest = mark(rest, b'{', "a '{' is wanted behind a chronicle's name")?;
     end(rest, BEHIND)
@@ -257,6 +271,7 @@ fn unknown(word: &[u8], line: &[Piece<'_>], rest: &[Piece<'_>]) -> Stop {
             stop_before(rest, "a bound is written t2 - t1 in [LOW, HIGH]")
         }
         [piece, ..] if is_negative(piece) => stop_before(rest, DIFFERENCE),
+        [piece, ..] if piece.is_word(b"chronicle") => stop_before(line, PROMPT),
         _ => stop_before(line, NO_STATEMENT),
     }
 }

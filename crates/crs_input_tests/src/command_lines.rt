@@ -241,7 +241,7 @@ import --minimal t | none
 
 #[test]
 fn the_usage_text_has_a_line_for_each_command(rt: HostRuntime) {
-    let text = b"usage: crs run [--focus] [--summary] [--cite] [--tally KINDS] MODELS LOG\n\
+    let text = b"usage: crs run [--focus] [--summary] [--tally KINDS] MODELS LOG\n\
         \x20      crs model [--minimal] MODELS\n\
         \x20      crs drill [--focus] SEED N\n\
         \x20      crs import CSV\n\

@@ -87,6 +87,17 @@ const OF_FORM: &str = "8 | t2 - t1 <= 5 | a list of two numbers behind 'in': t2 
 ";
 
 #[test]
+fn the_place_of_prompt_is_told(rt: HostRuntime) -> Result<(), Fail> {
+    let rows = "10 | chronicle prompt c { | the word before 'chronicle' is 'prompt', or none
+0 | promt chronicle c { | the word before 'chronicle' is 'prompt', or none
+0 | prompted chronicle c { | prompt chronicle NAME {
+7 | prompt c { | behind 'prompt' a chronicle begins
+18 | prompt chronicle c | a '{' is wanted
+17 | chronicle prompt [ | a '{' is wanted";
+    all_are_told(&rt, rt.alloc(), ModelWord::Form, rows)
+}
+
+#[test]
 fn natural_mistakes_of_form_are_told(rt: HostRuntime) -> Result<(), Fail> {
     all_are_told(&rt, rt.alloc(), ModelWord::Form, OF_FORM)
 }
