@@ -20,13 +20,13 @@ plain_app name =
     let a = new_app name in
     record a { top = record a.top { disable_help_flag = true; disable_version_flag = true } }
 
--- `run [--focus] [--summary] [--cite] [--tally KINDS]`
+-- `run [--focus] [--summary] [--tally KINDS]`
 abbrev pub run_options : App
 run_options =
     let flags = with_rule (with_rule (plain_app (codes "run")) (flag (codes "focus"))) (flag (codes "summary")) in
     with_rule (with_rule flags (flag (codes "cite"))) (valued (codes "tally"))
 
--- `run [--focus] [--summary] [--cite] [--tally KINDS] MODELS LOG`
+-- `run [--focus] [--summary] [--tally KINDS] MODELS LOG`
 abbrev pub run_app : App
 run_app = with_rule (with_rule run_options (position (codes "models"))) (position (codes "log"))
 

@@ -104,5 +104,5 @@ command_of (name ∷ rest) =
 -- what is written where the words are no command
 abbrev pub usage_text : List ℕ
 usage_text =
-    codes "usage: crs run [--focus] [--summary] [--cite] [--tally KINDS] MODELS LOG\n" ++ codes "       crs model [--minimal] MODELS\n"
+    codes "usage: crs run [--focus] [--summary] [--tally KINDS] MODELS LOG\n" ++ codes "       crs model [--minimal] MODELS\n"
     ++ codes "       crs drill [--focus] SEED N\n" ++ codes "       crs import CSV\n"

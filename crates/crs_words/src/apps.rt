@@ -39,7 +39,7 @@ fn plain_command<'a>(alloc: Global, name: &'a str) -> Command<'a>
         .disable_version_flag(true)
 }
 
-/// `run [--focus] [--summary] [--cite] [--tally KINDS]`
+/// `run [--focus] [--summary] [--tally KINDS]`
 fn run_options<'a>(alloc: Global) -> Result<Command<'a>, AllocError>
     ensures { IfOk result (λ c. app_of c ≡ run_options) }
 {
@@ -51,7 +51,7 @@ fn run_options<'a>(alloc: Global) -> Result<Command<'a>, AllocError>
     Ok(command)
 }
 
-/// `run [--focus] [--summary] [--cite] [--tally KINDS] MODELS LOG`
+/// `run [--focus] [--summary] [--tally KINDS] MODELS LOG`
 pub(crate) fn run_command<'a>(alloc: Global) -> Result<Command<'a>, AllocError>
     ensures { IfOk result (λ c. app_of c ≡ run_app) }
 {
