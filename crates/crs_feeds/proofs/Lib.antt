@@ -1,0 +1,10 @@
+mod Lone
+mod Merging
+mod Counting
+mod PairedLists
+mod TwinRecognised
+mod Agreeing
+mod Horizons
+mod Parting
+mod Stepping
+mod Standing

@@ -1,0 +1,4 @@
+pub mod Merged
+pub mod States
+pub mod Standing
+pub mod Laws
