@@ -2,7 +2,7 @@
 # Makes the figures of docs/PERFORMANCE.md anew, and the plot, and puts them into the page.
 #
 # usage: CRS=/path/to/crs docs/measure.sh [TABLE ..]     the tables to make, all where none is named:
-#            build costs growth instructions turns alive marks focus chronicles symbols peers colliding plot
+#            build costs growth instructions turns alive marks focus chronicles symbols peers colliding audits claims plot
 #
 # Environment:
 #   CRS       the program; crates/crs/out/crs where none is given
@@ -275,6 +275,47 @@ colliding() {
     done
 }
 
+# audit: the last output, which was saved, checked by the files that it was made of
+audit() { timed "$repeat" "$crs" audit models log output; }
+audits() {
+    local kind events run_cpu half row
+    echo "| Log | Events | Recognitions | Seconds of \`run --cite\` | Seconds of \`audit\` | Times the run | Times half the log | MB |"
+    echo "|---|---|---|---|---|---|---|---|"
+    for kind in fifth drill single count hold; do
+        half=
+        for events in 50000 100000; do
+            make $kind $events
+            timed "$repeat" "$crs" run --cite models log
+            run_cpu=$cpu
+            mv out output
+            audit
+            grep -q '^audit ok ' out || { echo "$kind: $(cat out)" >&2; continue; }
+            row="| $kind | $(grouped $events) | $(grouped "$(grep -c ' cites ' output)") | $(calc %.3f "$run_cpu") | $(seconds)"
+            row+=" | $(calc %.1f "$cpu / $run_cpu") | ${half:+$(calc %.1f "$cpu / ${half:-1}")} | $(mb) |"
+            half=$cpu
+        done
+        echo "$row"
+    done
+}
+
+claims() {
+    local kind mb half row
+    echo "| Output | MB of it | Claims | Seconds of \`audit\` | Times half of it | MB of memory |"
+    echo "|---|---|---|---|---|---|"
+    for kind in pairs wide single marks points refused empty log walks; do
+        half=
+        for mb in 16 32; do
+            case $kind in points) mb=$((mb / 16)) ;; walks) mb=$(calc %.2f "$mb / 64") ;; esac
+            python3 "$docs/measure/claims.py" $kind $mb .
+            audit
+            grep -q '^audit ok ' out || { echo "$kind: $(cat out)" >&2; continue; }
+            row="| $kind | $mb | $(grouped "$(sed 's/audit ok //' out)") | $(seconds) | ${half:+$(calc %.1f "$cpu / ${half:-1}")} | $(mb) |"
+            half=$cpu
+        done
+        echo "$row"
+    done
+}
+
 plot() {
     CRS=$crs OTHER=$other "$docs/plot.sh" >&2
     echo "![Time and memory of runs over the logs of drills, against the number of events](performance.svg)"
@@ -294,7 +335,7 @@ put() {
         !skip' "$page" >"$work/page" && cat "$work/page" >"$page"
 }
 
-all='build costs growth instructions turns alive marks focus chronicles symbols peers colliding plot'
+all='build costs growth instructions turns alive marks focus chronicles symbols peers colliding audits claims plot'
 for name in "$@"; do
     case " $all " in *" $name "*) ;; *) echo "no table $name: $all" >&2; exit 2 ;; esac
 done

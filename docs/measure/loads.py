@@ -12,6 +12,7 @@ usage: loads.py KIND N FOLDER [P]        N is the number of events, or of what t
   alive       instances that wait up to P ticks (1000) for an event that never comes
   single      chronicles of one event: each event is recognised at the next clock
   burst       the same, all at one mark
+  fifth       an `a` and a `b` of one unit among five events: a fifth as many recognitions as events
   late        t2 - t1 in [20000, 20010]: instances wait long before they can go on
   count       `occurs` and `noevent` over 500 ticks, on 256 units
   hold        `hold` over 300 ticks, on 256 units
@@ -102,6 +103,11 @@ def load(kind, n, p):
         return ab + ["chronicle c {", "  event(a[?u], t1)", "}"], ticking(n, lambda draw, k: "a[u%d]" % draw(64))
     if kind == "burst":
         return ["message a 0", "chronicle c {", "  event(a, t1)", "}"], ["%d a" % i for i in range(n)] + ["end"]
+    if kind == "fifth":
+        def one(draw, k):
+            unit = k // 5 % 256
+            return ["a[u%d]" % unit, "b[u%d]" % unit][k % 5] if k % 5 < 2 else "z[u%d]" % draw(256)
+        return ab + ["message z 1"] + pair("c", -20, 20), ticking(n, one)
     if kind == "late":
         return ab + pair("c", 20000, 20010), ticking(n, lambda draw, k: "%s[u%d]" % ("ab"[draw(2)], draw(4)))
     if kind == "count":

@@ -50,12 +50,12 @@ in_itself : (es : List (Entry Sym)) → AllByRecursion (λ e. IsIn e es) es
 in_itself es = each_from_in (λ e. IsIn e es) es (λ e i. i)
 
 module _ (f : Sym → List ℕ) (P : Sym → Type 0) (apart : (x y : Sym) → P x → P y → f x ≡ f y → x ≡ y) (c : Chronicle Sym) (of : IsChronicleOf P c) (named : IsNamed c) where
-  -- the chronicle without its bounds and windows
+  -- the chronicle without its bounds, its windows and what it gives
   abbrev bare : Chronicle Sym
-  bare = record c { bounds = []; windows = [] }
+  bare = record c { bounds = []; windows = []; emits = [] }
 
   of_bare : IsChronicleOf P bare
-  of_bare = record { name = of.name; points = of.points; patterns = of.patterns; free = of.free; variables = of.variables; sets = of.sets; windows = tt }
+  of_bare = record { name = of.name; points = of.points; patterns = of.patterns; free = of.free; variables = of.variables; sets = of.sets; windows = tt; emits = tt }
 
   named_bare : IsNamed bare
   named_bare = record { stands = named.stands; below = named.below }

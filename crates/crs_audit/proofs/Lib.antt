@@ -2,6 +2,7 @@ pub mod Parts
 pub mod Fitting
 pub mod Growing
 pub mod Reading
+pub mod Gaining
 pub mod Items
 pub mod Numbered
 pub mod Lasting

@@ -11,6 +11,7 @@ pub mod ClaimWindows
 pub mod Changes
 pub mod Rounds
 pub mod Runs
+pub mod LogTexts
 pub mod Counted
 pub mod AuditFaults
 pub mod Audits

@@ -3,6 +3,7 @@ ghost use Rattle.std.specs.Prelude.{◌≡◌, ◌<◌, ◌+◌, ◌-◌, ◌^�
 ghost use Rattle.crs_base.specs.SeenLines.{line_seen};
 ghost use Rattle.crs_audit.specs.JudgedClaims.{CanJudge};
 ghost use Rattle.crs_audit.specs.Telling.{TellsLine, TellsClaims, TellsFault};
+ghost use Rattle.crs_audit.specs.LogTexts.{GainsOnlyOf};
 ghost use Rattle.crs_audit.specs.Audited.{CanAudit, IsAuditedAs, IsRefusedAs};
 
 use crate::claims::{Said, read_claim};
@@ -64,7 +65,8 @@ fn judge_all(alloc: Global, ground: &Ground<'_>, output: &[u8]) -> Result<u64, A
 
 /// Checks each claim of the output by the models and the log, of which at most so many entries are
 /// accepted. The answer is how many claims there are, or the first faulty one with the first word
-/// that applies. Behind the table's symbols come only texts of the log.
+/// that applies. After every answer the table has gained only arguments and values of events of the
+/// log.
 pub fn audit(
     alloc: Global,
     plans: &Plans,
@@ -76,6 +78,7 @@ pub fn audit(
     requires { CanAudit plans.now symbols.old }
     ensures ok { IfOk result (IsAuditedAs plans.now entries symbols.old log.now output.now) }
     ensures refused { IfErr result (IsRefusedAs plans.now entries symbols.old log.now output.now) }
+    ensures gained { GainsOnlyOf log.now symbols.old symbols.new }
 {
     let log = read_log(alloc, &plans.names, entries, symbols, log)?;
     let ground = Ground {

@@ -1,11 +1,12 @@
 // The lines of a log, one after another.
 ghost use Rattle.std.specs.Prelude.{◌≡◌, ◌<◌, ◌≤◌, ◌+◌, ◌^◌, true, false, [], length, map, drop, ℕ, List as Items, IfOk, OnOk};
-ghost use Rattle.crs_base.specs.Lines.{lines_of};
+ghost use Rattle.crs_base.specs.Lines.{lines_of, bytes_of};
 ghost use Rattle.crs_base.specs.SeenLines.{line_seen};
 ghost use Rattle.crs_log.specs.Items.{Clock, Finish as LogEnd, Happens, IsItem};
 ghost use Rattle.crs_log.specs.Run.{after_named, after_ordered, after_what};
 ghost use Rattle.crs_log.specs.SeenItems.{event_seen, text_of, what_seen, IsInRange, IsRead};
 ghost use Rattle.crs_log.specs.SeenNames.{IsTextAt};
+ghost use Rattle.crs_audit.specs.LogTexts.{IsTextIn, Gains, GainsOnlyOf};
 ghost use Rattle.crs_audit.specs.Runs.{IsReady, TakesAll, HasSetting, ReadsAllOn, IsLogOfAll};
 ghost use Rattle.crs_audit.specs.Ordered.{is_blank_what, ordered_what, after_raw};
 
@@ -33,7 +34,8 @@ fn accept_event(
     requires date { raw.now.date < 2 ^ 40 }
     requires name { IsTextAt symbols.old.texts (text_of line.now raw.now.name) name }
     requires arity { length raw.now.args ≤ 8 }
-    ensures { OnOk result (TakesAll names.now limit symbols.old symbols.new run.old run.new (λ c s. after_named c s (event_seen line.now raw.now))) }
+    ensures taken { OnOk result (TakesAll names.now limit symbols.old symbols.new run.old run.new (λ c s. after_named c s (event_seen line.now raw.now))) }
+    ensures gained { Gains (IsTextIn line.now) symbols.old symbols.new }
 {
     let count = run.entries.len();
     if limit as usize <= count {
@@ -59,7 +61,8 @@ fn take_event(
     requires ready { IsReady names.now limit symbols.old run.old }
     requires item { IsItem line.now (Happens (event_seen line.now raw.now)) }
     requires date { raw.now.date < 2 ^ 40 }
-    ensures { OnOk result (TakesAll names.now limit symbols.old symbols.new run.old run.new (λ c s. after_ordered c s (Happens (event_seen line.now raw.now)))) }
+    ensures taken { OnOk result (TakesAll names.now limit symbols.old symbols.new run.old run.new (λ c s. after_ordered c s (Happens (event_seen line.now raw.now)))) }
+    ensures gained { Gains (IsTextIn line.now) symbols.old symbols.new }
 {
     if raw.date < run.horizon {
         return Ok(());
@@ -119,7 +122,8 @@ fn take_ordered(
     requires ready { IsReady names.now limit symbols.old run.old }
     requires range { IsInRange item }
     requires read { IsRead line.now item }
-    ensures { OnOk result (TakesAll names.now limit symbols.old symbols.new run.old run.new (λ c s. ordered_what c s (what_seen line.now item))) }
+    ensures taken { OnOk result (TakesAll names.now limit symbols.old symbols.new run.old run.new (λ c s. ordered_what c s (what_seen line.now item))) }
+    ensures gained { Gains (IsTextIn line.now) symbols.old symbols.new }
 {
     match item {
         Item::Blank => Ok(()),
@@ -153,7 +157,8 @@ fn take_item(
     requires ready { IsReady names.now limit symbols.old run.old }
     requires range { IsInRange item }
     requires read { IsRead line.now item }
-    ensures { OnOk result (TakesAll names.now limit symbols.old symbols.new run.old run.new (λ c s. after_what c s (what_seen line.now item))) }
+    ensures taken { OnOk result (TakesAll names.now limit symbols.old symbols.new run.old run.new (λ c s. after_what c s (what_seen line.now item))) }
+    ensures gained { Gains (IsTextIn line.now) symbols.old symbols.new }
 {
     if is_blank(&item) {
         return Ok(());
@@ -175,7 +180,8 @@ fn take_line(
     tokens: &mut Vec<Token>,
 ) -> Result<(), AllocError>
     requires { IsReady names.now limit symbols.old run.old }
-    ensures { OnOk result (TakesAll names.now limit symbols.old symbols.new run.old run.new (λ c s. after_raw c s (line_seen line.entry))) }
+    ensures taken { OnOk result (TakesAll names.now limit symbols.old symbols.new run.old run.new (λ c s. after_raw c s (line_seen line.entry))) }
+    ensures gained { Gains (IsTextIn (bytes_of (line_seen line.entry))) symbols.old symbols.new }
 {
     if is_long(line) {
         return Ok(());
@@ -197,7 +203,8 @@ fn take_lines(
     log: &[u8],
 ) -> Result<Run, AllocError>
     requires { HasSetting names.now limit symbols.old }
-    ensures { IfOk result (λ run. ReadsAllOn names.now limit symbols.old symbols.new run (lines_of log.now) []) }
+    ensures read { IfOk result (λ run. ReadsAllOn names.now limit symbols.old symbols.new run (lines_of log.now) []) }
+    ensures gained { GainsOnlyOf log.now symbols.old symbols.new }
 {
     let mut run = Run::new(alloc);
     let mut tokens = Vec::new(alloc);
@@ -219,7 +226,8 @@ pub fn read_log(
     log: &[u8],
 ) -> Result<Log, AllocError>
     requires { HasSetting names.now limit symbols.old }
-    ensures { IfOk result (IsLogOfAll names.now limit symbols.old symbols.new (lines_of log.now)) }
+    ensures read { IfOk result (IsLogOfAll names.now limit symbols.old symbols.new (lines_of log.now)) }
+    ensures gained { GainsOnlyOf log.now symbols.old symbols.new }
 {
     let run = take_lines(alloc, names, limit, symbols, log)?;
     ended(alloc, run)

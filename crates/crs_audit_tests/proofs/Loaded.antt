@@ -1,9 +1,10 @@
 -- Models that were read and compiled can be audited by.
-use Rattle.std.proofs.Common.{◌≡◌, ◌<◌, ◌≤◌, List, [], ◌∷◌, length, map, sym, ap, subst, arith, Global}
+use Rattle.std.proofs.Common.{◌≡◌, ◌<◌, ◌≤◌, ◌+◌, List, [], ◌∷◌, length, map, sym, ap, subst, arith, Global}
 use Rattle.std.proofs.lemmas.List.{length-map}
 use Rattle.std.specs.List.{AllByRecursion}
 use Rattle.std.specs.declared.rc.Rc.{Rc}
 use Rattle.crs_base.specs.Symbols.{Table, AreDistinct}
+use Rattle.crs_base.proofs.Alls.{all_left}
 use Rattle.crs_model.specs.declared.chronicle.Chronicle.{Chronicle as CodeChronicle}
 use Rattle.crs_model.specs.declared.models.Models.{Models}
 use Rattle.crs_model.specs.declared.models.Name.{Name}
@@ -30,13 +31,13 @@ can_audit m plans t proper known distinct names chronicles all =
     let d : length (models_of m).chronicles ≡ length m.chronicles = length-map m.chronicles chronicle_of in
     let e : length (models_of m).names ≡ length m.names = length-map m.names name_of in
     let f : length (models_of m).chronicles ≤ 64 = proper.chronicles_few in
-    let g : length (models_of m).names ≤ 256 = proper.names_few in
+    let g : length (models_of m).names + length (models_of m).derived ≤ 256 = proper.names_few in
     record {
       proper = unmapped (λ (r : Rc Plan Global). r.value) IsProper plans.plans all;
       few_plans = omega (arith, long, a, b, d, f);
       names_in = subst (λ (ns : List Name). AreNamesIn t.texts ns) (sym names) known.names;
       few = subst (λ (ns : List Name). length ns ≤ 256) (sym names) (omega (arith, e, g));
-      arities = subst (λ (ns : List Name). AllByRecursion (λ n. n.arity ≤ 8) ns) (sym names) (unmapped name_of (λ n. n.arity ≤ 8) m.names proper.arities);
+      arities = subst (λ (ns : List Name). AllByRecursion (λ n. n.arity ≤ 8) ns) (sym names) (unmapped name_of (λ n. n.arity ≤ 8) m.names (all_left (λ n. n.arity ≤ 8) (map name_of m.names) (map name_of m.derived) proper.arities));
       chronicles_in = unmapped (λ (r : Rc Plan Global). r.value) (λ p. IsChronicleOf (λ s. s.0 < length t.texts) (chronicle_of p.chronicle)) plans.plans
           (unmapped (λ (p : Plan). p.chronicle) (λ c. IsChronicleOf (λ s. s.0 < length t.texts) (chronicle_of c)) (plans_in plans.plans)
           (subst (λ (cs : List CodeChronicle). AllByRecursion (λ c. IsChronicleOf (λ s. s.0 < length t.texts) (chronicle_of c)) cs) (sym chronicles)

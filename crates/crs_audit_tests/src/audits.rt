@@ -8,7 +8,7 @@ use std::process::Abort;
 use std::test::Fail;
 
 /// The text with a line end in place of each slash.
-fn lines_of(alloc: Global, text: &str) -> Result<Vec<u8>, AllocError> {
+pub(crate) fn lines_of(alloc: Global, text: &str) -> Result<Vec<u8>, AllocError> {
     let mut bytes = Vec::new(alloc);
     for b in text.as_bytes() {
         bytes.push(if *b == b'/' { b'\n' } else { *b })?;
@@ -56,7 +56,7 @@ fn rows_answer_so(
 }
 
 /// Two events, at most five ticks apart.
-const MODELS: &str =
+pub(crate) const MODELS: &str =
     "message a 0/message b 0/chronicle c {/  event(a, t1)/  event(b, t2)/  t2 - t1 in [1, 5]/}/";
 
 #[test]
@@ -128,7 +128,7 @@ fn prompt_chronicles_take_what_had_arrived(rt: HostRuntime) -> Result<(), Fail> 
 }
 
 /// A free point between two events.
-const FREE: &str =
+pub(crate) const FREE: &str =
     "message a 0/message b 0/chronicle c {/  event(a, t1)/  event(b, t2)/  point p/  p - t1 in [2, 3]/  t2 - p in [2, 3]/}/";
 
 #[test]
@@ -146,7 +146,7 @@ fn free_points_have_dates(rt: HostRuntime) -> Result<(), Fail> {
 }
 
 /// No `x` from an `a` up to a `b`, whose date isn't in the window.
-const QUIET: &str =
+pub(crate) const QUIET: &str =
     "message a 0/message b 0/message x 0/chronicle c {/  event(a, t1)/  event(b, t2)/  t2 - t1 in [1, 9]/  noevent(x, (t1, t2))/}/";
 
 #[test]

@@ -1,7 +1,11 @@
 pub mod Longest
 pub mod Spans
+pub mod Lags
+pub mod Slow
 pub mod Plans
 pub mod Dates
 pub mod Written
 pub mod Plain
 pub mod Unique
+pub mod InTime
+pub mod UniqueLags

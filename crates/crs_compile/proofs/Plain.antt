@@ -2,7 +2,7 @@
 use Rattle.std.proofs.Common.{◌≡◌, ◌⊎◌, ◌∙◌, ◌<◌, ◌≤◌, ◌+◌, inl, inr, refl, ap, sym, subst, ℕ, zero, suc, List, [], ◌∷◌, ◌++◌, true, length, map, Option, Some, None, arith}
 use Rattle.std.specs.Prelude.{slice_get}
 use Rattle.std.specs.List.{AllByRecursion}
-use Rattle.std.proofs.lemmas.List.{length-map}
+use Rattle.std.proofs.lemmas.List.{append-nil, length-map}
 use Rattle.crs_base.specs.declared.symbols.Sym.{Sym}
 use Rattle.crs_stn.specs.Bound.{IsWithin}
 use Rattle.crs_model.specs.declared.chronicle.Chronicle.{Chronicle as CodeChronicle}
@@ -12,7 +12,10 @@ use Rattle.crs_model.specs.declared.models.Kind.{Kind as CodeKind}
 use Rattle.crs_model.specs.declared.models.Kind.TheVariants.{Message}
 use Rattle.crs_model.specs.declared.models.Name.{Name as CodeName}
 use Rattle.crs_model.specs.declared.models.Models.{Models as CodeModels}
-use Rattle.crs_model.specs.Models.{Term, EventDef, Pattern, Window, Chronicle}
+use Rattle.crs_model.specs.Models.{Name, Term, EventDef, Pattern, Window, Chronicle}
+use Rattle.crs_base.specs.Words.{IsIn}
+use Rattle.crs_base.proofs.Words.{in_map_back, in_from_each}
+use Rattle.crs_model.specs.Hierarchy.{Feeds, AreInOrder, emitted}
 use Rattle.crs_model.specs.Bindings.{PatternIsBelow}
 use Rattle.crs_model.specs.Proper.{pattern_has}
 use Rattle.crs_model.specs.ProperModels.{Suits, IsDeclared, IsProperAnchor, IsProperBody, IsProperWindow, IsProperEvent, IsProperChronicle, AreProper}
@@ -43,6 +46,7 @@ pub record IsNear (names : List CodeName) (c : CodeChronicle) : Type 0 where
   pub variables : c.variables ≡ []
   pub sets : c.sets ≡ []
   pub differs : c.differs ≡ []
+  pub emits : c.emits ≡ []
   pub few : length c.bounds ≤ 4
   pub bounds : IsWithin 3 c.bounds
   pub windows_few : length c.windows ≤ 1
@@ -124,6 +128,7 @@ near_proper names c h =
       bounds_few = omega arith;
       variables_few = omega arith;
       windows_few = rw length-map (omega arith);
+      emits_few = rw h.emits (omega arith);
       within = subst (λ n. IsWithin n c.bounds) (sym three) h.bounds;
       events = events_proper names (chronicle_of c) c.events h.names_two
           (each_by (λ k. (k ≡ 1) ⊎ (k ≡ 2)) (λ v. v.pattern.name.0) c.events (subst (AllByRecursion (λ k. (k ≡ 1) ⊎ (k ≡ 2))) (sym h.symbols) (inl refl, (inr refl, tt)))) h.plain h.levels;
@@ -131,6 +136,7 @@ near_proper names c h =
       sets = rw h.sets tt;
       differs = rw h.differs tt;
       windows = windows_proper names (chronicle_of c) (map window_of c.windows) two none h.windows;
+      emits = rw h.emits tt;
     }
 
 points_below : (n : ℕ) (vs : List CodeEvent) (free : List Sym) → AllByRecursion (λ v. v.point.0 < n) vs → AllByRecursion (λ s. s.0 < n) free → AllByRecursion (λ s. s.0 < n) (map (λ v. v.point) (map event_of vs) ++ free)
@@ -150,8 +156,32 @@ arities_none : (names : List CodeName) → AllByRecursion (λ n. (n.arity ≡ 0)
 arities_none [] h = tt
 arities_none (n ∷ names) h = (omega (arith, h.0.0), arities_none names h.1)
 
-pub together_proper : (m : CodeModels) → AreTwo m.names → length m.chronicles ≤ 64 → AllByRecursion (IsProperChronicle (map name_of m.names)) (map chronicle_of m.chronicles) → AreProper (models_of m)
-together_proper m two few h =
+-- chronicles without emits are in order
+none_in : {A : Type 0} (x : A) (xs : List A) → xs ≡ [] → IsIn x xs → ⊥
+none_in x xs e i = subst (IsIn x) e i
+
+quiet_in_order : (cs : List CodeChronicle) → AllByRecursion (λ c. c.emits ≡ []) cs → AreInOrder (map chronicle_of cs)
+quiet_in_order [] h = tt
+quiet_in_order (c ∷ cs) h = (
+  (λ d i feeds.
+      let r = in_map_back chronicle_of (c ∷ cs) d i in
+      let quiet = in_from_each (λ c. c.emits ≡ []) (c ∷ cs) h r.0 r.1 in
+      let fed : Feeds (chronicle_of r.0) (chronicle_of c) = subst (λ (z : Chronicle Sym). Feeds z (chronicle_of c)) r.2 feeds in
+      none_in fed.0 (emitted (chronicle_of r.0)) (rw quiet refl) fed.1),
+  quiet_in_order cs h.1,
+)
+
+pub together_proper : (m : CodeModels) → AreTwo m.names → m.derived ≡ [] → length m.chronicles ≤ 64 → AllByRecursion (λ c. c.emits ≡ []) m.chronicles → AllByRecursion (IsProperChronicle (map name_of m.names)) (map chronicle_of m.chronicles) → AreProper (models_of m)
+together_proper m two none few quiet h =
     let n : length (map (λ n. n.name.0) m.names) ≡ 2 = ap length two.symbols in
     let k = simp length-map at n in
-    record { names_few = rw length-map (omega (arith, k)); arities = arities_none m.names two.plain; chronicles_few = rw length-map (omega arith); chronicles = h }
+    let a : length (map name_of m.names) ≡ 2 = rw length-map k in
+    let d : length (map name_of m.derived) ≡ 0 = ap (λ ns. length (map name_of ns)) none in
+    let one : map name_of m.names ++ map name_of m.derived ≡ map name_of m.names = rw none (append-nil (map name_of m.names)) in
+    record {
+      names_few = omega (arith, a, d);
+      arities = subst (AllByRecursion (λ (n : Name Sym). n.arity ≤ 8)) (sym one) (arities_none m.names two.plain);
+      chronicles_few = rw length-map (omega arith);
+      chronicles = subst (λ ns. AllByRecursion (IsProperChronicle ns) (map chronicle_of m.chronicles)) (sym one) h;
+      in_order = quiet_in_order m.chronicles quiet;
+    }

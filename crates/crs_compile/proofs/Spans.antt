@@ -18,7 +18,7 @@ less_zero : (o : Option ℤ) → option_map (λ m. m -ℤ pos 0) o ≡ o
 less_zero None = refl
 less_zero (Some m) = ap Some (omega (arith, ints))
 
-span_at_event : (most : ℕ → ℕ → Option ℤ) (p r : ℕ) → span_of most (at_event p) r ≡ most p r
+pub span_at_event : (most : ℕ → ℕ → Option ℤ) (p r : ℕ) → span_of most (at_event p) r ≡ most p r
 span_at_event most p r = less_zero (most p r)
 
 -- the longest of 0 and of the spans from the anchor to the events below n
@@ -32,7 +32,7 @@ pub record IsPairFurthest (most : ℕ → ℕ → Option ℤ) (k n : ℕ) (d : O
   pub small : IsSmallSpan d
 
 -- 0 is the longest where there is nothing else
-zero_alone : (P : Option ℤ → Type 0) → ((s : Option ℤ) → P s → ⊥) → IsLongest (λ s. IsZero s ⊎ P s) (Some (pos 0))
+pub zero_alone : (P : Option ℤ → Type 0) → ((s : Option ℤ) → P s → ⊥) → IsLongest (λ s. IsZero s ⊎ P s) (Some (pos 0))
 zero_alone P none = record { one = inl refl; bounds = λ s h. (alone (Some (pos 0))).bounds s (only s h) }
   where
     only : (s : Option ℤ) → IsZero s ⊎ P s → IsZero s

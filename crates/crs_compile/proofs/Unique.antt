@@ -13,7 +13,7 @@ use Rattle.crs_model.specs.ProperModels.{IsProperWindow, IsProperChronicle}
 use Rattle.crs_model.specs.Reach.{Bounds, IsZero, IsPairSpan, IsStartSpan, IsReach}
 use Rattle.crs_compile.specs.Minimal.{pair_line, lines_of_point, pair_lines, head_text, earliest_text, points_of, point_count, IsChronicleText, IsMinimalText}
 
-equal_spans : (x y : Option ℤ) → Bounds x y → Bounds y x → x ≡ y
+pub equal_spans : (x y : Option ℤ) → Bounds x y → Bounds y x → x ≡ y
 equal_spans None None h k = refl
 equal_spans None (Some y) h k = absurd k
 equal_spans (Some x) None h k = absurd h
@@ -23,14 +23,14 @@ pub one_reach : (n : ℕ) (most : ℕ → ℕ → Option ℤ) (starts : List Anc
 one_reach n most starts x y h k = equal_spans x y (h.bounds y k.one) (k.bounds x h.one)
 
 -- the two agree on the points below n
-abbrev Agree : ℕ → (ℕ → ℕ → Option ℤ) → (ℕ → ℕ → Option ℤ) → Type 0
+abbrev pub Agree : ℕ → (ℕ → ℕ → Option ℤ) → (ℕ → ℕ → Option ℤ) → Type 0
 Agree n f g = (p q : ℕ) → p < n → q < n → f p q ≡ g p q
 
-minimal_agree : (bounds : List Bound) (n : ℕ) (f g : ℕ → ℕ → Option ℤ) → IsMinimal bounds n f → IsMinimal bounds n g → Agree n f g
+pub minimal_agree : (bounds : List Bound) (n : ℕ) (f g : ℕ → ℕ → Option ℤ) → IsMinimal bounds n f → IsMinimal bounds n g → Agree n f g
 minimal_agree bounds n f g h k p q a b = IsMost-unique bounds p q (f p q) (g p q) (h p q a b) (k p q a b)
 
 -- the anchors name events below n
-abbrev AreBelow : ℕ → List Anchor → Type 0
+abbrev pub AreBelow : ℕ → List Anchor → Type 0
 AreBelow n starts = (a : Anchor) → IsIn a starts → a.event < n
 
 starts_below : {S : Type 0} (names : List (Name S)) (c : Chronicle S) (ws : List (Window S)) → AllByRecursion (IsProperWindow names c) ws → AreBelow (length c.events) (map (λ w. w.from) ws)

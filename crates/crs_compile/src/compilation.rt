@@ -3,11 +3,14 @@ ghost use Rattle.std.specs.List.{AllByRecursion};
 ghost use Rattle.crs_base.specs.declared.symbols.Sym.{Sym};
 ghost use Rattle.crs_model.specs.Models.{Name};
 ghost use Rattle.crs_model.specs.ProperModels.{AreShort, IsProperChronicle, AreProper};
-ghost use Rattle.crs_model.specs.Plans.{IsProper};
+ghost use Rattle.crs_model.specs.Hierarchy.{AreInOrder};
+ghost use Rattle.crs_model.specs.Plans.{IsProper, chronicle};
 ghost use Rattle.crs_model.specs.SeenModels.{chronicle_of, models_of};
 ghost use Rattle.crs_model.specs.Reach.{IsReachOfAll};
-ghost use Rattle.crs_compile.specs.Compiled.{IsAdded, plans_in, chronicles_in, IsRefusal, refusal_of};
+ghost use Rattle.crs_compile.specs.Compiled.{IsAdded, plans_in, chronicles_in, IsRefusal, IsModelsRefusal, refusal_of};
+ghost use Rattle.crs_model.specs.ShortLags.{AreInTime, HaveShortLags};
 
+use crate::lag::{lag_of, test_lags};
 use crate::reach::{reach_of, reach_of_all};
 use crs_base::List;
 use crs_model::{Chronicle, ModelRefused, ModelWord, Models, Plan, Plans};
@@ -40,10 +43,12 @@ fn plan_of(alloc: Global, chronicle: Chronicle) -> Result<Plan, ModelRefused>
         Err(why) => Err(refusal(chronicle.line, why)),
         Ok(network) => {
             let reach = reach_of(&network, &chronicle);
+            let lag = lag_of(&network, &chronicle);
             Ok(Plan {
                 chronicle,
                 network,
                 reach,
+                lag,
             })
         }
     }
@@ -86,21 +91,32 @@ fn plans_of(alloc: Global, chronicles: List<Chronicle>) -> Result<List<Rc<Plan>>
 }
 
 /// The plans of models, in file order. It is refused exactly where no whole dates meet some
-/// chronicle's bounds, with the closing line of the first such chronicle. The models are dropped
+/// chronicle's bounds, with the closing line of the first such chronicle, or where the lags are too long,
+/// with that of the first chronicle with which they are. The models are dropped
 /// at a refusal.
 pub fn compile(alloc: Global, models: Models) -> Result<Plans, ModelRefused>
     requires { AreProper (models_of models) }
     ensures names { IfOk result (λ plans. plans.names ≡ models.names) }
+    ensures derived { IfOk result (λ plans. plans.derived ≡ models.derived) }
     ensures chronicles { IfOk result (λ plans. chronicles_in plans.plans ≡ models.chronicles) }
     ensures plans { IfOk result (λ plans. AllByRecursion IsProper (plans_in plans.plans)) }
     ensures reach { IfOk result (λ plans. IsReachOfAll (map (λ p. p.reach) (plans_in plans.plans)) plans.reach) }
-    ensures refused { IfErr result (IsRefusal models.chronicles) }
+    ensures in_order { IfOk result (λ plans. AreInOrder (map (λ r. chronicle r.value) plans.plans)) }
+    ensures in_time { IfOk result (λ _plans. AreInTime Sym (models_of models).chronicles) }
+    ensures lags { IfOk result (λ plans. HaveShortLags (plans_in plans.plans)) }
+    ensures refused { IfErr result (IsModelsRefusal models.chronicles) }
 {
-    let Models { names, chronicles } = models;
+    let Models {
+        names,
+        derived,
+        chronicles,
+    } = models;
     let plans = plans_of(alloc, chronicles)?;
+    test_lags(alloc, plans.as_slice())?;
     let reach = reach_of_all(plans.as_slice());
     Ok(Plans {
         names,
+        derived,
         plans,
         reach,
     })

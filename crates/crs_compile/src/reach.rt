@@ -11,7 +11,7 @@ use crs_stn::Network;
 use std::rc::Rc;
 
 /// The longer of two spans. None is infinite.
-fn longer(a: Option<i64>, b: Option<i64>) -> Option<i64>
+pub(crate) fn longer(a: Option<i64>, b: Option<i64>) -> Option<i64>
     ensures { IsLongest (λ s. (s ≡ a) ⊎ (s ≡ b)) result }
 {
     match (a, b) {
@@ -32,7 +32,7 @@ fn span(network: &Network, from: Anchor, event: u8) -> Option<i64>
 }
 
 /// The longest of 0 and of the spans from an anchor to each event.
-fn furthest(network: &Network, from: Anchor, events: u8) -> Option<i64>
+pub(crate) fn furthest(network: &Network, from: Anchor, events: u8) -> Option<i64>
     requires from { IsProperAnchor events (anchor_of from) }
     requires events { events ≤ network.now.points }
     ensures longest { IsLongest (λ s. IsZero s ⊎ IsSpanFrom events (most_of network.now) (anchor_of from) s) result }

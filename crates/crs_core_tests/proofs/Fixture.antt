@@ -17,13 +17,15 @@ use Rattle.crs_model.specs.declared.plan.Plan.{Plan}
 use Rattle.crs_model.specs.declared.chronicle.EventDef.{EventDef as CodeEvent}
 use Rattle.crs_model.specs.declared.chronicle.VarSet.{VarSet as CodeSet}
 use Rattle.crs_model.specs.declared.chronicle.Window.{Window as CodeWindow}
-use Rattle.crs_model.specs.Models.{Term, EventDef, Name, Message}
+use Rattle.crs_model.specs.declared.chronicle.Emit.{Emit as CodeEmit}
+use Rattle.crs_model.specs.Models.{Term, EventDef, Anchor, Name, Message}
 use Rattle.crs_model.specs.Proper.{terms_have, change_has, pattern_has, IsNamed}
-use Rattle.crs_model.specs.ProperModels.{Suits, AreShort, IsProperEvent, IsProperWindow}
+use Rattle.crs_model.specs.ProperModels.{Suits, AreShort, IsProperEvent, IsProperWindow, IsProperEmit}
 use Rattle.crs_model.specs.Bindings.{TermIsBelow, PatternIsBelow}
 use Rattle.crs_model.specs.Reach.{Bounds, IsZero, IsPairSpan, IsStartSpan, IsReach, IsSmallSpan}
+use Rattle.crs_model.specs.Hierarchy.{IsEmitSpan, IsLag}
 use Rattle.crs_model.specs.Plans.{chronicle, IsProper}
-use Rattle.crs_model.specs.SeenModels.{term_of, event_of, set_of, window_of}
+use Rattle.crs_model.specs.SeenModels.{term_of, event_of, set_of, window_of, emit_of}
 use Rattle.crs_instance.specs.declared.fit.Fit.{Fit}
 use Rattle.crs_instance.specs.declared.fit.Fit.TheVariants.{Yes, No}
 use Rattle.crs_instance.specs.Instances.{InstanceState, IsOf, IsAnswered}
@@ -135,6 +137,14 @@ five_reach least most c m = record {
     within s (inr (inl (p, r, a, b, e))) = subst (Bounds (Some (pos 5))) (sym e) (at_most least p r a b (most p r) (m p r a b))
     within s (inr (inr k)) = absurd k.1
 
+-- nothing is emitted
+no_lag : (n : ℕ) (most : ℕ → ℕ → Option ℤ) (ends : List Anchor) → IsLag n most ends [] (Some (pos 0))
+no_lag n most ends = record { one = inl refl; bounds = within }
+  where
+    within : (s : Option ℤ) → IsZero s ⊎ ((p : ℕ) × IsIn p [] × IsEmitSpan n most ends p s) → Bounds (Some (pos 0)) s
+    within s (inl z) = subst (Bounds (Some (pos 0))) (sym z) (omega (arith, ints))
+    within s (inr k) = absurd k.1
+
 -- The declarations of the events' names.
 
 message : Sym → Name Sym
@@ -164,15 +174,16 @@ module _ (p : Plan) (least : ℕ) (f : IsFixture least p.chronicle) where
     level = h.level;
   }
 
-pub fixture_proper : (p : Plan) (least : ℕ) → IsFixture least p.chronicle → p.network.points ≡ 2 → p.reach ≡ Some (pos 5) → least ≤ 255
+pub fixture_proper : (p : Plan) (least : ℕ) → IsFixture least p.chronicle → p.network.points ≡ 2 → p.reach ≡ Some (pos 5) → p.lag ≡ Some (pos 0) → least ≤ 255
     → IsConsistent p.chronicle.bounds → IsMinimal p.chronicle.bounds 2 (most_of p.network) → IsProper p
 unfolding names
-fixture_proper p least f points reach low consistent minimal =
+fixture_proper p least f points reach lag low consistent minimal =
     let two : length p.chronicle.events ≡ 2 = ap length f.events in
     let both : length (map event_of p.chronicle.events) ≡ 2 = length-map p.chronicle.events event_of ∙ two in
     let none : length p.chronicle.free ≡ 0 = ap length f.free in
     let no_variable : length p.chronicle.variables ≡ 0 = ap length f.variables in
     let no_window : length p.chronicle.windows ≡ 0 = ap length f.windows in
+    let no_emit : length p.chronicle.emits ≡ 0 = ap length f.emits in
     let few_bounds : length p.chronicle.bounds ≡ 2 = ap length f.bounds in
     let within : IsWithin 2 p.chronicle.bounds = subst (IsWithin 2) (sym f.bounds) (spaced_within least low) in
     let named : IsNamed (chronicle p) = record {
@@ -202,6 +213,7 @@ fixture_proper p least f points reach low consistent minimal =
           bounds_few = omega (arith, few_bounds);
           variables_few = omega (arith, no_variable);
           windows_few = rw length-map (omega (arith, no_window));
+          emits_few = rw length-map (omega (arith, no_emit));
           within = subst (λ (n : ℕ). IsWithin n p.chronicle.bounds) (λ i. sym both i + sym none i) within;
           events = subst (λ (t : List CodeEvent). AllByRecursion (IsProperEvent (names p least f) (chronicle p)) (map event_of t))
               (sym f.events) (
@@ -215,6 +227,8 @@ fixture_proper p least f points reach low consistent minimal =
               (sym f.differs) tt;
           windows = subst (λ (t : List CodeWindow). AllByRecursion (IsProperWindow (names p least f) (chronicle p)) (map window_of t))
               (sym f.windows) tt;
+          emits = subst (λ (t : List CodeEmit). AllByRecursion (IsProperEmit (names p least f) (chronicle p)) (map emit_of t))
+              (sym f.emits) tt;
         },
       );
       reach =
@@ -224,6 +238,11 @@ fixture_proper p least f points reach low consistent minimal =
           (five_reach least (most_of p.network) (subst IsConsistent f.bounds consistent)
           (subst (λ bs. IsMinimal bs 2 (most_of p.network)) f.bounds minimal))));
       small = subst IsSmallSpan (sym reach) (omega (arith, ints));
+      lag =
+          subst (λ (t : List CodeEmit). IsLag (length (map event_of p.chronicle.events)) (most_of p.network) (map (λ w. w.to) (map window_of p.chronicle.windows)) (map (λ e. e.event) (map emit_of t)) p.lag) (sym f.emits)
+          (subst (IsLag (length (map event_of p.chronicle.events)) (most_of p.network) (map (λ w. w.to) (map window_of p.chronicle.windows)) []) (sym lag)
+          (no_lag (length (map event_of p.chronicle.events)) (most_of p.network) (map (λ w. w.to) (map window_of p.chronicle.windows))));
+      quick = subst IsSmallSpan (sym lag) (omega (arith, ints));
     }
 
 -- whatever a bind answers, the instance is one of the plan

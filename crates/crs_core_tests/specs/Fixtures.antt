@@ -14,7 +14,7 @@ pub record IsPlain (e : CodeEvent) : Type 0 where
 abbrev pub spaced : ℕ → List Bound
 spaced least = record { from = 0; to = 1; most = Some (pos 5) } ∷ record { from = 1; to = 0; most = Some (neg_ℤ (pos least)) } ∷ []
 
--- two such events, without free points, variables and windows
+-- two such events, without free points, variables, windows and emits
 pub record IsFixture (least : ℕ) (c : Chronicle) : Type 0 where
   pub first : CodeEvent
   pub second : CodeEvent
@@ -27,3 +27,4 @@ pub record IsFixture (least : ℕ) (c : Chronicle) : Type 0 where
   pub sets : c.sets ≡ []
   pub differs : c.differs ≡ []
   pub windows : c.windows ≡ []
+  pub emits : c.emits ≡ []

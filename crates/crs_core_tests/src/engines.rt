@@ -25,6 +25,7 @@ fn plans(alloc: Global) -> Result<Plans, AllocError>
     plans.push(plan(alloc, 0, 1, 1)?)?;
     Ok(Plans {
         names: List::new(alloc),
+        derived: List::new(alloc),
         plans,
         reach: Some(5),
     })

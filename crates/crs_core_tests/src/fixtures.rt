@@ -69,6 +69,7 @@ fn one_then_other(
         sets: List::new(alloc),
         differs: List::new(alloc),
         windows: List::new(alloc),
+        emits: List::new(alloc),
     })
 }
 
@@ -92,6 +93,7 @@ pub(crate) fn plan_of(
                 chronicle,
                 network,
                 reach: Some(5),
+                lag: Some(0),
             },
         )?),
         Err(_) => Err(AllocError),

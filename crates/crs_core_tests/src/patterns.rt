@@ -149,6 +149,7 @@ fn chronicle(alloc: Global) -> Result<Chronicle, AllocError> {
         sets,
         differs,
         windows: List::new(alloc),
+        emits: List::new(alloc),
     })
 }
 

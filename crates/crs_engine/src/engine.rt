@@ -143,7 +143,7 @@ impl Engine {
 
     /// How many ticks the horizon lags behind the clock, from the next clock on.
     pub fn set_delay(&mut self, d: u64)
-        requires small { d < 2 ^ 40 }
+        requires small { d ≤ 2 ^ 41 }
         ensures value { self.new ≡ record self.old { delay = d } }
         ensures stands { (settled : Items (LogEntry Sym)) (waiting : Items (LogEntry Sym)) → StandsFor self.old settled waiting → StandsFor self.new settled waiting }
     {

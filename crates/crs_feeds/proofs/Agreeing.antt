@@ -13,7 +13,6 @@ use Rattle.crs_model.specs.Open.{IsRecognised, before, pool_among}
 use Rattle.crs_model.specs.Order.{Lists, assignment_cmp, in_key_order, dated_before}
 use Rattle.crs_model.proofs.Ties.{ties, ordered_members}
 use Rattle.crs_model.proofs.Twins.{Same, Twins}
-use Rattle.crs_model.proofs.TwinLists.{Paired}
 use Rattle.crs_model.proofs.TwinPools.{AreAlike, pairing}
 use Rattle.crs_log.specs.Run.{Setting}
 use Rattle.crs_log.proofs.ReadEntries.{IsRead, AreAccepted, none_accepted, same_read}
@@ -24,7 +23,7 @@ use Rattle.crs_feeds.specs.Merged.{Pair, new_feed, at_start, common, marked_entr
 use Rattle.crs_feeds.specs.Laws.{Reaches, run_of, without_arrival, AreRecognised, HaveOneList, MergedRunsAgree}
 use Rattle.crs_feeds.proofs.Counting.{ties_before}
 use Rattle.crs_feeds.proofs.Merging.{each_run, merged, total, all_told}
-use Rattle.crs_feeds.proofs.PairedLists.{lists_paired}
+use Rattle.crs_model.proofs.PairedLists.{Paired, lists_paired}
 use Rattle.crs_feeds.proofs.TwinRecognised.{recognised_along}
 
 -- what was put aside is not put aside twice

@@ -1,10 +1,9 @@
 mod Lone
 mod Merging
 mod Counting
-mod PairedLists
 mod TwinRecognised
 mod Agreeing
-mod Horizons
+pub mod Horizons
 mod Parting
-mod Stepping
-mod Standing
+pub mod Stepping
+pub mod Standing

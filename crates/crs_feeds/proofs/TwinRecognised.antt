@@ -1,13 +1,12 @@
 -- What is recognised of entries is recognised of entries that say the same under other arrival numbers.
-use Rattle.std.proofs.Common.{ℕ, List, refl, sym}
+use Rattle.std.proofs.Common.{ℕ, List, refl}
 use Rattle.std.specs.List.{AllZip}
 use Rattle.crs_base.specs.Entry.{Entry}
 use Rattle.crs_model.specs.Models.{Chronicle}
 use Rattle.crs_model.specs.Matching.{Assignment}
 use Rattle.crs_model.specs.Open.{IsRecognised}
 use Rattle.crs_model.proofs.Twins.{Twins, flip, turned, zip_turned, row_of, recognised_on}
-use Rattle.crs_model.proofs.TwinLists.{Paired}
-use Rattle.crs_feeds.proofs.PairedLists.{GoAlong}
+use Rattle.crs_model.proofs.PairedLists.{Paired, paired_turned, GoAlong}
 
 module _ {S : Type 0} (c : Chronicle S) (h : ℕ) where
   -- of a chronicle whose assignments take the settled entries
@@ -21,9 +20,6 @@ module _ {S : Type 0} (c : Chronicle S) (h : ℕ) where
   pair_of T t now other z a r =
       let row = row_of T t now other a.entries z r.assignment.given in
       (record { entries = row.0; values = a.values }, record { entries = row.1; values = refl })
-
-  paired_turned : (T : Entry S → Entry S → Type 0) (a b : Assignment S) → Paired T a b → Paired (flip T) b a
-  paired_turned T a b p = record { entries = zip_turned T a.entries b.entries p.entries; values = sym p.values }
 
   pub recognised_along : (T : Entry S → Entry S → Type 0) → Twins T → (now other : List (Entry S)) → AllZip T now other → GoAlong T (Of now) (Of other)
   recognised_along T t now other z = record {

@@ -17,7 +17,7 @@ use Rattle.crs_base.proofs.TokenSteps.{word_front}
 use Rattle.crs_grammar.specs.Canon.{part_text}
 use Rattle.crs_grammar.specs.Forms.{Part, Keyword, Sign, Symbol, Number, Integer, Gap, Missing, AreWritten, term_form, terms_form, change_form, pattern_form, shift_form, anchor_form, listed, symbol_form, values_form, level_form, values_in_form, low_part, high_part, most_part, body_form, span_form, begin_form, form_of}
 use Rattle.crs_grammar.specs.GrammarLaws.{IsWritable, CanonicalIsRead}
-use Rattle.crs_grammar.specs.Statements.{Term, Value, Variable, Any, Pattern, Shift, Here, Later, Earlier, Anchor, Body, NoEvent, Occurs, Hold, Statement, Message, Attribute, Begin, Happens, Point, Between, Among, Differ, Over, Close, is_inside}
+use Rattle.crs_grammar.specs.Statements.{Term, Value, Variable, Any, Pattern, Shift, Here, Later, Earlier, Anchor, Body, NoEvent, Occurs, Hold, Statement, Message, Attribute, Derived, Begin, Happens, Point, Between, Among, Differ, Over, Emits, Close, is_inside}
 use Rattle.crs_grammar.proofs.TakesStatements.{meant_is_read}
 use Rattle.crs_grammar.proofs.Gives.{range_shape, hold_shape}
 
@@ -383,6 +383,7 @@ begin_parted true name = (
 form_parted : (s : Statement) → Parted false (form_of s)
 form_parted (Message name arity) = (refl, word (codes "message") (omega arith) refl, (tt, tt, (refl, tt, (tt, tt, (refl, tt, tt)))))
 form_parted (Attribute name arity values) = (refl, word (codes "attribute") (omega arith) refl, (tt, tt, (refl, tt, (tt, tt, (refl, tt, values_in_any values true)))))
+form_parted (Derived name arity) = (refl, word (codes "derived") (omega arith) refl, (tt, tt, (refl, tt, (tt, tt, (refl, tt, tt)))))
 form_parted (Begin heading) = begin_parted heading.prompt heading.name
 form_parted (Happens e) = (
   refl,
@@ -435,6 +436,16 @@ form_parted (Between d) = (
 form_parted (Among x values) = (tt, (refl, refl, refl), (refl, tt, in_values values true))
 form_parted (Differ x y) = (tt, (refl, refl, refl), (refl, tt, (tt, tt, (tt, (refl, refl, refl), (tt, tt, (tt, (refl, refl, refl), (refl, tt, tt)))))))
 form_parted (Over w) = body_then w.body (span_form w.from w.to) (span_any w.from w.to)
+form_parted (Emits e) = (
+  refl,
+  word (codes "emit") (omega arith) refl,
+  (
+    tt,
+    (refl, refl, refl),
+    pattern_then e.pattern (Sign 44 ∷ Gap ∷ Symbol e.point ∷ Sign 41 ∷ [])
+        (λ b. (tt, (refl, refl, refl), (tt, tt, (refl, tt, (tt, (refl, refl, refl), tt))))),
+  ),
+)
 form_parted Close = (tt, (refl, refl, refl), tt)
 
 pub canonical_is_read : CanonicalIsRead

@@ -6,8 +6,8 @@ use Rattle.crs_base.specs.Tokens.{Token, Word, Mark}
 use Rattle.crs_base.specs.Numbers.{number_of, integer_of}
 use Rattle.crs_base.proofs.Texts.{bytes_same}
 use Rattle.crs_grammar.specs.Forms.{Part, Keyword, Sign, Symbol, Number, Integer, Gap, AreWritten, term_form, terms_form, pattern_form, anchor_form, listed, symbol_form, values_form, level_form, values_in_form, low_part, high_part, most_part, span_form, form_of}
-use Rattle.crs_grammar.specs.Statements.{Event, Anchor, Body, NoEvent, Occurs, Hold, Statement, Message, Attribute, Begin, Happens, Point, Between, Among, Differ, Over, Close, is_inside}
-use Rattle.crs_grammar.specs.TokenReading.{◌>>=◌, whole, symbol_at, number_at, keyword_at, closed_at, values_on, span_of, level_of, event_of, noevent_of, most_at, occurs_of, hold_of, end_at, distance_of, values_of, differ_of, of_variable, variable_of, called_of, point_of, worded_of, inside_of, attribute_of, prompt_of, named_of, outside_of}
+use Rattle.crs_grammar.specs.Statements.{Event, Emission, Anchor, Body, NoEvent, Occurs, Hold, Statement, Message, Attribute, Derived, Begin, Happens, Point, Between, Among, Differ, Over, Emits, Close, is_inside}
+use Rattle.crs_grammar.specs.TokenReading.{◌>>=◌, whole, symbol_at, number_at, keyword_at, closed_at, values_on, span_of, level_of, event_of, emit_of, noevent_of, most_at, occurs_of, hold_of, end_at, distance_of, values_of, differ_of, of_variable, variable_of, called_of, point_of, worded_of, inside_of, attribute_of, prompt_of, named_of, outside_of}
 use Rattle.crs_grammar.specs.GrammarLaws.{ReadIsMeant}
 use Rattle.crs_grammar.proofs.Gives.{then, cond_passed, cond_either, some_inj, same_pair, option_map_some, symbol_gives, sign_gives, number_gives, term_gives, closed_gives, comma_gives, arguments_give, pattern_gives, range_shape, hold_shape}
 use Rattle.crs_grammar.proofs.GivesAnchors.{anchor_gives}
@@ -138,6 +138,21 @@ hold_called k ts s is e =
       ),
     )
 
+emit_gives : (ts : List Token) (s : Statement) → emit_of ts ≡ Some s
+    → (v : Emission) × (s ≡ Emits v) × AreWritten (pattern_form v.pattern ++ Sign 44 ∷ Gap ∷ Symbol v.point ∷ Sign 41 ∷ []) ts
+unfolding emit_of
+emit_gives ts s e =
+    then _ _ _ e λ a ea e1. then _ _ _ e1 λ b eb e2. then _ _ _ e2 λ f ef e3. then _ _ _ e3 λ d ed e4.
+    let w = whole_is (Emits (record { pattern = a.0; point = f.0 })) s d e4 in (
+      record { pattern = a.0; point = f.0 },
+      sym w.0,
+      pattern_gives ts a.0 a.1 (Sign 44 ∷ Gap ∷ Symbol f.0 ∷ Sign 41 ∷ []) ea
+          (sign_gives 44 a.1 b (Gap ∷ Symbol f.0 ∷ Sign 41 ∷ []) eb (symbol_gives b f.0 f.1 (Sign 41 ∷ []) ef (sign_gives 41 f.1 d [] ed w.1))),
+    )
+
+emit_called : (k : List ℕ) (ts : List Token) (s : Statement) → k ≡ codes "emit" → emit_of ts ≡ Some s → IsCalled k s ts
+emit_called k ts s is e = let g = emit_gives ts s e in called_by k s (Emits g.0) ts (sym g.1) (refl, (is, (refl, g.2)))
+
 called_gives : (k : List ℕ) (ts : List Token) (s : Statement) → called_of k ts ≡ Some s → IsCalled k s ts
 unfolding called_of
 called_gives k ts s e = elim (cond_either (bytes_eq k (codes "event")) _ _ s e) [
@@ -146,7 +161,10 @@ called_gives k ts s e = elim (cond_either (bytes_eq k (codes "event")) _ _ s e) 
     | inl q ↦ noevent_called k ts s (bytes_same k (codes "noevent") q.0) q.1
     | inr q ↦ elim (cond_either (bytes_eq k (codes "occurs")) _ _ s q.1) [
       | inl r ↦ occurs_called k ts s (bytes_same k (codes "occurs") r.0) r.1
-      | inr r ↦ let t = cond_passed (bytes_eq k (codes "hold")) (hold_of ts) s r.1 in hold_called k ts s (bytes_same k (codes "hold") t.0) t.1
+      | inr r ↦ elim (cond_either (bytes_eq k (codes "hold")) _ _ s r.1) [
+        | inl t ↦ hold_called k ts s (bytes_same k (codes "hold") t.0) t.1
+        | inr t ↦ let u = cond_passed (bytes_eq k (codes "emit")) (emit_of ts) s t.1 in emit_called k ts s (bytes_same k (codes "emit") u.0) u.1
+      ]
     ]
   ]
 ]
@@ -330,9 +348,14 @@ named_gives k name back ts s h e = elim (cond_either (bytes_eq k (codes "chronic
       | inl r ↦ then _ _ _ r.1 λ n en e1.
           let g = attribute_gives name n.0 n.1 s e1 in
           subst (λ x. IsOut x (Word k ∷ ts)) (sym g.1) (refl, (bytes_same k (codes "attribute") r.0, symbol_gives ts name back (Gap ∷ Number n.0 ∷ values_in_form g.0) h (number_gives back n.0 n.1 (values_in_form g.0) en g.2)))
-      | inr r ↦
-          let t = cond_passed (bytes_eq k (codes "prompt")) (prompt_of name back) s r.1 in
-          prompt_gives k name back ts s (bytes_same k (codes "prompt") t.0) h t.1
+      | inr r ↦ elim (cond_either (bytes_eq k (codes "prompt")) _ _ s r.1) [
+        | inl t ↦ prompt_gives k name back ts s (bytes_same k (codes "prompt") t.0) h t.1
+        | inr t ↦
+            let u = cond_passed (bytes_eq k (codes "derived")) _ s t.1 in
+            then _ _ _ u.1 λ n en e1.
+            let w = whole_is (Derived name n.0) s n.1 e1 in
+            subst (λ x. IsOut x (Word k ∷ ts)) w.0 (refl, (bytes_same k (codes "derived") u.0, symbol_gives ts name back (Gap ∷ Number n.0 ∷ []) h (number_gives back n.0 n.1 [] en w.1)))
+      ]
     ]
   ]
 ]

@@ -6,8 +6,8 @@ use Rattle.crs_base.specs.Tokens.{Token, Word, Mark}
 use Rattle.crs_base.specs.Numbers.{number_of, integer_of}
 use Rattle.crs_base.proofs.Texts.{bytes_same, same_bytes}
 use Rattle.crs_grammar.specs.Forms.{Part, Keyword, Sign, Symbol, Number, Integer, Gap, Missing, AreWritten, term_form, terms_form, change_form, pattern_form, shift_form, anchor_form, listed, symbol_form, values_form, level_form, values_in_form, low_part, high_part, most_part, body_form, span_form, begin_form, form_of}
-use Rattle.crs_grammar.specs.Statements.{Term, Pattern, Event, Shift, Here, Later, Earlier, Anchor, Body, NoEvent, Occurs, Hold, Distance, Statement, Message, Attribute, Begin, Happens, Point, Between, Among, Differ, Over, Close, is_inside}
-use Rattle.crs_grammar.specs.TokenReading.{◌>>=◌, whole, symbol_at, number_at, mark_at, keyword_at, terms_on, arguments_at, pair_at, change_at, pattern_at, shift_at, anchor_at, span_of, level_of, event_of, noevent_of, most_at, occurs_of, hold_of, end_at, distance_of, values_of, differ_of, of_variable, variable_of, called_of, point_of, worded_of, inside_of, attribute_of, prompt_of, named_of, outside_of}
+use Rattle.crs_grammar.specs.Statements.{Term, Pattern, Event, Emission, Shift, Here, Later, Earlier, Anchor, Body, NoEvent, Occurs, Hold, Distance, Statement, Message, Attribute, Derived, Begin, Happens, Point, Between, Among, Differ, Over, Emits, Close, is_inside}
+use Rattle.crs_grammar.specs.TokenReading.{◌>>=◌, whole, symbol_at, number_at, mark_at, keyword_at, terms_on, arguments_at, pair_at, change_at, pattern_at, shift_at, anchor_at, span_of, level_of, event_of, emit_of, noevent_of, most_at, occurs_of, hold_of, end_at, distance_of, values_of, differ_of, of_variable, variable_of, called_of, point_of, worded_of, inside_of, attribute_of, prompt_of, named_of, outside_of}
 use Rattle.crs_grammar.specs.GrammarLaws.{MeantIsRead}
 use Rattle.crs_grammar.proofs.Takes.{on, Listed, symbol_takes, number_takes, sign_takes, keyword_takes, term_takes, terms_take, values_take}
 use Rattle.crs_grammar.proofs.Gives.{range_shape}
@@ -132,6 +132,15 @@ event_takes e ts h =
     let c = sign_takes 41 p.0 (level_form e.level) p.1.left in
     on _ _ _ _ a.1.is (on _ _ _ _ b.1.is (on _ _ _ _ p.1.is (on _ _ _ _ c.1.is (on _ _ _ _ (level_takes e.level c.0 c.1.left) refl))))
 
+emit_takes : (e : Emission) (ts : List Token) → AreWritten (pattern_form e.pattern ++ Sign 44 ∷ Gap ∷ Symbol e.point ∷ Sign 41 ∷ []) ts → emit_of ts ≡ Some (Emits e)
+unfolding emit_of
+emit_takes e ts h =
+    let a = pattern_takes e.pattern ts (Gap ∷ Symbol e.point ∷ Sign 41 ∷ []) h in
+    let b = sign_takes 44 a.0 (Gap ∷ Symbol e.point ∷ Sign 41 ∷ []) a.1.left in
+    let p = symbol_takes e.point b.0 (Sign 41 ∷ []) b.1.left in
+    let c = sign_takes 41 p.0 [] p.1.left in
+    on _ _ _ _ a.1.is (on _ _ _ _ b.1.is (on _ _ _ _ p.1.is (on _ _ _ _ c.1.is (nothing_left _ c.0 c.1.left))))
+
 most_takes : (m : Option ℕ) (ts : List Token) (rest : List Part) → AreWritten (most_part m ∷ rest) ts → (back : List Token) × Listed2 (most_at ts) m rest back
 unfolding most_at
 most_takes None [] rest h = absurd h
@@ -248,6 +257,10 @@ event_called : (e : Event) (back : List Token) → AreWritten (pattern_form e.pa
 unfolding called_of
 event_called e back h = event_takes e back h
 
+emit_called : (e : Emission) (back : List Token) → AreWritten (pattern_form e.pattern ++ Sign 44 ∷ Gap ∷ Symbol e.point ∷ Sign 41 ∷ []) back → called_of (codes "emit") back ≡ Some (Emits e)
+unfolding called_of
+emit_called e back h = emit_takes e back h
+
 body_takes : (b : Body) (f t : Anchor) (ts : List Token) → AreWritten (body_form b ++ span_form f t) ts → inside_of ts ≡ Some (Over (record { body = b; from = f; to = t }))
 unfolding called_of
 body_takes (NoEvent p) f t ts h = called_takes (codes "noevent") (pattern_form p ++ span_form f t) (Over (record { body = NoEvent p; from = f; to = t })) ts (noevent_takes p f t) h
@@ -307,6 +320,7 @@ close_takes (Mark m ∷ []) h = ap (λ x. inside_of (Mark x ∷ [])) h.0
 inside_takes : (s : Statement) (ts : List Token) → is_inside s ≡ true → AreWritten (form_of s) ts → inside_of ts ≡ Some s
 inside_takes (Message name arity) ts e h = absurd (true≢false (sym e))
 inside_takes (Attribute name arity values) ts e h = absurd (true≢false (sym e))
+inside_takes (Derived name arity) ts e h = absurd (true≢false (sym e))
 inside_takes (Begin heading) ts e h = absurd (true≢false (sym e))
 inside_takes (Happens v) ts e h = called_takes (codes "event") (pattern_form v.pattern ++ Sign 44 ∷ Gap ∷ Symbol v.point ∷ Sign 41 ∷ level_form v.level) (Happens v) ts (event_called v) h
 inside_takes (Point name) ts e h = point_takes name ts h
@@ -314,6 +328,7 @@ inside_takes (Between d) ts e h = between_takes d ts h
 inside_takes (Among x vs) ts e h = variable_takes x (Keyword (codes "in") ∷ Gap ∷ values_form vs) (Among x vs) ts (among_takes x vs) h
 inside_takes (Differ x y) ts e h = variable_takes x (Sign 33 ∷ Gap ∷ Sign 63 ∷ Symbol y ∷ []) (Differ x y) ts (differ_takes x y) h
 inside_takes (Over w) ts e h = body_takes w.body w.from w.to ts h
+inside_takes (Emits v) ts e h = called_takes (codes "emit") (pattern_form v.pattern ++ Sign 44 ∷ Gap ∷ Symbol v.point ∷ Sign 41 ∷ []) (Emits v) ts (emit_called v) h
 inside_takes Close ts e h = close_takes ts h
 
 attribute_takes : (name : List ℕ) (arity : ℕ) (values : Option (List (List ℕ))) (ts : List Token) → AreWritten (values_in_form values) ts → attribute_of name arity ts ≡ Some (Attribute name arity values)
@@ -334,6 +349,10 @@ named_takes k name ps s (Word w ∷ ts) f h =
 message_takes : (name : List ℕ) (arity : ℕ) (ts : List Token) → AreWritten (Number arity ∷ []) ts → named_of (codes "message") name ts ≡ Some (Message name arity)
 unfolding named_of
 message_takes name arity ts h = let n = number_takes arity ts [] h in on _ _ _ _ n.1.is (nothing_left _ n.0 n.1.left)
+
+derived_takes : (name : List ℕ) (arity : ℕ) (ts : List Token) → AreWritten (Number arity ∷ []) ts → named_of (codes "derived") name ts ≡ Some (Derived name arity)
+unfolding named_of
+derived_takes name arity ts h = let n = number_takes arity ts [] h in on _ _ _ _ n.1.is (nothing_left _ n.0 n.1.left)
 
 listed_takes : (name : List ℕ) (arity : ℕ) (values : Option (List (List ℕ))) (ts : List Token) → AreWritten (Number arity ∷ values_in_form values) ts → named_of (codes "attribute") name ts ≡ Some (Attribute name arity values)
 unfolding named_of
@@ -361,6 +380,7 @@ heading_takes true name (Word w ∷ ts) h = ap (λ x. outside_of (Word x ∷ ts)
 outside_takes : (s : Statement) (ts : List Token) → is_inside s ≡ false → AreWritten (form_of s) ts → outside_of ts ≡ Some s
 outside_takes (Message name arity) ts e h = named_takes (codes "message") name (Number arity ∷ []) (Message name arity) ts (message_takes name arity) h
 outside_takes (Attribute name arity values) ts e h = named_takes (codes "attribute") name (Number arity ∷ values_in_form values) (Attribute name arity values) ts (listed_takes name arity values) h
+outside_takes (Derived name arity) ts e h = named_takes (codes "derived") name (Number arity ∷ []) (Derived name arity) ts (derived_takes name arity) h
 outside_takes (Begin heading) ts e h = heading_takes heading.prompt heading.name ts h
 outside_takes (Happens v) ts e h = absurd (true≢false e)
 outside_takes (Point name) ts e h = absurd (true≢false e)
@@ -368,6 +388,7 @@ outside_takes (Between d) ts e h = absurd (true≢false e)
 outside_takes (Among x vs) ts e h = absurd (true≢false e)
 outside_takes (Differ x y) ts e h = absurd (true≢false e)
 outside_takes (Over w) ts e h = absurd (true≢false e)
+outside_takes (Emits e) ts h k = absurd (true≢false h)
 outside_takes Close ts e h = absurd (true≢false e)
 
 pub meant_is_read : MeantIsRead

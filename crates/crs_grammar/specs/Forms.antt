@@ -3,7 +3,7 @@ use Rattle.std.specs.Prelude.{◌≡◌, ℕ, ℤ, Bool, true, false, List, [], 
 use Rattle.crs_base.specs.Symbols.{is_symbol}
 use Rattle.crs_base.specs.Tokens.{Token, Word, Mark}
 use Rattle.crs_base.specs.Numbers.{number_of, integer_of}
-use Rattle.crs_grammar.specs.Statements.{Term, Value, Variable, Any, Pattern, Shift, Here, Later, Earlier, Anchor, Body, NoEvent, Occurs, Hold, Statement, Message, Attribute, Begin, Happens, Point, Between, Among, Differ, Over, Close, is_inside}
+use Rattle.crs_grammar.specs.Statements.{Term, Value, Variable, Any, Pattern, Shift, Here, Later, Earlier, Anchor, Body, NoEvent, Occurs, Hold, Statement, Message, Attribute, Derived, Begin, Happens, Point, Between, Among, Differ, Over, Emits, Close, is_inside}
 
 -- A part of a statement. A gap is a blank of the canonical text, and missing is what no token writes.
 pub data Part : Type 0 where
@@ -108,6 +108,7 @@ begin_form true name = Keyword (codes "prompt") ∷ Gap ∷ Keyword (codes "chro
 abbrev pub form_of : Statement → List Part
 form_of (Message name arity) = Keyword (codes "message") ∷ Gap ∷ Symbol name ∷ Gap ∷ Number arity ∷ []
 form_of (Attribute name arity values) = Keyword (codes "attribute") ∷ Gap ∷ Symbol name ∷ Gap ∷ Number arity ∷ values_in_form values
+form_of (Derived name arity) = Keyword (codes "derived") ∷ Gap ∷ Symbol name ∷ Gap ∷ Number arity ∷ []
 form_of (Begin heading) = begin_form heading.prompt heading.name
 form_of (Happens e) = Keyword (codes "event") ∷ Sign 40 ∷ pattern_form e.pattern ++ Sign 44 ∷ Gap ∷ Symbol e.point ∷ Sign 41 ∷ level_form e.level
 form_of (Point name) = Keyword (codes "point") ∷ Gap ∷ Symbol name ∷ []
@@ -115,6 +116,7 @@ form_of (Between d) = Symbol d.to ∷ Gap ∷ Keyword (codes "-") ∷ Gap ∷ Sy
 form_of (Among variable values) = Sign 63 ∷ Symbol variable ∷ Gap ∷ Keyword (codes "in") ∷ Gap ∷ values_form values
 form_of (Differ left right) = Sign 63 ∷ Symbol left ∷ Gap ∷ Sign 33 ∷ Gap ∷ Sign 63 ∷ Symbol right ∷ []
 form_of (Over w) = body_form w.body ++ span_form w.from w.to
+form_of (Emits e) = Keyword (codes "emit") ∷ Sign 40 ∷ pattern_form e.pattern ++ Sign 44 ∷ Gap ∷ Symbol e.point ∷ Sign 41 ∷ []
 form_of Close = Sign 125 ∷ []
 
 -- The tokens of a line mean a statement of the place where it stands, inside a chronicle or outside.

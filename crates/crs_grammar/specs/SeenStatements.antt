@@ -11,12 +11,13 @@ use Rattle.crs_grammar.specs.declared.statements.Body.{Body as CodeBody}
 use Rattle.crs_grammar.specs.declared.statements.Body.TheVariants as bodies
 use Rattle.crs_grammar.specs.declared.statements.Window.{Window as CodeWindow}
 use Rattle.crs_grammar.specs.declared.statements.Distance.{Distance as CodeDistance}
+use Rattle.crs_grammar.specs.declared.statements.Emission.{Emission as CodeEmission}
 use Rattle.crs_grammar.specs.declared.statements.Statement.{Statement as CodeStatement}
 use Rattle.crs_grammar.specs.declared.statements.Statement.TheVariants as statements
 use Rattle.crs_grammar.specs.declared.statements.Heading.{Heading as CodeHeading}
 use Rattle.crs_grammar.specs.declared.statements.Declaration.{Declaration as CodeDeclaration}
 use Rattle.crs_grammar.specs.declared.statements.Declaration.TheVariants as declarations
-use Rattle.crs_grammar.specs.Statements.{Term, Value, Variable, Any, Pattern, Event, Shift, Here, Later, Earlier, Anchor, Body, NoEvent, Occurs, Hold, Window, Distance, Heading, Statement, Message, Attribute, Begin, Happens, Point, Between, Among, Differ, Over, Close}
+use Rattle.crs_grammar.specs.Statements.{Term, Value, Variable, Any, Pattern, Event, Shift, Here, Later, Earlier, Anchor, Body, NoEvent, Occurs, Hold, Window, Distance, Heading, Emission, Statement, Message, Attribute, Derived, Begin, Happens, Point, Between, Among, Differ, Over, Emits, Close}
 
 abbrev pub term_of : CodeTerm → Term
 term_of (terms.Value s) = Value s.now
@@ -51,6 +52,9 @@ window_of w = record { body = body_of w.body; from = anchor_of w.from; to = anch
 abbrev pub distance_of : CodeDistance → Distance
 distance_of d = record { to = d.to.now; from = d.from.now; low = d.low; high = d.high }
 
+abbrev pub emission_of : CodeEmission → Emission
+emission_of e = record { pattern = pattern_of e.pattern; point = e.point.now }
+
 abbrev pub statement_of : CodeStatement → Statement
 statement_of (statements.Happens e) = Happens (event_of e)
 statement_of (statements.Point name) = Point name.now
@@ -58,6 +62,7 @@ statement_of (statements.Between d) = Between (distance_of d)
 statement_of (statements.Among x vs) = Among x.now (map (λ v. v.now) vs.items)
 statement_of (statements.Differ x y) = Differ x.now y.now
 statement_of (statements.Over w) = Over (window_of w)
+statement_of (statements.Emits e) = Emits (emission_of e)
 statement_of statements.Close = Close
 
 abbrev pub heading_of : CodeHeading → Heading
@@ -66,4 +71,5 @@ heading_of h = record { prompt = h.prompt; name = h.name.now }
 abbrev pub declaration_of : CodeDeclaration → Statement
 declaration_of (declarations.Message name arity) = Message name.now arity
 declaration_of (declarations.Attribute name arity values) = Attribute name.now arity (option_map (λ vs. map (λ v. v.now) vs.items) values)
+declaration_of (declarations.Derived name arity) = Derived name.now arity
 declaration_of (declarations.Begin heading) = Begin (heading_of heading)

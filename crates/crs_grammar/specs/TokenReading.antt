@@ -3,7 +3,7 @@ use Rattle.std.specs.Prelude.{ℕ, ℤ, Bool, true, false, cond, ◌==◌, ◌&&
 use Rattle.crs_base.specs.Symbols.{is_symbol}
 use Rattle.crs_base.specs.Tokens.{Token, Word, Mark}
 use Rattle.crs_base.specs.Numbers.{number_of, integer_of}
-use Rattle.crs_grammar.specs.Statements.{Term, Value, Variable, Any, Pattern, Shift, Here, Later, Earlier, Anchor, Body, NoEvent, Occurs, Hold, Statement, Message, Attribute, Begin, Happens, Point, Between, Among, Differ, Over, Close}
+use Rattle.crs_grammar.specs.Statements.{Term, Value, Variable, Any, Pattern, Shift, Here, Later, Earlier, Anchor, Body, NoEvent, Occurs, Hold, Statement, Message, Attribute, Derived, Begin, Happens, Point, Between, Among, Differ, Over, Emits, Close}
 
 infixl 10 ◌>>=◌
 abbrev pub ◌>>=◌ : {A B : Type 0} → Option A → (A → Option B) → Option B
@@ -125,6 +125,14 @@ event_of ts = do
   level ← level_of closed
   Some (Happens (record { pattern = pattern.0; point = point.0; level = level }))
 
+unfoldable pub emit_of : List Token → Option Statement
+emit_of ts = do
+  pattern ← pattern_at ts
+  second ← mark_at 44 pattern.1
+  point ← symbol_at second
+  rest ← mark_at 41 point.1
+  whole (Emits (record { pattern = pattern.0; point = point.0 })) rest
+
 unfoldable pub noevent_of : List Token → Option Statement
 noevent_of ts = do
   pattern ← pattern_at ts
@@ -206,7 +214,8 @@ called_of k ts =
     cond (bytes_eq k (codes "event")) (event_of ts)
     (cond (bytes_eq k (codes "noevent")) (noevent_of ts)
     (cond (bytes_eq k (codes "occurs")) (occurs_of ts)
-    (cond (bytes_eq k (codes "hold")) (hold_of ts) None)))
+    (cond (bytes_eq k (codes "hold")) (hold_of ts)
+    (cond (bytes_eq k (codes "emit")) (emit_of ts) None))))
 
 unfoldable pub point_of : List ℕ → List ℕ → Option Statement
 point_of k name = cond (bytes_eq k (codes "point") && is_symbol name) (Some (Point name)) None
@@ -244,7 +253,10 @@ named_of k name ts =
     (cond (bytes_eq k (codes "attribute")) (do
       arity ← number_at ts
       attribute_of name arity.0 arity.1)
-    (cond (bytes_eq k (codes "prompt")) (prompt_of name ts) None)))
+    (cond (bytes_eq k (codes "prompt")) (prompt_of name ts)
+    (cond (bytes_eq k (codes "derived")) (do
+      arity ← number_at ts
+      whole (Derived name arity.0) arity.1) None))))
 
 unfoldable pub outside_of : List Token → Option Statement
 outside_of [] = None

@@ -9,7 +9,7 @@ mod words;
 pub use laws::{canonical_statement_is_read, read_is_what_is_meant};
 pub use parsing::{inside, outside};
 pub use statements::{
-    Anchor, Body, Declaration, Distance, Event, Heading, Pattern, Shift, Statement, Term, Unread,
-    Window,
+    Anchor, Body, Declaration, Distance, Emission, Event, Heading, Pattern, Shift, Statement, Term,
+    Unread, Window,
 };
 pub use words::{Token, tokens};

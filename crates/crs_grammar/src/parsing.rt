@@ -1,13 +1,13 @@
 ghost use Rattle.std.specs.Prelude.{◌<◌, map};
 ghost use Rattle.crs_grammar.specs.Gives.{Gives};
-ghost use Rattle.crs_grammar.specs.TokenReading.{symbol_at, number_at, mark_at, whole, term_at, closed_at, terms_on, values_on, arguments_at, pair_at, change_at, pattern_at, shift_at, anchor_at, span_of, level_of, event_of, noevent_of, most_at, occurs_of, hold_of, keyword_at, end_at, distance_of, values_of, differ_of, of_variable, variable_of, called_of, point_of, worded_of, inside_of, attribute_of, prompt_of, named_of, outside_of, statement_of};
+ghost use Rattle.crs_grammar.specs.TokenReading.{symbol_at, number_at, mark_at, whole, term_at, closed_at, terms_on, values_on, arguments_at, pair_at, change_at, pattern_at, shift_at, anchor_at, span_of, level_of, event_of, emit_of, noevent_of, most_at, occurs_of, hold_of, keyword_at, end_at, distance_of, values_of, differ_of, of_variable, variable_of, called_of, point_of, worded_of, inside_of, attribute_of, prompt_of, named_of, outside_of, statement_of};
 ghost use Rattle.crs_grammar.specs.GrammarTokens.{seen};
 ghost use Rattle.crs_grammar.specs.SeenStatements as see;
 ghost use Rattle.crs_grammar.specs.Statements as said;
 
 use crate::statements::{
-    Anchor, Body, Declaration, Distance, Event, Heading, Pattern, Shift, Statement, Term, Unread,
-    Window,
+    Anchor, Body, Declaration, Distance, Emission, Event, Heading, Pattern, Shift, Statement, Term,
+    Unread, Window,
 };
 use crate::words::Token;
 use crs_base::{integer, is_symbol, number};
@@ -269,6 +269,17 @@ fn event<'a>(alloc: Global, tokens: &[Token<'a>]) -> Result<Statement<'a>, Unrea
     }))
 }
 
+#[tactic(auto, unfolding(crate::specs::TokenReading::emit_of))]
+fn emit<'a>(alloc: Global, tokens: &[Token<'a>]) -> Result<Statement<'a>, Unread>
+    ensures { Gives see.statement_of result (emit_of (seen tokens.now)) }
+{
+    let (pattern, rest) = pattern(alloc, tokens)?;
+    let rest = mark(rest, b',')?;
+    let (point, rest) = symbol(rest)?;
+    let rest = mark(rest, b')')?;
+    whole(Statement::Emits(Emission { pattern, point }), rest)
+}
+
 #[tactic(auto, unfolding(crate::specs::TokenReading::noevent_of))]
 fn noevent<'a>(alloc: Global, tokens: &[Token<'a>]) -> Result<Statement<'a>, Unread>
     ensures { Gives see.statement_of result (noevent_of (seen tokens.now)) }
@@ -436,6 +447,8 @@ fn called<'a>(alloc: Global, name: &[u8], tokens: &[Token<'a>]) -> Result<Statem
         occurs(alloc, tokens)
     } else if name == b"hold".as_slice() {
         hold(alloc, tokens)
+    } else if name == b"emit".as_slice() {
+        emit(alloc, tokens)
     } else {
         Err(Unread::Form)
     }
@@ -567,6 +580,9 @@ fn named<'a>(
         attribute(alloc, name, arity, rest)
     } else if keyword == b"prompt".as_slice() {
         prompt(name, tokens)
+    } else if keyword == b"derived".as_slice() {
+        let (arity, rest) = count(tokens)?;
+        declared(Declaration::Derived(name, arity), rest)
     } else {
         Err(Unread::Form)
     }

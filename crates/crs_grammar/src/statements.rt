@@ -71,11 +71,19 @@ pub struct Heading<'a> {
     pub name: &'a [u8],
 }
 
+/// What each recognition gives: an entry of the pattern, dated as the event of the point.
+#[derive(Drop)]
+pub struct Emission<'a> {
+    pub pattern: Pattern<'a>,
+    pub point: &'a [u8],
+}
+
 /// A statement outside all chronicles.
 #[derive(Drop)]
 pub enum Declaration<'a> {
     Message(&'a [u8], u64),
     Attribute(&'a [u8], u64, Option<Vec<&'a [u8]>>),
+    Derived(&'a [u8], u64),
     Begin(Heading<'a>),
 }
 
@@ -88,6 +96,7 @@ pub enum Statement<'a> {
     Among(&'a [u8], Vec<&'a [u8]>),
     Differ(&'a [u8], &'a [u8]),
     Over(Window<'a>),
+    Emits(Emission<'a>),
     Close,
 }
 

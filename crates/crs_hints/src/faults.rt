@@ -11,7 +11,9 @@ pub fn sentence_of(word: ModelWord) -> &'static str {
         ModelWord::Form => "this is no statement here",
         ModelWord::Twice =>
             "this is there already: a name, a point, or a variable's list of values",
-        ModelWord::Name => "no line above declares this name; a hold wants an attribute",
+        ModelWord::Name => {
+            "no line above declares this name, or a hold names a message or a derived name"
+        }
         ModelWord::Arity => {
             "the arguments aren't as many as declared, or a message has a change, or an attribute none"
         }
@@ -25,9 +27,40 @@ pub fn sentence_of(word: ModelWord) -> &'static str {
         }
         ModelWord::Window => "a hold has no '*': it is about one value of one attribute",
         ModelWord::Limit => "this is longer or more than a models text may have",
+        ModelWord::Emit => { "what a chronicle emits is used by later chronicles alone" }
         ModelWord::Events => "a chronicle has at least one event, and this one has none",
-        ModelWord::Unbound => "a window of this chronicle has a variable that no event has",
+        ModelWord::Unbound =>
+            "a window or an emit of this chronicle has a variable that no event has",
+        ModelWord::Lag => {
+            "an entry of this chronicle's emits can come too long after its date: more than 2^40 ticks, or no matter how long"
+        }
         ModelWord::Inconsistent => "no dates meet all bounds of this chronicle",
+        ModelWord::Hierarchy => "this command takes no chronicles that emit entries",
+    }
+}
+
+/// The sentence of a word that speaks of an `emit`, where there is one of its own.
+fn emit_sentence_of(word: ModelWord) -> Option<&'static str> {
+    match word {
+        ModelWord::Name => {
+            Some("an emit wants a derived name, which a line above declares: derived NAME NUMBER")
+        }
+        ModelWord::Arity => Some(
+            "the arguments aren't as many as declared, or there is a change, which no derived name has",
+        ),
+        ModelWord::Point => Some("an emit wants the point of an event above, whose date it takes"),
+        ModelWord::Window => Some("an emit has no '*': each argument of an entry is a symbol"),
+        _ => None,
+    }
+}
+
+/// The sentence of a word that was given at this line.
+pub fn sentence_at(line: &[Piece<'_>], word: ModelWord) -> &'static str {
+    match line {
+        [piece, ..] if piece.is_word(b"emit") => {
+            emit_sentence_of(word).unwrap_or(sentence_of(word))
+        }
+        _ => sentence_of(word),
     }
 }
 
@@ -68,6 +101,14 @@ fn pattern_name(line: &[Piece<'_>]) -> Option<usize> {
     match line {
         [piece, ..] if piece.is_word(b"occurs") => start_at(line, 8),
         _ => start_at(line, 2),
+    }
+}
+
+/// The name of the pattern, as it is written.
+pub fn pattern_word<'a>(line: &[Piece<'a>]) -> Option<&'a [u8]> {
+    match line {
+        [piece, ..] if piece.is_word(b"occurs") => line.get(8)?.word(),
+        _ => line.get(2)?.word(),
     }
 }
 
@@ -127,7 +168,7 @@ pub fn large_level(line: &[Piece<'_>]) -> Option<usize> {
 pub fn column_of(line: &[Piece<'_>], word: ModelWord) -> Option<usize> {
     match word {
         ModelWord::Twice => declared(line),
-        ModelWord::Name | ModelWord::Arity => pattern_name(line),
+        ModelWord::Name | ModelWord::Arity | ModelWord::Emit => pattern_name(line),
         ModelWord::Value => new_value(line),
         ModelWord::Variable if place_of(line, b'!').is_none() => start_at(line, 0),
         ModelWord::Bound => {

@@ -1,4 +1,5 @@
-use crate::faults::{column_of, large_level, sentence_of};
+use crate::circles::{Circle, circle_at};
+use crate::faults::{column_of, large_level, pattern_word, sentence_at, sentence_of};
 use crate::pieces::{Piece, pieces};
 use crate::statements::{LEVEL, is_declared, statement};
 use crate::walking::Stop;
@@ -16,12 +17,14 @@ pub struct Hint<'a> {
     /// How many bytes of the line stand before the first place that can't stand there, where that
     /// can be told. It is the line's length where something is missing at its end.
     pub column: Option<usize>,
+    /// The chronicles of a name that is emitted, and used where it can't be.
+    pub circle: Option<Circle<'a>>,
     /// The line's bytes, or none where the text has no such line.
     pub line: &'a [u8],
 }
 
 /// The line with a number from 1 on.
-fn nth_line<'a>(text: &'a [u8], number: u32) -> Option<RawLine<'a>> {
+pub(crate) fn nth_line<'a>(text: &'a [u8], number: u64) -> Option<RawLine<'a>> {
     let mut rest = text;
     for _ in 1..number {
         if rest.is_empty() {
@@ -50,12 +53,14 @@ fn form_hint<'a>(line: &'a [u8], found: &[Piece<'a>]) -> Hint<'a> {
             sentence,
             byte,
             column: Some(column.unwrap_or(line.len())),
+            circle: None,
             line,
         },
         Ok(()) => Hint {
             sentence: misplaced(found),
             byte: None,
             column: found.first().map(|piece| piece.start),
+            circle: None,
             line,
         },
     }
@@ -86,6 +91,7 @@ fn word_hint<'a>(line: &'a [u8], word: ModelWord, column: Option<usize>) -> Hint
         sentence: sentence_of(word),
         byte: None,
         column,
+        circle: None,
         line,
     }
 }
@@ -98,6 +104,7 @@ fn limit_hint<'a>(line: &'a [u8], found: &[Piece<'a>]) -> Hint<'a> {
             sentence: LEVEL,
             byte: None,
             column: Some(column),
+            circle: None,
             line,
         },
         None => word_hint(line, word, column_of(found, word)),
@@ -116,15 +123,33 @@ fn endless_hint<'a>(word: ModelWord) -> Hint<'a> {
     }
 }
 
+/// The hint of a name that goes round: both chronicles, the one that emits it and the one that uses it.
+fn emit_hint<'a>(
+    alloc: Global,
+    text: &'a [u8],
+    number: u32,
+    line: &'a [u8],
+    found: &[Piece<'a>],
+) -> Result<Hint<'a>, AllocError> {
+    let word = ModelWord::Emit;
+    let hint = word_hint(line, word, column_of(found, word));
+    let Some(name) = pattern_word(found) else {
+        return Ok(hint);
+    };
+    let circle = circle_at(alloc, text, number, name)?;
+    Ok(Hint { circle, ..hint })
+}
+
 /// What may be wrong in the line with this number, which was refused with this word. It looks at
-/// this line alone, and at nothing of it where it is longer than a line may be.
+/// this line alone, and at nothing of it where it is longer than a line may be; for the word `emit`
+/// also at the lines above, as the name's other use stands there.
 pub fn hint_of<'a>(
     alloc: Global,
     text: &'a [u8],
     number: u32,
     word: ModelWord,
 ) -> Result<Hint<'a>, AllocError> {
-    let Some(raw) = nth_line(text, number) else {
+    let Some(raw) = nth_line(text, number as u64) else {
         return Ok(endless_hint(word));
     };
     let line = line_bytes(raw);
@@ -133,13 +158,18 @@ pub fn hint_of<'a>(
             sentence: "a line has at most 4096 bytes",
             byte: None,
             column: None,
+            circle: None,
             line,
         });
     }
     let found = pieces(alloc, line)?;
-    Ok(match word {
-        ModelWord::Form => form_hint(line, &found),
-        ModelWord::Limit => limit_hint(line, &found),
-        _ => word_hint(line, word, column_of(&found, word)),
-    })
+    match word {
+        ModelWord::Form => Ok(form_hint(line, &found)),
+        ModelWord::Limit => Ok(limit_hint(line, &found)),
+        ModelWord::Emit => emit_hint(alloc, text, number, line, &found),
+        _ => Ok(Hint {
+            sentence: sentence_at(&found, word),
+            ..word_hint(line, word, column_of(&found, word))
+        }),
+    }
 }

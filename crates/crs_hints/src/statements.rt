@@ -1,8 +1,8 @@
 // The statements of models.
 use crate::pieces::{Kind, Piece};
 use crate::walking::{
-    Stop, count, end, held, is_next, keyword, limit, mark, name, named, pattern, stop_before,
-    values, window,
+    Stop, count, end, held, is_next, is_number, keyword, limit, mark, name, named, pattern,
+    stop_before, values, window,
 };
 
 const BEHIND: &str = "nothing may stand behind a statement: each has a line of its own";
@@ -27,6 +27,8 @@ const OCCURS: &str = "this is written occurs((LOW, HIGH), PATTERN, (FROM, TO))";
 
 const HOLD: &str = "a hold wants a value behind a ':': hold(NAME: VALUE, (FROM, TO))";
 
+const EMIT: &str = "an emit is written emit(PATTERN, POINT)";
+
 const VALUES: &str = "a list of values stands in round brackets: in (VALUE, VALUE)";
 
 const PROMPT: &str = "the word before 'chronicle' is 'prompt', or none: prompt chronicle NAME {";
@@ -34,15 +36,17 @@ const PROMPT: &str = "the word before 'chronicle' is 'prompt', or none: prompt c
 const NO_STATEMENT: &str = "no statement begins so";
 
 /// The words with which statements begin.
-const KEYWORDS: [&[u8]; 9] = [
+const KEYWORDS: [&[u8]; 11] = [
     b"message",
     b"attribute",
     b"prompt",
+    b"derived",
     b"chronicle",
     b"event",
     b"noevent",
     b"occurs",
     b"hold",
+    b"emit",
     b"point",
 ];
 
@@ -51,6 +55,7 @@ pub fn is_declared(word: &[u8]) -> bool {
     word == b"message".as_slice()
         || word == b"attribute".as_slice()
         || word == b"prompt".as_slice()
+        || word == b"derived".as_slice()
         || word == b"chronicle".as_slice()
 }
 
@@ -59,6 +64,15 @@ fn message(rest: &[Piece<'_>]) -> Result<(), Stop> {
     let rest = count(
         rest,
         "a message wants its number of arguments: message NAME NUMBER",
+    )?;
+    end(rest, BEHIND)
+}
+
+fn derived(rest: &[Piece<'_>]) -> Result<(), Stop> {
+    let rest = name(rest, "a derived name is wanted here: derived NAME NUMBER")?;
+    let rest = count(
+        rest,
+        "a derived name wants its number of arguments: derived NAME NUMBER",
     )?;
     end(rest, BEHIND)
 }
@@ -183,6 +197,15 @@ fn hold(rest: &[Piece<'_>]) -> Result<(), Stop> {
     window(rest)
 }
 
+fn emit(rest: &[Piece<'_>]) -> Result<(), Stop> {
+    let rest = mark(rest, b'(', EMIT)?;
+    let rest = pattern(rest)?;
+    let rest = mark(rest, b',', EMIT)?;
+    let rest = name(rest, EMIT)?;
+    let rest = mark(rest, b')', EMIT)?;
+    end(rest, BEHIND)
+}
+
 /// A bound, behind its first point.
 fn bound(rest: &[Piece<'_>]) -> Result<(), Stop> {
     let rest = keyword(rest, b"-", DIFFERENCE)?;
@@ -225,6 +248,8 @@ fn declared(word: &[u8], rest: &[Piece<'_>]) -> Result<(), Stop> {
         attribute(rest)
     } else if word == b"prompt".as_slice() {
         prompt(rest)
+    } else if word == b"derived".as_slice() {
+        derived(rest)
     } else {
         chronicle(rest)
     }
@@ -265,13 +290,17 @@ fn unknown(word: &[u8], line: &[Piece<'_>], rest: &[Piece<'_>]) -> Stop {
         }
         [piece, ..] if piece.is_mark(b'(') => stop_before(
             line,
-            "no statement begins so: there are event(..), noevent(..), occurs(..) and hold(..)",
+            "no statement begins so: there are event(..), noevent(..), occurs(..), hold(..) and emit(..)",
         ),
         [piece, ..] if piece.is_other() => {
             stop_before(rest, "a bound is written t2 - t1 in [LOW, HIGH]")
         }
         [piece, ..] if is_negative(piece) => stop_before(rest, DIFFERENCE),
         [piece, ..] if piece.is_word(b"chronicle") => stop_before(line, PROMPT),
+        [_, piece] if is_number(piece) => stop_before(
+            line,
+            "no statement begins so: a name is declared by message, attribute or derived",
+        ),
         _ => stop_before(line, NO_STATEMENT),
     }
 }
@@ -290,6 +319,8 @@ fn worded(word: &[u8], line: &[Piece<'_>], rest: &[Piece<'_>]) -> Result<(), Sto
         occurs(rest)
     } else if word == b"hold".as_slice() {
         hold(rest)
+    } else if word == b"emit".as_slice() {
+        emit(rest)
     } else if word == b"point".as_slice() {
         point(rest)
     } else {

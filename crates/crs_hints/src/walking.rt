@@ -122,7 +122,8 @@ pub fn count<'t, 'a>(rest: &'t [Piece<'a>], sentence: &'static str) -> Rest<'t, 
     }
 }
 
-fn is_number(piece: &Piece<'_>) -> bool {
+/// Whether it is a number.
+pub fn is_number(piece: &Piece<'_>) -> bool {
     match piece.kind {
         Kind::Word(word) => number(word).is_some(),
         _ => false,

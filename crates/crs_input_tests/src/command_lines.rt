@@ -44,6 +44,21 @@ fn shown_run(
     }
 }
 
+fn shown_feeds(
+    alloc: Global,
+    focus: bool,
+    models: &str,
+    logs: &[&str],
+) -> Result<String, AllocError> {
+    let word = if focus { "focus feeds" } else { "feeds" };
+    let mut text = format!(in alloc; "{word} {models}")?;
+    for log in logs {
+        text.push_str(" ")?;
+        text.push_str(log)?;
+    }
+    Ok(text)
+}
+
 fn shown_drill(alloc: Global, word: &str, seed: u32, lines: u32) -> Result<String, AllocError> {
     format!(in alloc; "{word} {seed} {lines}")
 }
@@ -70,6 +85,16 @@ fn shown_command(alloc: Global, command: Command<'_>) -> Result<String, AllocErr
             shown_drill(alloc, drill_word(focus), seed, lines)
         }
         Command::Import { table } => format!(in alloc; "import {table}"),
+        Command::Audit {
+            models,
+            log,
+            output,
+        } => format!(in alloc; "audit {models} {log} {output}"),
+        Command::Feeds {
+            focus,
+            models,
+            logs,
+        } => shown_feeds(alloc, focus, models, logs.as_slice()),
     }
 }
 
@@ -240,11 +265,52 @@ import --minimal t | none
 }
 
 #[test]
+fn an_audit_has_models_a_log_and_an_output(rt: HostRuntime) -> Result<(), Fail> {
+    are_commands(
+        &rt,
+        rt.alloc(),
+        "audit m l o | audit m l o
+audit -- -m -l -o | audit -m -l -o
+audit m - o | audit m - o
+audit m l | none
+audit m l o p | none
+audit --cite m l o | none
+audit | none
+",
+    )
+}
+
+#[test]
+fn feeds_have_one_to_eight_logs(rt: HostRuntime) -> Result<(), Fail> {
+    are_commands(
+        &rt,
+        rt.alloc(),
+        "feeds m a | feeds m a
+feeds m a b | feeds m a b
+feeds --focus m a b | focus feeds m a b
+feeds m a --focus b | focus feeds m a b
+feeds m a b --focus | focus feeds m a b
+feeds m -- --focus | feeds m --focus
+feeds m 1 2 3 4 5 6 7 8 | feeds m 1 2 3 4 5 6 7 8
+feeds m 1 2 3 4 5 6 7 8 9 | none
+feeds m | none
+feeds | none
+feeds --focus m | none
+feeds --focus m a --focus | none
+feeds --focus=x m a | none
+feeds --summary m a | none
+",
+    )
+}
+
+#[test]
 fn the_usage_text_has_a_line_for_each_command(rt: HostRuntime) {
-    let text = b"usage: crs run [--focus] [--summary] [--tally KINDS] MODELS LOG\n\
+    let text = b"usage: crs run [--focus] [--summary] [--cite] [--tally KINDS] MODELS LOG\n\
         \x20      crs model [--minimal] MODELS\n\
         \x20      crs drill [--focus] SEED N\n\
         \x20      crs import CSV\n\
+        \x20      crs feeds [--focus] MODELS LOG..\n\
+        \x20      crs audit MODELS LOG OUTPUT\n\
         ";
     assert!(rt; usage_text() == text.as_slice());
 }

@@ -1,7 +1,9 @@
 //! The tests of what comes in: command lines, desks, tables, made logs, and hints at mistakes in
-//! models.
+//! models and in claims.
 #![tactic(auto)]
 
+#[cfg(test)]
+mod claims;
 #[cfg(test)]
 mod command_lines;
 #[cfg(test)]

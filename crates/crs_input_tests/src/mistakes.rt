@@ -98,6 +98,79 @@ fn the_place_of_prompt_is_told(rt: HostRuntime) -> Result<(), Fail> {
 }
 
 #[test]
+fn how_derived_names_and_emits_are_written_is_told(rt: HostRuntime) -> Result<(), Fail> {
+    let rows = "9 | derived d | a derived name wants its number of arguments
+0 | derive pair 0 | declared by message, attribute or derived
+0 | emits(pair, t1) | hold(..) and emit(..)
+5 | emit pair, t1 | an emit is written emit(PATTERN, POINT)
+9 | emit(pair) | an emit is written emit(PATTERN, POINT)
+14 | emit(pair, t1 + 1) | an emit is written emit(PATTERN, POINT)
+0 | derived d 0 | this stands outside chronicles
+0 | emit(pair, t1) | this stands inside a chronicle";
+    all_are_told(&rt, rt.alloc(), ModelWord::Form, rows)
+}
+
+#[test]
+fn natural_mistakes_of_emits_are_told(rt: HostRuntime) -> Result<(), Fail> {
+    for (word, row) in [
+        (
+            ModelWord::Name,
+            "5 | emit(pair[?x], t1) | which a line above declares: derived NAME NUMBER",
+        ),
+        (
+            ModelWord::Arity,
+            "5 | emit(pair: (on, off), t1) | a change, which no derived name has",
+        ),
+        (
+            ModelWord::Point,
+            "- | emit(pair, t9) | the point of an event above",
+        ),
+        (
+            ModelWord::Window,
+            "10 | emit(pair[*], t1) | an emit has no '*'",
+        ),
+        (
+            ModelWord::Emit,
+            "5 | emit(pair, t1) | by later chronicles alone",
+        ),
+        (ModelWord::Unbound, "- | } | a window or an emit"),
+        (ModelWord::Lag, "- | } | too long after its date"),
+    ] {
+        all_are_told(&rt, rt.alloc(), word, row)?;
+    }
+    Ok(())
+}
+
+/// The two chronicles that a hint names, parted by a blank, or nothing.
+fn circle_of(alloc: Global, text: &[u8], number: u32) -> Result<Vec<u8>, Fail> {
+    let hint = hint_of(alloc, text, number, ModelWord::Emit)?;
+    let mut told = Vec::new(alloc);
+    if let Some(circle) = hint.circle {
+        told.extend_from_slice(circle.emitter)?;
+        told.push(b' ')?;
+        told.extend_from_slice(circle.user)?;
+    }
+    Ok(told)
+}
+
+#[test]
+fn both_chronicles_of_a_circle_are_named(rt: HostRuntime) -> Result<(), Fail> {
+    let alloc = rt.alloc();
+    let two =
+        b"derived p 0\nderived q 0\nchronicle low {\n event(q, t)\n emit(p, t)\n}\nprompt chronicle high {\n event(p, t)\n emit(q, t)\n".as_slice();
+    assert!(rt; circle_of(alloc, two, 9)?.as_slice() == b"high low".as_slice());
+    let counted =
+        b"derived p 0\nchronicle c {\n event(a, t)\n occurs((0, 1), p, (t, t + 1))\n}\nchronicle d {\n event(a, t)\n emit(p, t)\n".as_slice();
+    assert!(rt; circle_of(alloc, counted, 8)?.as_slice() == b"d c".as_slice());
+    let own =
+        b"derived p 0\nchronicle c {\n event(a, t)\n emit(p, t)\n noevent(p, (t, t + 1))\n".as_slice();
+    assert!(rt; circle_of(alloc, own, 5)?.as_slice() == b"c c".as_slice());
+    let none = b"derived p 0\nchronicle c {\n event(a, t)\n emit(p, t)\n".as_slice();
+    assert!(rt; circle_of(alloc, none, 4)?.is_empty());
+    Ok(())
+}
+
+#[test]
 fn natural_mistakes_of_form_are_told(rt: HostRuntime) -> Result<(), Fail> {
     all_are_told(&rt, rt.alloc(), ModelWord::Form, OF_FORM)
 }
@@ -113,6 +186,7 @@ fn natural_mistakes_of_meaning_are_told(rt: HostRuntime) -> Result<(), Fail> {
         (
             ModelWord::Name,
             "6 | event(unknown, t3) | no line above declares this name
+5 | hold(pair: on, (t1, t2)) | a hold names a message or a derived name
 ",
         ),
         (

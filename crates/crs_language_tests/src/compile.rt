@@ -122,6 +122,7 @@ fn chronicle(
     requires windows_few { length windows ≤ 1 }
     requires windows { AllByRecursion (λ w. IsProperBody (map name_of names.now) 0 w.body × IsProperAnchor 2 w.from × IsProperAnchor 2 w.to) (map window_of windows) }
     ensures proper { IfOk result (λ c. IsProperChronicle (map name_of names.now) (chronicle_of c)) }
+    ensures quiet { IfOk result (λ c. c.emits ≡ []) }
     ensures printable { (texts : List (List ℕ)) → 5 < length texts → IfOk result (λ c. IsPrintable texts (chronicle_of c)) }
 {
     Ok(Chronicle {
@@ -135,19 +136,25 @@ fn chronicle(
         sets: List::new(alloc),
         differs: List::new(alloc),
         windows,
+        emits: List::new(alloc),
     })
 }
 
 /// The models of two messages and these chronicles.
-fn together(names: List<Name>, chronicles: List<Chronicle>) -> Models
+fn together(alloc: Global, names: List<Name>, chronicles: List<Chronicle>) -> Models
     requires symbols { map (λ n. n.name.0) names ≡ 1 ∷ 2 ∷ [] }
     requires plain { AllByRecursion (λ n. (n.arity ≡ 0) × (n.kind ≡ Message)) names }
     requires few { length chronicles ≤ 64 }
+    requires quiet { AllByRecursion (λ c. c.emits ≡ []) chronicles }
     requires proper { AllByRecursion (IsProperChronicle (map name_of names)) (map chronicle_of chronicles) }
     ensures chronicles { result.chronicles ≡ chronicles }
     ensures proper { AreProper (models_of result) }
 {
-    Models { names, chronicles }
+    Models {
+        names,
+        derived: List::new(alloc),
+        chronicles,
+    }
 }
 
 /// The models of one chronicle.
@@ -155,12 +162,13 @@ fn alone(alloc: Global, names: List<Name>, chronicle: Chronicle) -> Result<Model
     requires symbols { map (λ n. n.name.0) names ≡ 1 ∷ 2 ∷ [] }
     requires plain { AllByRecursion (λ n. (n.arity ≡ 0) × (n.kind ≡ Message)) names }
     requires proper { IsProperChronicle (map name_of names) (chronicle_of chronicle) }
+    requires quiet { chronicle.emits ≡ [] }
     ensures chronicles { IfOk result (λ models. models.chronicles ≡ chronicle ∷ []) }
     ensures proper { IfOk result (λ models. AreProper (models_of models)) }
 {
     let mut chronicles = List::new(alloc);
     chronicles.push(chronicle)?;
-    Ok(together(names, chronicles))
+    Ok(together(alloc, names, chronicles))
 }
 
 /// The text of the least bounds of the models of one chronicle.
@@ -275,7 +283,8 @@ fn a_window_reaches_back(rt: HostRuntime) -> Result<(), Fail> {
 fn inconsistent(alloc: Global, names: &List<Name>, line: u32) -> Result<Chronicle, AllocError>
     requires symbols { map (λ n. n.name.0) names.now ≡ 1 ∷ 2 ∷ [] }
     requires plain { AllByRecursion (λ n. (n.arity ≡ 0) × (n.kind ≡ Message)) names.now }
-    ensures { IfOk result (λ c. IsProperChronicle (map name_of names.now) (chronicle_of c)) }
+    ensures proper { IfOk result (λ c. IsProperChronicle (map name_of names.now) (chronicle_of c)) }
+    ensures quiet { IfOk result (λ c. c.emits ≡ []) }
 {
     // t2 - t1 in [5, 10], and t2 - t1 in [0, 4]
     let bounds = [
@@ -293,6 +302,7 @@ fn three_chronicles(alloc: Global, names: &List<Name>) -> Result<List<Chronicle>
     requires plain { AllByRecursion (λ n. (n.arity ≡ 0) × (n.kind ≡ Message)) names.now }
     ensures few { IfOk result (λ chronicles. length chronicles ≤ 64) }
     ensures proper { IfOk result (λ chronicles. AllByRecursion (IsProperChronicle (map name_of names.now)) (map chronicle_of chronicles)) }
+    ensures quiet { IfOk result (λ chronicles. AllByRecursion (λ c. c.emits ≡ []) chronicles) }
 {
     let mut chronicles = List::new(alloc);
     chronicles.push(chronicle(alloc, names, 5, &[], List::new(alloc))?)?;
@@ -310,7 +320,7 @@ fn the_first_inconsistent_chronicle_is_named(rt: HostRuntime) -> Result<(), Fail
         line: 9,
         word: ModelWord::Inconsistent,
     };
-    match compile(alloc, together(names, chronicles)) {
+    match compile(alloc, together(alloc, names, chronicles)) {
         Ok(_plans) => assert!(rt; false),
         Err(why) => assert!(rt; why == refused),
     }
@@ -324,6 +334,7 @@ fn no_models(alloc: Global) -> Models
 {
     Models {
         names: List::new(alloc),
+        derived: List::new(alloc),
         chronicles: List::new(alloc),
     }
 }

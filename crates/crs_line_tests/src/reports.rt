@@ -20,7 +20,7 @@ use std::test::Fail;
 
 #[test]
 fn each_refusal_has_its_line(rt: HostRuntime) -> Result<(), Fail> {
-    let rows: [(Fault, &[u8]); 9] = [
+    let rows: [(Fault, &[u8]); 10] = [
         (Fault::Long, b"line 7 long\n"),
         (Fault::Form, b"line 7 form\n"),
         (Fault::Order, b"line 7 order\n"),
@@ -36,6 +36,7 @@ fn each_refusal_has_its_line(rt: HostRuntime) -> Result<(), Fail> {
         (Fault::Value, b"line 7 value\n"),
         (Fault::Full { limit: 1 }, b"line 7 full 1\n"),
         (Fault::Values { limit: 0 }, b"line 7 values 0\n"),
+        (Fault::Flood { limit: 4 }, b"line 7 flood 4\n"),
     ];
     for (fault, line) in rows {
         let text = refusal_line(rt.alloc(), 7, fault)?;
@@ -146,6 +147,7 @@ fn undervolt(alloc: Global) -> Result<Chronicle, AllocError>
         sets: List::new(alloc),
         differs: List::new(alloc),
         windows: List::new(alloc),
+        emits: List::new(alloc),
     })
 }
 
@@ -158,11 +160,13 @@ fn plans_of(alloc: Global, chronicle: Chronicle) -> Result<Plans, Fail>
         chronicle,
         network,
         reach: None,
+        lag: Some(0),
     };
     let mut plans = List::new(alloc);
     plans.push(Rc::new(alloc, plan)?)?;
     Ok(Plans {
         names: List::new(alloc),
+        derived: List::new(alloc),
         plans,
         reach: None,
     })

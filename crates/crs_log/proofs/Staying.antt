@@ -44,10 +44,10 @@ pub record Follows (s t : State) : Type 0 where
   pub later : s.horizon ≤ t.horizon
   pub marked : s.marked ≤ t.marked
 
-follows_itself : (s : State) → Follows s s
+pub follows_itself : (s : State) → Follows s s
 follows_itself s = record { new = []; more = sym (append-nil s.accepted); on_time = λ e i. absurd i; later = omega arith; marked = omega arith }
 
-follows_on : (s t u : State) → Follows s t → Follows t u → Follows s u
+pub follows_on : (s t u : State) → Follows s t → Follows t u → Follows s u
 follows_on s t u a b = record {
   new = a.new ++ b.new;
   more = b.more ∙ ap (λ (xs : List (Entry (List ℕ))). xs ++ b.new) a.more ∙ append_assoc s.accepted a.new b.new;
@@ -58,14 +58,14 @@ follows_on s t u a b = record {
 
 -- ---- one line
 
-abbrev Leads : State → State → Type 0
+abbrev pub Leads : State → State → Type 0
 Leads s t = IsSound t × Follows s t
 
 stands : (s : State) → IsSound s → Leads s s
 stands s k = (k, follows_itself s)
 
 -- a number of a log is below 2^40
-in_range : (word : List ℕ) (t : ℕ) → log_number_of word ≡ Some t → t < 2 ^ 40
+pub in_range : (word : List ℕ) (t : ℕ) → log_number_of word ≡ Some t → t < 2 ^ 40
 in_range word t e =
     let c = chained in_log_dates (number_of word) t e in
     let g = guarded (nat_lt c.0 1099511627776) (Some c.0) t c.2 in
@@ -80,7 +80,7 @@ clock_in line (Some item) k t h =
     let is = item_sound line (Clock t) (k ∙ ap Some same) in
     in_range (is.2).0 t (is.2).2
 
-clock_read : (line : List ℕ) (t : ℕ) → what_of line ≡ Is (Clock t) → t < 2 ^ 40
+pub clock_read : (line : List ℕ) (t : ℕ) → what_of line ≡ Is (Clock t) → t < 2 ^ 40
 clock_read line t = by (is_passed_over line)
   where
     by : (b : Bool) → cond b Empty (what_is (item_of line)) ≡ Is (Clock t) → t < 2 ^ 40
@@ -164,13 +164,13 @@ module _ (c : Setting) (s : State) (sound : IsSound s) where
   by_what Faulty small = stands s sound
   by_what (Is item) small = by_end item small s.ended
 
-  by_line : (g : Given) → Leads s (after_line c s g).0
+  pub by_line : (g : Given) → Leads s (after_line c s g).0
   by_line (Long n) = stands s sound
   by_line (Plain n bytes) = by_what (what_of bytes) (record { event = line_read bytes; clock = clock_read bytes })
 
 -- ---- further lines
 
-further : (c : Setting) (s : State) → IsSound s → (gs : List Given) → Leads s (after_lines c s gs)
+pub further : (c : Setting) (s : State) → IsSound s → (gs : List Given) → Leads s (after_lines c s gs)
 further c s sound [] = stands s sound
 further c s sound (g ∷ gs) =
     let one = by_line c s sound g in
@@ -233,7 +233,7 @@ module _ (s t : State) (sound : IsSound s) (sound_then : IsSound t) (f : Follows
 
 -- ---- lines of a log
 
-begins_sound : (texts : List (List ℕ)) → IsSound (at_start texts)
+pub begins_sound : (texts : List (List ℕ)) → IsSound (at_start texts)
 begins_sound texts = record { accepted = none_accepted; counted = omega arith; within = omega arith }
 
 lines_on : (c : Setting) (s : State) (gs hs : List Given) → after_lines c s (gs ++ hs) ≡ after_lines c (after_lines c s gs) hs

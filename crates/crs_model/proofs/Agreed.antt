@@ -4,8 +4,8 @@ use Rattle.std.specs.Prelude.{Option, Some, None, IfSome, option_map}
 use Rattle.std.specs.List.{AllByRecursion}
 use Rattle.crs_base.specs.Entry.{Entry}
 use Rattle.crs_base.proofs.Alls.{all_each}
-use Rattle.crs_model.specs.Models.{Term, Value, Var, Any, Pattern, EventDef, VarSet, Body, NoEvent, Occurs, Hold, Window, Chronicle, Kind, Message, Attribute, Name}
-use Rattle.crs_model.specs.Renaming.{renamed_term, renamed_pattern, renamed_event, renamed_set, renamed_body, renamed_window, renamed_chronicle, renamed_kind, renamed_name, renamed_entry, IsTermOf, IsPatternOf, IsBodyOf, IsChronicleOf, IsKindOf, IsNameOf, IsEntryOf}
+use Rattle.crs_model.specs.Models.{Term, Value, Var, Any, Pattern, EventDef, VarSet, Body, NoEvent, Occurs, Hold, Window, Emit, Chronicle, Kind, Message, Attribute, Name}
+use Rattle.crs_model.specs.Renaming.{renamed_term, renamed_pattern, renamed_event, renamed_set, renamed_body, renamed_window, renamed_emit, renamed_chronicle, renamed_kind, renamed_name, renamed_entry, IsTermOf, IsPatternOf, IsBodyOf, IsChronicleOf, IsKindOf, IsNameOf, IsEntryOf}
 
 -- each of a list
 pub all_same : {A B : Type 0} (f g : A → B) (Q : A → Type 0) (xs : List A) → ((x : A) → Q x → f x ≡ g x) → AllByRecursion Q xs → map f xs ≡ map g xs
@@ -56,6 +56,9 @@ module _ {S T : Type 0} (f g : S → T) (P : S → Type 0) (same : (s : S) → P
   same_windows : (ws : List (Window S)) → AllByRecursion (λ w. IsBodyOf P w.body) ws → map (renamed_window f) ws ≡ map (renamed_window g) ws
   same_windows ws h = all_same (renamed_window f) (renamed_window g) (λ w. IsBodyOf P w.body) ws (λ w k i. record { body = same_body w.body k i; from = w.from; to = w.to }) h
 
+  same_emits : (es : List (Emit S)) → AllByRecursion (λ e. IsPatternOf P e.pattern) es → map (renamed_emit f) es ≡ map (renamed_emit g) es
+  same_emits es h = all_same (renamed_emit f) (renamed_emit g) (λ e. IsPatternOf P e.pattern) es (λ e k i. record { pattern = same_pattern e.pattern k i; event = e.event }) h
+
   pub same_chronicle : (c : Chronicle S) → IsChronicleOf P c → renamed_chronicle f c ≡ renamed_chronicle g c
   same_chronicle c h = λ i. record {
     name = same c.name h.name i;
@@ -68,6 +71,7 @@ module _ {S T : Type 0} (f g : S → T) (P : S → Type 0) (same : (s : S) → P
     sets = same_sets c.sets h.sets i;
     differs = c.differs;
     windows = same_windows c.windows h.windows i;
+    emits = same_emits c.emits h.emits i;
   }
 
   same_kind : (k : Kind S) → IsKindOf P k → renamed_kind f k ≡ renamed_kind g k
@@ -122,6 +126,7 @@ module _ {S : Type 0} (P Q : S → Type 0) (more : (s : S) → P s → Q s) wher
     variables = symbols_more c.variables h.variables;
     sets = all_each {P = λ s. AllByRecursion P s.values} c.sets (λ s k. symbols_more s.values k) h.sets;
     windows = all_each {P = λ w. IsBodyOf P w.body} c.windows (λ w k. body_more w.body k) h.windows;
+    emits = all_each {P = λ e. IsPatternOf P e.pattern} c.emits (λ e k. pattern_more e.pattern k) h.emits;
   }
 
   entry_more : (e : Entry S) → IsEntryOf P e → IsEntryOf Q e

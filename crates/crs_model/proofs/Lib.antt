@@ -25,6 +25,7 @@ pub mod RenamedLive
 pub mod Agreed
 pub mod Unique
 pub mod Twins
+pub mod PairedLists
 pub mod TwinLists
 pub mod Ties
 pub mod TwinPools
@@ -38,3 +39,6 @@ pub mod WindowLaws
 pub mod Beginning
 pub mod Reaching
 pub mod Holding
+pub mod Lagging
+pub mod Heights
+pub mod RenamedLags

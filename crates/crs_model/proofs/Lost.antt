@@ -56,7 +56,7 @@ module _ {S : Type 0} (entries more : List (Entry S)) (h g : ℕ) (later : h ≤
   not_dated : (from to : ℤ) → to ≤ℤ pos h → (e : Entry S) → IsIn e more → IsDatedIn from to e → ⊥
   not_dated from to l e i d = out_of to to e.date h l (late e i) d.1
 
-  so_back : (look : Binding S) (body : Body S) (from to : ℤ) → to ≤ℤ pos h → IsSo (entries ++ more) look body from to → IsSo entries look body from to
+  pub so_back : (look : Binding S) (body : Body S) (from to : ℤ) → to ≤ℤ pos h → IsSo (entries ++ more) look body from to → IsSo entries look body from to
   so_back look (NoEvent p) from to l so = count_none _ entries more 0 (λ e i d. not_dated from to l e i d.0) so
   so_back look (Occurs least most p) from to l so = (so.0, count_none _ entries more so.0 (λ e i d. not_dated from to l e i d.0) so.1, so.2, so.3)
   so_back look (Hold name terms value) from to l so = λ a v is t b c. held_back a t v (omega (arith, ints)) (so a v is t b c)

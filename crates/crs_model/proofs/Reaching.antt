@@ -33,7 +33,7 @@ by_most : (bounds : List Bound) (p q : ℕ) (o : Option ℤ) (r off : ℤ) (t : 
 by_most bounds p q None r off t is l m = absurd l
 by_most bounds p q (Some b) r off t is l m = let k = is.0 t m in omega (arith, ints)
 
-by_pair : (bounds : List Bound) (p q : ℕ) (o : Option ℤ) (r : ℤ) (t : ℕ → ℤ) → IsMost bounds p q o → Bounds (Some r) o → Meets bounds t
+pub by_pair : (bounds : List Bound) (p q : ℕ) (o : Option ℤ) (r : ℤ) (t : ℕ → ℤ) → IsMost bounds p q o → Bounds (Some r) o → Meets bounds t
     → t q ≤ℤ (t p +ℤ r)
 by_pair bounds p q None r t is l m = absurd l
 by_pair bounds p q (Some b) r t is l m = let k = is.0 t m in omega (arith, ints)

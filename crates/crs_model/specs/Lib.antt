@@ -16,7 +16,9 @@ pub mod SeenModels
 pub mod Bindings
 pub mod Held
 pub mod Reach
+pub mod Hierarchy
 pub mod Plans
+pub mod ShortLags
 pub mod Renaming
 pub mod HasProgress
 pub mod Ready

@@ -38,6 +38,11 @@ pub record Window (S : Type 0) : Type 0 where
   pub from : Anchor
   pub to : Anchor
 
+-- an entry that each recognition gives: of the pattern's name, with its terms' symbols, dated as the event
+pub record Emit (S : Type 0) : Type 0 where
+  pub pattern : Pattern S
+  pub event : ℕ
+
 -- Point i is event i's point, and the free points follow. Variables are numbered by first occurrence in the events' patterns.
 -- Its line is the one that closes it in the text. A prompt one takes entries as soon as they are accepted.
 pub record Chronicle (S : Type 0) : Type 0 where
@@ -51,6 +56,7 @@ pub record Chronicle (S : Type 0) : Type 0 where
   pub sets : List (VarSet S)
   pub differs : List (ℕ × ℕ)
   pub windows : List (Window S)
+  pub emits : List (Emit S)
 
 -- a declared name is of a message, or of an attribute whose new values may be listed
 pub data Kind (S : Type 0) : Type 0 where
@@ -62,7 +68,8 @@ pub record Name (S : Type 0) : Type 0 where
   pub arity : ℕ
   pub kind : Kind S
 
--- what a models text means: its declared names and its chronicles, each in file order
+-- what a models text means: its declared names, its derived names and its chronicles, each in file order
 pub record Models (S : Type 0) : Type 0 where
   pub names : List (Name S)
+  pub derived : List (Name S)
   pub chronicles : List (Chronicle S)

@@ -10,6 +10,7 @@ use Rattle.crs_model.specs.declared.plan.Plan.{Plan}
 use Rattle.crs_model.specs.Models.{Chronicle, Name}
 use Rattle.crs_model.specs.Proper.{IsNamed}
 use Rattle.crs_model.specs.ProperModels.{AreShort, IsProperChronicle}
+use Rattle.crs_model.specs.Hierarchy.{IsLagOf}
 use Rattle.crs_model.specs.Reach.{IsReachOf, IsSmallSpan}
 use Rattle.crs_model.specs.Bindings.{PatternIsBelow}
 use Rattle.crs_model.specs.SeenModels.{chronicle_of}
@@ -17,7 +18,7 @@ use Rattle.crs_model.specs.SeenModels.{chronicle_of}
 abbrev pub chronicle : Plan → Chronicle Sym
 chronicle p = chronicle_of p.chronicle
 
--- the chronicle is proper for some declared names, whole dates meet its bounds, and the network and the reach are its own
+-- the chronicle is proper for some declared names, whole dates meet its bounds, and the network, the reach and the lag are its own
 pub record IsProper (p : Plan) : Type 0 where
   pub points : p.network.points ≡ length p.chronicle.events + length p.chronicle.free
   pub few : p.network.points ≤ POINT_LIMIT
@@ -32,3 +33,5 @@ pub record IsProper (p : Plan) : Type 0 where
   pub declared : (names : List (Name Sym)) × AreShort names × IsProperChronicle names (chronicle p)
   pub reach : IsReachOf (chronicle p) (most_of p.network) p.reach
   pub small : IsSmallSpan p.reach
+  pub lag : IsLagOf (chronicle p) (most_of p.network) p.lag
+  pub quick : IsSmallSpan p.lag

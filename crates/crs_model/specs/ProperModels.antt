@@ -1,11 +1,12 @@
 -- What every accepted model meets.
-use Rattle.std.specs.Prelude.{◌≡◌, ◌<◌, ◌≤◌, ◌≤ℤ◌, ◌+ℤ◌, ◌+◌, ◌*◌, ℕ, pos, List, ◌∷◌, length, Option, Some, None, IfSome}
+use Rattle.std.specs.Prelude.{◌≡◌, ◌<◌, ◌≤◌, ◌≤ℤ◌, ◌+ℤ◌, ◌+◌, ◌*◌, ℕ, pos, List, ◌∷◌, ◌++◌, length, Option, Some, None, IfSome}
 use Rattle.std.specs.List.{AllByRecursion}
 use Rattle.crs_base.specs.Words.{IsIn}
 use Rattle.crs_stn.specs.Bound.{IsWithin}
-use Rattle.crs_model.specs.declared.limits.TheConstants.{TICK_LIMIT, LEVEL_LIMIT, EVENT_LIMIT, POINT_LIMIT, DISTANCE_LIMIT, VARIABLE_LIMIT, WINDOW_LIMIT, NAME_LIMIT, ARITY_LIMIT, CHRONICLE_LIMIT}
-use Rattle.crs_model.specs.Models.{Term, Value, Var, Any, Pattern, EventDef, Anchor, Body, NoEvent, Occurs, Hold, Window, Chronicle, Kind, Message, Attribute, Name, Models}
+use Rattle.crs_model.specs.declared.limits.TheConstants.{TICK_LIMIT, LEVEL_LIMIT, EVENT_LIMIT, POINT_LIMIT, DISTANCE_LIMIT, VARIABLE_LIMIT, WINDOW_LIMIT, EMIT_LIMIT, NAME_LIMIT, ARITY_LIMIT, CHRONICLE_LIMIT}
+use Rattle.crs_model.specs.Models.{Term, Value, Var, Any, Pattern, EventDef, Anchor, Body, NoEvent, Occurs, Hold, Window, Emit, Chronicle, Kind, Message, Attribute, Name, Models}
 use Rattle.crs_model.specs.Bindings.{TermIsBelow, PatternIsBelow}
+use Rattle.crs_model.specs.Hierarchy.{AreInOrder}
 use Rattle.crs_model.specs.Proper.{IsNamed}
 
 -- the anchor names one of the events, and its offset has a size of at most the limit
@@ -67,6 +68,14 @@ module _ {S : Type 0} where
     pub below : PatternIsBelow (length c.variables) e.pattern
     pub level : e.level ≤ LEVEL_LIMIT
 
+  -- It is of a declared name without a change, its variables are the chronicle's, it has no `*`, and its event is one of the chronicle's.
+  pub record IsProperEmit (names : List (Name S)) (c : Chronicle S) (e : Emit S) : Type 0 where
+    pub declared : IsDeclared names e.pattern
+    pub plain : e.pattern.change ≡ None
+    pub below : PatternIsBelow (length c.variables) e.pattern
+    pub definite : AllByRecursion IsDefinite e.pattern.terms
+    pub event : e.event < length c.events
+
   -- the counts, the numbers of points and variables, and the names of an accepted chronicle
   pub record IsProperChronicle (names : List (Name S)) (c : Chronicle S) : Type 0 where
     pub events_some : 0 < length c.events
@@ -75,15 +84,18 @@ module _ {S : Type 0} where
     pub bounds_few : length c.bounds ≤ 2 * DISTANCE_LIMIT
     pub variables_few : length c.variables ≤ VARIABLE_LIMIT
     pub windows_few : length c.windows ≤ WINDOW_LIMIT
+    pub emits_few : length c.emits ≤ EMIT_LIMIT
     pub within : IsWithin (length c.events + length c.free) c.bounds
     pub events : AllByRecursion (IsProperEvent names c) c.events
     pub named : IsNamed c
     pub sets : AllByRecursion (λ s. s.variable < length c.variables) c.sets
     pub differs : AllByRecursion (λ d. (d.0 < length c.variables) × (d.1 < length c.variables)) c.differs
     pub windows : AllByRecursion (IsProperWindow names c) c.windows
+    pub emits : AllByRecursion (IsProperEmit names c) c.emits
 
   pub record AreProper (m : Models S) : Type 0 where
-    pub names_few : length m.names ≤ NAME_LIMIT
-    pub arities : AreShort m.names
+    pub names_few : length m.names + length m.derived ≤ NAME_LIMIT
+    pub arities : AreShort (m.names ++ m.derived)
     pub chronicles_few : length m.chronicles ≤ CHRONICLE_LIMIT
-    pub chronicles : AllByRecursion (IsProperChronicle m.names) m.chronicles
+    pub chronicles : AllByRecursion (IsProperChronicle (m.names ++ m.derived)) m.chronicles
+    pub in_order : AreInOrder m.chronicles

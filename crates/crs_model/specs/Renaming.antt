@@ -4,7 +4,7 @@ use Rattle.std.specs.List.{AllByRecursion}
 use Rattle.crs_base.specs.Symbols.{text_at}
 use Rattle.crs_base.specs.declared.symbols.Sym.{Sym}
 use Rattle.crs_base.specs.Entry.{Entry}
-use Rattle.crs_model.specs.Models.{Term, Value, Var, Any, Pattern, EventDef, VarSet, Body, NoEvent, Occurs, Hold, Window, Chronicle, Kind, Message, Attribute, Name, Models}
+use Rattle.crs_model.specs.Models.{Term, Value, Var, Any, Pattern, EventDef, VarSet, Body, NoEvent, Occurs, Hold, Window, Emit, Chronicle, Kind, Message, Attribute, Name, Models}
 use Rattle.crs_model.specs.Matching.{Assignment}
 
 -- a symbol's text
@@ -38,6 +38,9 @@ module _ {S T : Type 0} (f : S → T) where
   abbrev pub renamed_window : Window S → Window T
   renamed_window w = record { body = renamed_body w.body; from = w.from; to = w.to }
 
+  abbrev pub renamed_emit : Emit S → Emit T
+  renamed_emit e = record { pattern = renamed_pattern e.pattern; event = e.event }
+
   abbrev pub renamed_chronicle : Chronicle S → Chronicle T
   renamed_chronicle c = record {
     name = f c.name;
@@ -50,6 +53,7 @@ module _ {S T : Type 0} (f : S → T) where
     sets = map renamed_set c.sets;
     differs = c.differs;
     windows = map renamed_window c.windows;
+    emits = map renamed_emit c.emits;
   }
 
   abbrev pub renamed_kind : Kind S → Kind T
@@ -60,7 +64,7 @@ module _ {S T : Type 0} (f : S → T) where
   renamed_name n = record { name = f n.name; arity = n.arity; kind = renamed_kind n.kind }
 
   abbrev pub renamed_models : Models S → Models T
-  renamed_models m = record { names = map renamed_name m.names; chronicles = map renamed_chronicle m.chronicles }
+  renamed_models m = record { names = map renamed_name m.names; derived = map renamed_name m.derived; chronicles = map renamed_chronicle m.chronicles }
 
   -- its canonical text is of bytes already
   abbrev pub renamed_entry : Entry S → Entry T
@@ -94,6 +98,7 @@ module _ {S : Type 0} (P : S → Type 0) where
     pub variables : AllByRecursion P c.variables
     pub sets : AllByRecursion (λ s. AllByRecursion P s.values) c.sets
     pub windows : AllByRecursion (λ w. IsBodyOf w.body) c.windows
+    pub emits : AllByRecursion (λ e. IsPatternOf e.pattern) c.emits
 
   abbrev pub IsKindOf : Kind S → Type 0
   IsKindOf Message = Unit {0}
@@ -105,6 +110,7 @@ module _ {S : Type 0} (P : S → Type 0) where
 
   pub record AreModelsOf (m : Models S) : Type 0 where
     pub names : AllByRecursion IsNameOf m.names
+    pub derived : AllByRecursion IsNameOf m.derived
     pub chronicles : AllByRecursion IsChronicleOf m.chronicles
 
   pub record IsEntryOf (e : Entry S) : Type 0 where

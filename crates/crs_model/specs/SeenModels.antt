@@ -10,6 +10,7 @@ use Rattle.crs_model.specs.declared.chronicle.Anchor.{Anchor as CodeAnchor}
 use Rattle.crs_model.specs.declared.chronicle.Body.{Body as CodeBody}
 use Rattle.crs_model.specs.declared.chronicle.Body.TheVariants.{NoEvent as CodeNoEvent, Occurs as CodeOccurs, Hold as CodeHold}
 use Rattle.crs_model.specs.declared.chronicle.Window.{Window as CodeWindow}
+use Rattle.crs_model.specs.declared.chronicle.Emit.{Emit as CodeEmit}
 use Rattle.crs_model.specs.declared.chronicle.Chronicle.{Chronicle as CodeChronicle}
 use Rattle.crs_model.specs.declared.models.Kind.{Kind as CodeKind}
 use Rattle.crs_model.specs.declared.models.Kind.TheVariants.{Message as CodeMessage, Attribute as CodeAttribute}
@@ -18,7 +19,7 @@ use Rattle.crs_model.specs.declared.models.Models.{Models as CodeModels}
 use Rattle.crs_base.specs.Seen.{entry_of}
 use Rattle.crs_model.specs.declared.recognition.Recognition.{Recognition as CodeRecognition}
 use Rattle.crs_model.specs.Matching.{Assignment}
-use Rattle.crs_model.specs.Models.{Term, Value, Var, Any, Pattern, EventDef, VarSet, Anchor, Body, NoEvent, Occurs, Hold, Window, Chronicle, Kind, Message, Attribute, Name, Models}
+use Rattle.crs_model.specs.Models.{Term, Value, Var, Any, Pattern, EventDef, VarSet, Anchor, Body, NoEvent, Occurs, Hold, Window, Emit, Chronicle, Kind, Message, Attribute, Name, Models}
 
 abbrev pub term_of : CodeTerm → Term Sym
 term_of (CodeValue s) = Value s
@@ -45,8 +46,11 @@ body_of (CodeHold name terms value) = Hold name (map term_of terms) (term_of val
 abbrev pub window_of : CodeWindow → Window Sym
 window_of w = record { body = body_of w.body; from = anchor_of w.from; to = anchor_of w.to }
 
+abbrev pub emit_of : CodeEmit → Emit Sym
+emit_of e = record { pattern = pattern_of e.pattern; event = e.event }
+
 abbrev pub chronicle_of : CodeChronicle → Chronicle Sym
-chronicle_of c = record { name = c.name; prompt = c.prompt; line = c.line; events = map event_of c.events; free = c.free; bounds = c.bounds; variables = c.variables; sets = map set_of c.sets; differs = c.differs; windows = map window_of c.windows }
+chronicle_of c = record { name = c.name; prompt = c.prompt; line = c.line; events = map event_of c.events; free = c.free; bounds = c.bounds; variables = c.variables; sets = map set_of c.sets; differs = c.differs; windows = map window_of c.windows; emits = map emit_of c.emits }
 
 abbrev pub kind_of : CodeKind → Kind Sym
 kind_of CodeMessage = Message
@@ -56,7 +60,7 @@ abbrev pub name_of : CodeName → Name Sym
 name_of n = record { name = n.name; arity = n.arity; kind = kind_of n.kind }
 
 abbrev pub models_of : CodeModels → Models Sym
-models_of m = record { names = map name_of m.names; chronicles = map chronicle_of m.chronicles }
+models_of m = record { names = map name_of m.names; derived = map name_of m.derived; chronicles = map chronicle_of m.chronicles }
 
 -- those that are there
 abbrev pub given : {S : Type 0} → List (Option S) → List S

@@ -3,7 +3,7 @@
 /// The most bytes of a models text.
 pub const SIZE_LIMIT: usize = 1 << 20;
 
-/// The most declared names.
+/// The most declared names, derived ones included.
 pub const NAME_LIMIT: usize = 256;
 
 /// The most arguments of a declared name.
@@ -32,6 +32,9 @@ pub const DIFFERENCE_LIMIT: usize = 64;
 
 /// The most windows of a chronicle.
 pub const WINDOW_LIMIT: usize = 16;
+
+/// The most entries that each recognition of a chronicle gives.
+pub const EMIT_LIMIT: usize = 8;
 
 /// The greatest level of an event.
 pub const LEVEL_LIMIT: u64 = 7;

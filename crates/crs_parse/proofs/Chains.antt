@@ -1,5 +1,5 @@
 -- The first fault of a statement, by the first of some of its parts.
-use Rattle.std.proofs.Common.{◌≡◌, Bool, true, false, cond, ◌||◌, [], ◌∷◌, Option, Some, None, refl, sym, true≢false}
+use Rattle.std.proofs.Common.{◌≡◌, Bool, true, false, cond, ◌||◌, [], ◌∷◌, Option, Some, None, refl, sym, ◌∙◌, true≢false}
 use Rattle.crs_parse.specs.Faults.{first_of}
 use Rattle.crs_model.specs.declared.models.ModelWord.{ModelWord}
 use Rattle.crs_model.specs.declared.models.ModelWord.TheVariants.{Twice, Name as NameWord, Arity as ArityWord, Value as ValueWord, Point as PointWord, Bound as BoundWord, Window as WindowWord, Limit as LimitWord, Events as EventsWord, Unbound as UnboundWord}
@@ -36,6 +36,21 @@ range_found false false false false true f g r w h k = sym k
 range_found false false false false false true g r w h k = sym k
 range_found false false false false false false true r w h k = sym k
 range_found false false false false false false false r w h k = absurd (none_some w k)
+
+-- a fault of what an `emit` names
+pub emit_named : (a b : Bool) (r : Option ModelWord) (w : ModelWord) → Some w ≡ first_of ((NameWord, a) ∷ (ArityWord, b) ∷ []) → cond a (Some NameWord) (cond b (Some ArityWord) r) ≡ Some w
+emit_named true b r w k = sym k
+emit_named false true r w k = sym k
+emit_named false false r w k = absurd (none_some w k)
+
+-- the answer of two tests one behind the other
+pub either_first : (r a b : Bool) → r ≡ a → r ≡ true → r ≡ (a || b)
+either_first r true b e k = e
+either_first r false b e k = absurd (true≢false (sym k ∙ e))
+
+pub either_last : (r q a b : Bool) → q ≡ a → q ≡ false → r ≡ b → r ≡ (a || b)
+either_last r q true b e k f = absurd (true≢false (sym e ∙ k))
+either_last r q false b e k f = f
 
 -- the words at the close of a chronicle
 pub closing_unbound : (a b : Bool) → a ≡ false → b ≡ true → Some UnboundWord ≡ cond a (Some EventsWord) (cond b (Some UnboundWord) None)

@@ -6,7 +6,7 @@ use Rattle.std.proofs.lemmas.Bool.{ltb-false, leb-false, or_parts}
 use Rattle.std.proofs.lemmas.Int.{ints}
 use Rattle.crs_model.specs.declared.models.ModelWord.{ModelWord}
 use Rattle.crs_grammar.specs.Statements.{Statement}
-use Rattle.crs_parse.specs.Faults.{Name, Written, first_of, faults_of, is_twice, has_no_name, has_wrong_arity, has_wrong_value, has_no_variable, has_no_point, is_out_of_bounds, has_any, passes_count, lacks_events, is_unbound, is_above, is_far}
+use Rattle.crs_parse.specs.Faults.{Name, Written, first_of, faults_of, is_twice, has_no_name, has_wrong_arity, has_wrong_value, has_no_variable, has_no_point, is_out_of_bounds, has_any, passes_count, is_looped, lacks_events, is_unbound, is_above, is_far}
 use Rattle.crs_parse.specs.HeldStatements.{IsNear}
 
 pub not_false : (a : Bool) → not a ≡ false → a ≡ true
@@ -25,6 +25,7 @@ pub record IsFaultless (full : Bool) (names : List Name) (done : List (ℕ × Wr
   pub window : has_any s ≡ false
   pub count : passes_count names done c s ≡ false
   pub room : full ≡ false
+  pub unlooped : is_looped done c s ≡ false
   pub events : lacks_events c s ≡ false
   pub unbound : is_unbound c s ≡ false
 
@@ -36,9 +37,9 @@ none_first : (fs : List (ModelWord × Bool)) → first_of fs ≡ None → AllByR
 none_first [] e = tt
 none_first ((w, b) ∷ fs) e = let h = first_step w b (first_of fs) e in (h.0, none_first fs h.1)
 
-pub faultless : (full : Bool) (names : List Name) (done : List (ℕ × Written)) (c : Written) (s : Statement) → first_of (faults_of full names done c s) ≡ None → IsFaultless full names done c s
+pub faultless : (full : Bool) (names : List Name) (done : List (ℕ × Written)) (c : Written) (s : Statement) → first_of (faults_of full (is_looped done c s) names done c s) ≡ None → IsFaultless full names done c s
 faultless full names done c s e =
-    let h = none_first (faults_of full names done c s) e in
+    let h = none_first (faults_of full (is_looped done c s) names done c s) e in
     let both = or_parts (passes_count names done c s) full h.1.1.1.1.1.1.1.1.0 in
     record {
       twice = h.0;
@@ -51,8 +52,9 @@ faultless full names done c s e =
       window = h.1.1.1.1.1.1.1.0;
       count = both.0;
       room = both.1;
-      events = h.1.1.1.1.1.1.1.1.1.0;
-      unbound = h.1.1.1.1.1.1.1.1.1.1.0;
+      unlooped = h.1.1.1.1.1.1.1.1.1.0;
+      events = h.1.1.1.1.1.1.1.1.1.1.0;
+      unbound = h.1.1.1.1.1.1.1.1.1.1.1.0;
     }
 
 pub not_le : (a b : ℕ) → nat_le a b ≡ false → b < a

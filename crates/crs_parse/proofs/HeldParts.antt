@@ -3,10 +3,10 @@ use Rattle.std.proofs.Common.{◌≡◌, ℕ, ◌+◌, ◌≤◌, ◌<◌, Bool,
 use Rattle.std.specs.Prelude.{IfSome}
 use Rattle.std.specs.List.{AllByRecursion, list_any}
 use Rattle.std.proofs.lemmas.Bool.{or_parts}
-use Rattle.crs_grammar.specs.Statements.{Term, Value, Variable, Any, Pattern, Event, Body, NoEvent, Occurs, Hold, Window, Distance, Heading, Statement, Message, Attribute, Begin, Happens, Point, Between, Among, Differ, Over, Close}
-use Rattle.crs_parse.specs.Faults.{Name, Written, symbols_of, term_symbols, terms_symbols, change_symbols, pattern_symbols, body_symbols, values_symbols, variable_in, variables_in, variables_of, change_terms, with_statement, is_full, is_above, is_below, is_any, body_has_any, has_any, has_wrong_counts, is_out_of_bounds, is_far, are_crossed, shift_size, begun, message_named, attribute_named}
+use Rattle.crs_grammar.specs.Statements.{Term, Value, Variable, Any, Pattern, Event, Emission, Body, NoEvent, Occurs, Hold, Window, Distance, Heading, Statement, Message, Attribute, Derived, Begin, Happens, Point, Between, Among, Differ, Over, Emits, Close}
+use Rattle.crs_parse.specs.Faults.{Name, Written, symbols_of, term_symbols, terms_symbols, change_symbols, pattern_symbols, body_symbols, values_symbols, variable_in, variables_in, variables_of, change_terms, with_statement, is_full, is_above, is_below, is_any, body_has_any, has_any, has_wrong_counts, is_out_of_bounds, is_far, are_crossed, shift_size, begun, message_named, attribute_named, derived_named}
 use Rattle.crs_parse.specs.Meant.{level_of}
-use Rattle.crs_parse.specs.HeldStatements.{IsHeld, AreHeld, IsHeldTerm, AreHeldTerms, IsHeldPattern, IsHeldEvent, IsHeldBody, IsFirmBody, IsHeldWindow, IsHeldSet, AreNear, IsHeldChronicle, IsHeldName}
+use Rattle.crs_parse.specs.HeldStatements.{IsHeld, AreHeld, IsHeldTerm, AreHeldTerms, IsHeldPattern, IsHeldEvent, IsHeldBody, IsFirmBody, IsHeldWindow, IsHeldEmission, IsHeldSet, AreNear, IsHeldChronicle, IsHeldName}
 use Rattle.crs_base.proofs.WithTexts.{all_with}
 use Rattle.crs_parse.proofs.Faultless.{IsFaultless, not_le, not_lt, not_above, not_far}
 use Rattle.crs_base.proofs.Alls.{all_append, all_put, all_left, all_right}
@@ -108,10 +108,17 @@ module _ (texts : List (List ℕ)) where
       record { events = not_le 16 (length c.events) d.0; points = not_le 24 (length c.events + length c.free) d.1; low = level_low level b.1; variables = not_lt 16 (length c.variables) a.1 }
 
   pub begun_held : (heading : Heading) → IsHeld texts heading.name → IsHeldChronicle texts (begun heading)
-  begun_held heading h = record { name = h; events = tt; free = tt; bounds = tt; variables = tt; sets = tt; windows = tt; few_variables = omega arith; few_points = omega arith }
+  begun_held heading h = record { name = h; events = tt; free = tt; bounds = tt; variables = tt; sets = tt; windows = tt; emits = tt; few_variables = omega arith; few_points = omega arith }
 
   event_held : (e : Event) → AreHeld texts (symbols_of (Happens e)) → level_of e.level ≤ 7 → IsHeldEvent texts e
   event_held e h k = record { pattern = pattern_held e.pattern (all_left (IsHeld texts) (pattern_symbols e.pattern) (e.point ∷ []) h); point = (all_right (IsHeld texts) (pattern_symbols e.pattern) (e.point ∷ []) h).0; level = k }
+
+  emission_held : (e : Emission) → AreHeld texts (symbols_of (Emits e)) → has_any (Emits e) ≡ false → IsHeldEmission texts e
+  emission_held e h k = record {
+    pattern = pattern_held e.pattern (all_left (IsHeld texts) (pattern_symbols e.pattern) (e.point ∷ []) h);
+    point = (all_right (IsHeld texts) (pattern_symbols e.pattern) (e.point ∷ []) h).0;
+    firm = none_any e.pattern.terms k;
+  }
 
   distance_held : (d : Distance) → is_out_of_bounds (Between d) ≡ false → AreNear d
   distance_held d k =
@@ -129,14 +136,14 @@ module _ (texts : List (List ℕ)) where
   chronicle_held full names done c (Happens e) f h k =
       let room = room_of (record c { variables = with_texts c.variables (variables_of e.pattern) }) e.level f.count in
       let more : length (c.events ++ e ∷ []) ≡ length c.events + 1 = length-append c.events (e ∷ []) in
-      record { name = k.name; events = all_put (IsHeldEvent texts) c.events e k.events (event_held e h room.low); free = k.free; bounds = k.bounds; variables = all_with (IsHeld texts) c.variables (variables_of e.pattern) k.variables (pattern_variables e.pattern (all_left (IsHeld texts) (pattern_symbols e.pattern) (e.point ∷ []) h)); sets = k.sets; windows = k.windows; few_variables = room.variables; few_points = (let p = room.points in omega (arith, more, p)) }
+      record { name = k.name; events = all_put (IsHeldEvent texts) c.events e k.events (event_held e h room.low); free = k.free; bounds = k.bounds; variables = all_with (IsHeld texts) c.variables (variables_of e.pattern) k.variables (pattern_variables e.pattern (all_left (IsHeld texts) (pattern_symbols e.pattern) (e.point ∷ []) h)); sets = k.sets; windows = k.windows; emits = k.emits; few_variables = room.variables; few_points = (let p = room.points in omega (arith, more, p)) }
   chronicle_held full names done c (Point name) f h k =
       let more : length (c.free ++ name ∷ []) ≡ length c.free + 1 = length-append c.free (name ∷ []) in
       let p = not_le 24 (length c.events + length c.free) f.count in
-      record { name = k.name; events = k.events; free = all_put (IsHeld texts) c.free name k.free h.0; bounds = k.bounds; variables = k.variables; sets = k.sets; windows = k.windows; few_variables = k.few_variables; few_points = omega (arith, more, p) }
-  chronicle_held full names done c (Between d) f h k = record { name = k.name; events = k.events; free = k.free; bounds = all_put AreNear c.bounds d k.bounds (distance_held d f.bound); variables = k.variables; sets = k.sets; windows = k.windows; few_variables = k.few_variables; few_points = k.few_points }
-  chronicle_held full names done c (Among x values) f h k = record { name = k.name; events = k.events; free = k.free; bounds = k.bounds; variables = k.variables; sets = all_put (IsHeldSet texts) c.sets (x, values) k.sets (record { variable = h.0; values = h.1 }); windows = k.windows; few_variables = k.few_variables; few_points = k.few_points }
-  chronicle_held full names done c (Differ x y) f h k = record { name = k.name; events = k.events; free = k.free; bounds = k.bounds; variables = k.variables; sets = k.sets; windows = k.windows; few_variables = k.few_variables; few_points = k.few_points }
+      record { name = k.name; events = k.events; free = all_put (IsHeld texts) c.free name k.free h.0; bounds = k.bounds; variables = k.variables; sets = k.sets; windows = k.windows; emits = k.emits; few_variables = k.few_variables; few_points = omega (arith, more, p) }
+  chronicle_held full names done c (Between d) f h k = record { name = k.name; events = k.events; free = k.free; bounds = all_put AreNear c.bounds d k.bounds (distance_held d f.bound); variables = k.variables; sets = k.sets; windows = k.windows; emits = k.emits; few_variables = k.few_variables; few_points = k.few_points }
+  chronicle_held full names done c (Among x values) f h k = record { name = k.name; events = k.events; free = k.free; bounds = k.bounds; variables = k.variables; sets = all_put (IsHeldSet texts) c.sets (x, values) k.sets (record { variable = h.0; values = h.1 }); windows = k.windows; emits = k.emits; few_variables = k.few_variables; few_points = k.few_points }
+  chronicle_held full names done c (Differ x y) f h k = record { name = k.name; events = k.events; free = k.free; bounds = k.bounds; variables = k.variables; sets = k.sets; windows = k.windows; emits = k.emits; few_variables = k.few_variables; few_points = k.few_points }
   chronicle_held full names done c (Over w) f h k = record {
     name = k.name;
     events = k.events;
@@ -146,6 +153,20 @@ module _ (texts : List (List ℕ)) where
     sets = k.sets;
     windows = all_put (IsHeldWindow texts) c.windows w k.windows
         (window_held w h f.bound f.window);
+    emits = k.emits;
+    few_variables = k.few_variables;
+    few_points = k.few_points;
+  }
+  chronicle_held full names done c (Derived name arity) f h k = k
+  chronicle_held full names done c (Emits e) f h k = record {
+    name = k.name;
+    events = k.events;
+    free = k.free;
+    bounds = k.bounds;
+    variables = k.variables;
+    sets = k.sets;
+    windows = k.windows;
+    emits = all_put (IsHeldEmission texts) c.emits e k.emits (emission_held e h f.window);
     few_variables = k.few_variables;
     few_points = k.few_points;
   }
@@ -156,6 +177,9 @@ module _ (texts : List (List ℕ)) where
 
   pub message_held : (full : Bool) (names : List Name) (done : List (ℕ × Written)) (c : Written) (name : List ℕ) (arity : ℕ) → IsFaultless full names done c (Message name arity) → AreHeld texts (name ∷ []) → IsHeldName texts (message_named name arity)
   message_held full names done c name arity f h = let a = or_parts (nat_le 256 (length names)) (nat_lt 8 arity) f.count in record { name = h.0; arity = not_lt 8 arity a.1; kind = tt }
+
+  pub derived_held : (full : Bool) (names : List Name) (done : List (ℕ × Written)) (c : Written) (name : List ℕ) (arity : ℕ) → IsFaultless full names done c (Derived name arity) → AreHeld texts (name ∷ []) → IsHeldName texts (derived_named name arity)
+  derived_held full names done c name arity f h = let a = or_parts (nat_le 256 (length names)) (nat_lt 8 arity) f.count in record { name = h.0; arity = not_lt 8 arity a.1; kind = tt }
 
   pub attribute_held : (full : Bool) (names : List Name) (done : List (ℕ × Written)) (c : Written) (name : List ℕ) (arity : ℕ) (values : Option (List (List ℕ))) → IsFaultless full names done c (Attribute name arity values)
       → AreHeld texts (name ∷ values_symbols values) → IsHeldName texts (attribute_named name arity values)

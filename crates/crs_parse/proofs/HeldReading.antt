@@ -9,13 +9,13 @@ use Rattle.crs_base.specs.Lines.{Line, bytes_of, is_long, is_passed_over}
 use Rattle.crs_base.specs.Tokens.{Token, tokens_of, is_model_mark}
 use Rattle.crs_base.proofs.Alls.{all_put, all_each}
 use Rattle.crs_grammar.specs.TokenReading.{◌>>=◌, statement_of}
-use Rattle.crs_grammar.specs.Statements.{Statement, Message, Attribute, Begin, Happens, Point, Between, Among, Differ, Over, Close, is_inside}
-use Rattle.crs_parse.specs.Faults.{Written, Reading, Fault, first_of, faults_of, passes_symbols, symbols_of, message_named, attribute_named, opened, after, answered, after_statement, after_line, after_lines, unless_refused, nothing_read}
+use Rattle.crs_grammar.specs.Statements.{Statement, Message, Attribute, Derived, Begin, Happens, Point, Between, Among, Differ, Over, Emits, Close, is_inside}
+use Rattle.crs_parse.specs.Faults.{Written, Reading, Fault, first_of, faults_of, passes_symbols, is_looped, symbols_of, message_named, attribute_named, derived_named, opened, after, answered, after_statement, after_line, after_lines, unless_refused, nothing_read}
 use Rattle.crs_parse.specs.HeldStatements.{AreHeld, IsHeldChronicle, IsHeldName, IsHeldReading}
 use Rattle.crs_parse.specs.ModelSteps.{HasSymbols}
 use Rattle.crs_base.proofs.WithTexts.{known_behind, known_put}
 use Rattle.crs_parse.proofs.Faultless.{IsFaultless, faultless}
-use Rattle.crs_parse.proofs.HeldParts.{chronicle_held, message_held, attribute_held, begun_held}
+use Rattle.crs_parse.proofs.HeldParts.{chronicle_held, message_held, attribute_held, derived_held, begun_held}
 use Rattle.crs_grammar.proofs.GivesStatements.{read_is_meant}
 use Rattle.crs_grammar.specs.Forms.{AreWritten, form_of}
 use Rattle.crs_parse.proofs.Premises.{are_read, are_declared}
@@ -39,7 +39,7 @@ pub record IsNext (line : ℕ) (r next : Reading) (s : Statement) (full : Bool) 
 -- what is shown of the reading behind each line, by the reading itself and by a statement more
 module _ (limit : ℕ) (G : ℕ → Reading → Reading → Type 0) (kept : (line : ℕ) (r : Reading) → G line r r)
     (more : (line : ℕ) (r next : Reading) (s : Statement) → IsNext line r next s (passes_symbols limit r.texts s) → G line r next) where
-  answered_is : (line : ℕ) (r next : Reading) (s : Statement) (o : Option ModelWord) → first_of (faults_of (passes_symbols limit r.texts s) r.names r.done (opened r.current) s) ≡ o
+  answered_is : (line : ℕ) (r next : Reading) (s : Statement) (o : Option ModelWord) → first_of (faults_of (passes_symbols limit r.texts s) (is_looped r.done (opened r.current) s) r.names r.done (opened r.current) s) ≡ o
       → AllByRecursion (λ t. is_symbol t ≡ true) (symbols_of s) → (is_inside s ≡ is_some r.current) × IsWritten s → answered line (after line r s) o ≡ Ok next → G line r next
   answered_is line r next s (Some w) e h p k = cc
   answered_is line r next s None e h p k =
@@ -47,7 +47,7 @@ module _ (limit : ℕ) (G : ℕ → Reading → Reading → Type 0) (kept : (lin
 
   statement_is : (line : ℕ) (r next : Reading) (o : Option Statement) → HasSymbols o → ((s : Statement) → o ≡ Some s → (is_inside s ≡ is_some r.current) × IsWritten s) → after_statement limit line r o ≡ Ok next → G line r next
   statement_is line r next None h p e = cc
-  statement_is line r next (Some s) h p e = answered_is line r next s (first_of (faults_of (passes_symbols limit r.texts s) r.names r.done (opened r.current) s)) refl h (p s refl) e
+  statement_is line r next (Some s) h p e = answered_is line r next s (first_of (faults_of (passes_symbols limit r.texts s) (is_looped r.done (opened r.current) s) r.names r.done (opened r.current) s)) refl h (p s refl) e
 
   line_read : (line : List ℕ) (b : Bool) → HasSymbols (tokens_of is_model_mark line >>= statement_of b)
   line_read line true = are_read line
@@ -88,6 +88,8 @@ table_after line r (Between d) = refl
 table_after line r (Among x values) = refl
 table_after line r (Differ x y) = refl
 table_after line r (Over w) = refl
+table_after line r (Derived name arity) = refl
+table_after line r (Emits e) = refl
 table_after line r Close = refl
 
 -- no text is lost
@@ -131,6 +133,7 @@ module _ (texts : List (List ℕ)) where
       → IsHeldSoFar texts (after line r s)
   next_held line r (Message name arity) full f p h k = record { names = all_put (IsHeldName texts) r.names (message_named name arity) k.names (message_held texts full r.names r.done (opened r.current) name arity f h); done = k.done; current = k.current }
   next_held line r (Attribute name arity values) full f p h k = record { names = all_put (IsHeldName texts) r.names (attribute_named name arity values) k.names (attribute_held texts full r.names r.done (opened r.current) name arity values f h); done = k.done; current = k.current }
+  next_held line r (Derived name arity) full f p h k = record { names = all_put (IsHeldName texts) r.names (derived_named name arity) k.names (derived_held texts full r.names r.done (opened r.current) name arity f h); done = k.done; current = k.current }
   next_held line r (Begin heading) full f p h k = record { names = k.names; done = k.done; current = begun_held texts heading h.0 }
   next_held line r (Happens e) full f p h k = record { names = k.names; done = k.done; current = chronicle_held texts full r.names r.done (opened r.current) (Happens e) f h (opened_held r.current p k.current) }
   next_held line r (Point name) full f p h k = record { names = k.names; done = k.done; current = chronicle_held texts full r.names r.done (opened r.current) (Point name) f h (opened_held r.current p k.current) }
@@ -138,6 +141,7 @@ module _ (texts : List (List ℕ)) where
   next_held line r (Among x values) full f p h k = record { names = k.names; done = k.done; current = chronicle_held texts full r.names r.done (opened r.current) (Among x values) f h (opened_held r.current p k.current) }
   next_held line r (Differ x y) full f p h k = record { names = k.names; done = k.done; current = chronicle_held texts full r.names r.done (opened r.current) (Differ x y) f h (opened_held r.current p k.current) }
   next_held line r (Over w) full f p h k = record { names = k.names; done = k.done; current = chronicle_held texts full r.names r.done (opened r.current) (Over w) f h (opened_held r.current p k.current) }
+  next_held line r (Emits e) full f p h k = record { names = k.names; done = k.done; current = chronicle_held texts full r.names r.done (opened r.current) (Emits e) f h (opened_held r.current p k.current) }
   next_held line r Close full f p h k = record { names = k.names; done = all_put (λ d. IsHeldChronicle texts d.1) r.done (line, opened r.current) k.done (opened_held r.current p k.current); current = tt }
 
 line_held : (limit : ℕ) (texts : List (List ℕ)) (line : ℕ) (r next : Reading) (l : Line) → after_line limit line r l ≡ Ok next → Within next.texts texts → IsHeldSoFar texts r → IsHeldSoFar texts next

@@ -20,3 +20,5 @@ pub mod Until
 pub mod Grows
 pub mod Parts
 pub mod Rows
+pub mod Apart
+pub mod ReadProper

@@ -1,15 +1,15 @@
 -- The symbols of the models are numbers of the table.
-use Rattle.std.proofs.Common.{◌≡◌, ℕ, zero, suc, ◌<◌, true, List, [], ◌∷◌, map, length, get_or, Option, Some, None, option_map, sym, subst, arith}
+use Rattle.std.proofs.Common.{◌≡◌, ℕ, zero, suc, ◌<◌, Bool, true, false, cond, List, [], ◌∷◌, ◌++◌, map, length, get_or, Option, Some, None, option_map, sym, subst, arith}
 use Rattle.std.specs.Prelude.{IfSome}
 use Rattle.std.specs.List.{AllByRecursion}
 use Rattle.crs_base.specs.declared.symbols.Sym.{Sym}
 use Rattle.crs_base.specs.Symbols.{is_symbol}
 use Rattle.crs_model.specs.Models as m
-use Rattle.crs_model.specs.Renaming.{text_in, renamed_term, renamed_pattern, renamed_event, renamed_set, renamed_body, renamed_window, renamed_chronicle, renamed_kind, renamed_name, renamed_models, IsTermOf, IsPatternOf, IsBodyOf, IsChronicleOf, IsKindOf, AreModelsOf}
+use Rattle.crs_model.specs.Renaming.{text_in, renamed_term, renamed_pattern, renamed_event, renamed_set, renamed_body, renamed_window, renamed_emit, renamed_chronicle, renamed_kind, renamed_name, renamed_models, IsTermOf, IsPatternOf, IsBodyOf, IsChronicleOf, IsKindOf, AreModelsOf}
 use Rattle.crs_grammar.specs.Statements.{Term, Value, Variable, Any, Pattern, Body, NoEvent, Occurs, Hold}
-use Rattle.crs_parse.specs.Faults.{Kind, OfMessage, OfAttribute, Written, Reading}
-use Rattle.crs_parse.specs.Meant.{term_of, change_of, pattern_of, event_of, body_of, window_of, set_of, points_of, chronicle_of, kind_of, name_of, models_in}
-use Rattle.crs_parse.specs.HeldStatements.{IsHeld, IsHeldTerm, AreHeldTerms, IsHeldPattern, IsHeldBody, IsHeldChronicle, IsHeldKind, IsHeldReading}
+use Rattle.crs_parse.specs.Faults.{Kind, OfMessage, OfAttribute, OfDerived, is_derived, Name, Written, Reading}
+use Rattle.crs_parse.specs.Meant.{term_of, change_of, pattern_of, event_of, body_of, window_of, emit_of, set_of, points_of, chronicle_of, kind_of, name_of, that, names_that, models_in}
+use Rattle.crs_parse.specs.HeldStatements.{IsHeld, IsHeldTerm, AreHeldTerms, IsHeldPattern, IsHeldBody, IsHeldChronicle, IsHeldKind, IsHeldName, IsHeldReading}
 
 module _ {A B : Type 0} (P : A → Type 0) (Q : B → Type 0) where
   -- what holds of what is made of each
@@ -21,6 +21,17 @@ module _ {A B : Type 0} (P : A → Type 0) (Q : B → Type 0) where
   pub each_back : (f : B → A) (xs : List B) → ((x : B) → P (f x) → Q x) → AllByRecursion P (map f xs) → AllByRecursion Q xs
   each_back f [] h k = tt
   each_back f (x ∷ xs) h k = (h x k.0, each_back f xs h k.1)
+
+-- what holds of each name holds of each derived one, and of each other one
+pub all_that : (P : Name → Type 0) (b : Bool) (ns : List Name) → AllByRecursion P ns → AllByRecursion P (names_that b ns)
+all_that P b [] h = tt
+all_that P b (n ∷ ns) h = by (is_derived n.kind) b (all_that P b ns h.1)
+  where
+    by : (a b : Bool) → AllByRecursion P (names_that b ns) → AllByRecursion P (cond a (cond b (n ∷ []) []) (cond b [] (n ∷ [])) ++ names_that b ns)
+    by true true k = (h.0, k)
+    by true false k = k
+    by false true k = k
+    by false false k = (h.0, k)
 
 module _ {S T : Type 0} (f : S → T) (P : T → Type 0) (Q : S → Type 0) (back : (s : S) → P (f s) → Q s) where
   term_back : (t : m.Term S) → IsTermOf P (renamed_term f t) → IsTermOf Q t
@@ -55,6 +66,7 @@ module _ {S T : Type 0} (f : S → T) (P : T → Type 0) (Q : S → Type 0) (bac
     variables = each_back _ _ f c.variables back h.variables;
     sets = each_back _ _ (renamed_set f) c.sets (λ s k. each_back _ _ f s.values back k) h.sets;
     windows = each_back _ _ (renamed_window f) c.windows (λ w k. body_back w.body k) h.windows;
+    emits = each_back _ _ (renamed_emit f) c.emits (λ e k. pattern_back e.pattern k) h.emits;
   }
 
   kind_back : (k : m.Kind S) → IsKindOf P (renamed_kind f k) → IsKindOf Q k
@@ -65,6 +77,7 @@ module _ {S T : Type 0} (f : S → T) (P : T → Type 0) (Q : S → Type 0) (bac
   pub models_back : (x : m.Models S) → AreModelsOf P (renamed_models f x) → AreModelsOf Q x
   models_back x h = record {
     names = each_back _ _ (renamed_name f) x.names (λ n k. record { name = back n.name k.name; kind = kind_back n.kind k.kind }) h.names;
+    derived = each_back _ _ (renamed_name f) x.derived (λ n k. record { name = back n.name k.name; kind = kind_back n.kind k.kind }) h.derived;
     chronicles = each_back _ _ (renamed_chronicle f) x.chronicles chronicle_back h.chronicles;
   }
 
@@ -98,16 +111,19 @@ module _ (texts : List (List ℕ)) where
     variables = h.variables;
     sets = each_made _ _ (set_of d.1.variables) d.1.sets (λ s k. k.values) h.sets;
     windows = each_made _ _ (window_of d.1.variables (points_of d.1)) d.1.windows (λ w k. body_made d.1.variables w.body k.body) h.windows;
+    emits = each_made _ _ (emit_of d.1.variables (points_of d.1)) d.1.emits (λ e k. pattern_made d.1.variables e.pattern k.pattern) h.emits;
   }
 
   kind_made : (k : Kind) → IsHeldKind texts k → IsKindOf (IsHeld texts) (kind_of k)
   kind_made OfMessage h = tt
   kind_made (OfAttribute None) h = tt
   kind_made (OfAttribute (Some vs)) h = h
+  kind_made OfDerived h = tt
 
   reading_made : (r : Reading) → IsHeldReading texts r → AreModelsOf (IsHeld texts) (models_in r)
   reading_made r h = record {
-    names = each_made _ _ name_of r.names (λ n k. record { name = k.name; kind = kind_made n.kind k.kind }) h.names;
+    names = each_made _ _ name_of (names_that false r.names) (λ n k. record { name = k.name; kind = kind_made n.kind k.kind }) (all_that (IsHeldName texts) false r.names h.names);
+    derived = each_made _ _ name_of (names_that true r.names) (λ n k. record { name = k.name; kind = kind_made n.kind k.kind }) (all_that (IsHeldName texts) true r.names h.names);
     chronicles = each_made _ _ chronicle_of r.done chronicle_made h.done;
   }
 

@@ -4,7 +4,7 @@ use Rattle.std.specs.List.{AllByRecursion, flat_map}
 use Rattle.crs_base.specs.Symbols.{is_symbol}
 use Rattle.crs_base.specs.Tokens.{Token, Word, Mark, tokens_of, is_model_mark}
 use Rattle.crs_grammar.specs.Forms.{Part, Keyword, Sign, Symbol, Number, Integer, Gap, Missing, AreWritten, listed, symbol_form, values_form, term_form, terms_form, change_form, pattern_form, shift_form, anchor_form, level_form, values_in_form, low_part, high_part, most_part, body_form, span_form, begin_form, form_of}
-use Rattle.crs_grammar.specs.Statements.{Term, Value, Variable, Any, Pattern, Shift, Here, Later, Earlier, Anchor, Body, NoEvent, Occurs, Hold, Statement, Message, Attribute, Begin, Happens, Point, Between, Among, Differ, Over, Close}
+use Rattle.crs_grammar.specs.Statements.{Term, Value, Variable, Any, Pattern, Shift, Here, Later, Earlier, Anchor, Body, NoEvent, Occurs, Hold, Statement, Message, Attribute, Derived, Begin, Happens, Point, Between, Among, Differ, Over, Emits, Close}
 use Rattle.crs_grammar.specs.TokenReading.{◌>>=◌, inside_of, outside_of}
 use Rattle.crs_parse.specs.Faults.{symbols_of, term_symbols, terms_symbols, change_symbols, pattern_symbols, body_symbols, values_symbols}
 use Rattle.crs_parse.specs.ModelSteps.{AreRead, AreDeclared, IsInside, IsOutside, HasSymbols}
@@ -101,6 +101,7 @@ begin_is true name = refl
 pub form_symbols : (s : Statement) → symbols_in (form_of s) ≡ symbols_of s
 form_symbols (Message name arity) = refl
 form_symbols (Attribute name arity values) = ap (λ l. name ∷ l) (values_in_are values)
+form_symbols (Derived name arity) = refl
 form_symbols (Begin heading) = begin_is heading.prompt heading.name
 form_symbols (Happens e) = parts (pattern_form e.pattern) (Sign 44 ∷ Gap ∷ Symbol e.point ∷ Sign 41 ∷ level_form e.level) ∙ (λ i. pattern_is e.pattern i ++ e.point ∷ level_is e.level i)
 form_symbols (Point name) = refl
@@ -108,6 +109,7 @@ form_symbols (Between d) = ap (λ l. d.to ∷ d.from ∷ l) (low_is d.low (Sign 
 form_symbols (Among x values) = ap (λ l. x ∷ l) (values_are values)
 form_symbols (Differ x y) = refl
 form_symbols (Over w) = parts (body_form w.body) (span_form w.from w.to) ∙ (λ i. body_is w.body i ++ span_is w.from w.to i)
+form_symbols (Emits e) = parts (pattern_form e.pattern) (Sign 44 ∷ Gap ∷ Symbol e.point ∷ Sign 41 ∷ []) ∙ (λ i. pattern_is e.pattern i ++ e.point ∷ [])
 form_symbols Close = refl
 
 -- what is written is a symbol

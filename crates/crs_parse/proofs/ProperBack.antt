@@ -1,18 +1,21 @@
 -- Models are proper where they are with other symbols, of which no two are one.
-use Rattle.std.proofs.Common.{◌≡◌, ℕ, zero, suc, ◌+◌, ◌≤◌, ◌<◌, ◌||◌, List, [], ◌∷◌, map, length, Option, Some, None, option_map, refl, sym, ap, subst, ◌∙◌}
+use Rattle.std.proofs.Common.{◌≡◌, ℕ, zero, suc, ◌+◌, ◌≤◌, ◌<◌, ◌||◌, List, [], ◌∷◌, ◌++◌, map, length, Option, Some, None, option_map, refl, sym, ap, subst, ◌∙◌, inl, inr}
 use Rattle.std.specs.Prelude.{IfSome, slice_get}
-use Rattle.std.specs.List.{AllByRecursion}
-use Rattle.std.proofs.lemmas.List.{length-map}
+use Rattle.std.specs.List.{AllByRecursion, flat_map}
+use Rattle.std.proofs.lemmas.List.{length-map, map-append}
 use Rattle.std.proofs.lemmas.Option.{slice_get-map}
-use Rattle.crs_base.proofs.Words.{in_map_back, in_from_each}
+use Rattle.crs_base.specs.Words.{IsIn}
+use Rattle.crs_base.proofs.Words.{in_append, in_append_left, in_append_right, in_map, in_map_back, in_from_each}
+use Rattle.crs_model.specs.Hierarchy.{emitted, wanted, used, AreInOrder}
+use Rattle.crs_base.proofs.Alls.{all_append}
 use Rattle.crs_base.specs.declared.symbols.Sym.{Sym}
 use Rattle.crs_base.specs.Symbols.{AreDistinct}
 use Rattle.crs_stn.specs.Bound.{IsWithin}
-use Rattle.crs_model.specs.Models.{Term, Value, Var, Any, Pattern, EventDef, Anchor, Body, NoEvent, Occurs, Hold, Window, Chronicle, Kind, Message, Attribute, Name, Models}
+use Rattle.crs_model.specs.Models.{Term, Value, Var, Any, Pattern, EventDef, Anchor, Body, NoEvent, Occurs, Hold, Window, Emit, Chronicle, Kind, Message, Attribute, Name, Models}
 use Rattle.crs_model.specs.Bindings.{TermIsBelow, PatternIsBelow}
 use Rattle.crs_model.specs.Proper.{term_has, terms_have, change_has, pattern_has, IsNamed}
-use Rattle.crs_model.specs.Renaming.{text_in, renamed_term, renamed_pattern, renamed_event, renamed_set, renamed_body, renamed_window, renamed_chronicle, renamed_kind, renamed_name, renamed_models, IsPatternOf, IsBodyOf, IsChronicleOf, IsNameOf, AreModelsOf}
-use Rattle.crs_model.specs.ProperModels.{IsProperAnchor, IsAttribute, IsDefinite, Suits, Declares, IsDeclared, IsProperBody, IsProperWindow, IsProperEvent, IsProperChronicle, AreProper}
+use Rattle.crs_model.specs.Renaming.{text_in, renamed_term, renamed_pattern, renamed_event, renamed_set, renamed_body, renamed_window, renamed_emit, renamed_chronicle, renamed_kind, renamed_name, renamed_models, IsPatternOf, IsBodyOf, IsChronicleOf, IsNameOf, AreModelsOf}
+use Rattle.crs_model.specs.ProperModels.{IsProperAnchor, IsAttribute, IsDefinite, Suits, Declares, IsDeclared, IsProperBody, IsProperWindow, IsProperEvent, IsProperEmit, IsProperChronicle, AreProper}
 use Rattle.crs_parse.proofs.Numbered.{each_back}
 
 at_back : {A B : Type 0} (g : A → B) (xs : List A) (e : ℕ) (y : B) → slice_get (map g xs) e ≡ Some y → (x : A) × (slice_get xs e ≡ Some x) × (g x ≡ y)
@@ -53,6 +56,10 @@ module _ {S T : Type 0} (f : S → T) (Q : S → Type 0) (one : (s t : S) → Q 
   definite_back (Value s) h = tt
   definite_back (Var v) h = tt
   definite_back Any h = absurd h
+
+  plain_back : (c : Option (Term S × Term S)) → option_map both c ≡ None → c ≡ None
+  plain_back None h = refl
+  plain_back (Some c) h = cc
 
   -- the declaration with the first symbols
   record IsBack (names : List (Name S)) (name : S) (terms : ℕ) (to : Name T) (n : Name S) : Type 0 where
@@ -133,6 +140,7 @@ module _ {S T : Type 0} (f : S → T) (Q : S → Type 0) (one : (s t : S) → Q 
         bounds_few = h.bounds_few;
         variables_few = subst (λ n. n ≤ 16) variables h.variables_few;
         windows_few = subst (λ n. n ≤ 16) windows h.windows_few;
+        emits_few = subst (λ n. n ≤ 8) (length-map c.emits (renamed_emit f)) h.emits_few;
         within = subst (λ n. IsWithin n c.bounds) points h.within;
         events = zipped c.events known.patterns (each_back (IsProperEvent (map (renamed_name f) names) (renamed_chronicle f c)) (λ e. IsPatternOf Q e.pattern → IsProperEvent names c e) (renamed_event f) c.events
             (λ e k. λ q. record { declared = declared_back names e.pattern all q.name k.declared; below = subst (λ n. PatternIsBelow n e.pattern) variables (pattern_below (length (map f c.variables)) e.pattern k.below); level = k.level }) h.events);
@@ -145,11 +153,23 @@ module _ {S T : Type 0} (f : S → T) (Q : S → Type 0) (one : (s t : S) → Q 
               from = anchor_back _ _ w.from events k.from;
               to = anchor_back _ _ w.to events k.to;
             }) h.windows);
+        emits = zipped_emits c.emits known.emits (each_back (IsProperEmit (map (renamed_name f) names) (renamed_chronicle f c)) (λ e. IsPatternOf Q e.pattern → IsProperEmit names c e) (renamed_emit f) c.emits
+            (λ e k. λ q. record {
+              declared = declared_back names e.pattern all q.name k.declared;
+              plain = plain_back e.pattern.change k.plain;
+              below = subst (λ n. PatternIsBelow n e.pattern) variables (pattern_below (length (map f c.variables)) e.pattern k.below);
+              definite = each_back _ _ (renamed_term f) e.pattern.terms definite_back k.definite;
+              event = subst (λ n. e.event < n) events k.event;
+            }) h.emits);
       }
     where
       zipped : (es : List (EventDef S)) → AllByRecursion (λ e. IsPatternOf Q e.pattern) es → AllByRecursion (λ e. IsPatternOf Q e.pattern → IsProperEvent names c e) es → AllByRecursion (IsProperEvent names c) es
       zipped [] k g = tt
       zipped (e ∷ es) k g = (g.0 k.0, zipped es k.1 g.1)
+
+      zipped_emits : (es : List (Emit S)) → AllByRecursion (λ e. IsPatternOf Q e.pattern) es → AllByRecursion (λ e. IsPatternOf Q e.pattern → IsProperEmit names c e) es → AllByRecursion (IsProperEmit names c) es
+      zipped_emits [] k g = tt
+      zipped_emits (e ∷ es) k g = (g.0 k.0, zipped_emits es k.1 g.1)
 
       zipped_windows : (ws : List (Window S)) → AllByRecursion (λ w. IsBodyOf Q w.body) ws → AllByRecursion (λ w. IsBodyOf Q w.body → IsProperWindow names c w) ws → AllByRecursion (IsProperWindow names c) ws
       zipped_windows [] k g = tt
@@ -164,13 +184,55 @@ module _ {S T : Type 0} (f : S → T) (Q : S → Type 0) (one : (s t : S) → Q 
   chronicles_back names [] all known h = tt
   chronicles_back names (c ∷ cs) all known h = (chronicle_back names c all known.0 h.0, chronicles_back names cs all known.1 h.1)
 
+  -- what feeds another does so with other symbols
+  emitted_on : (c : Chronicle S) (x : S) → IsIn x (emitted c) → IsIn (f x) (emitted (renamed_chronicle f c))
+  emitted_on c x i = each c.emits i
+    where
+      each : (es : List (Emit S)) → IsIn x (map (λ e. e.pattern.name) es) → IsIn (f x) (map (λ e. e.pattern.name) (map (renamed_emit f) es))
+      each [] i = absurd i
+      each (e ∷ es) (inl q) = inl (ap f q)
+      each (e ∷ es) (inr i) = inr (each es i)
+
+  wanted_on : (b : Body S) (x : S) → IsIn x (wanted b) → IsIn (f x) (wanted (renamed_body f b))
+  wanted_on (NoEvent p) x (inl q) = inl (ap f q)
+  wanted_on (NoEvent p) x (inr i) = absurd i
+  wanted_on (Occurs least most p) x (inl q) = inl (ap f q)
+  wanted_on (Occurs least most p) x (inr i) = absurd i
+  wanted_on (Hold name terms value) x i = absurd i
+
+  used_on : (c : Chronicle S) (x : S) → IsIn x (used c) → IsIn (f x) (used (renamed_chronicle f c))
+  used_on c x i = elim (in_append (map (λ v. v.pattern.name) c.events) (flat_map (λ w. wanted w.body) c.windows) x i) [
+    | inl a ↦ in_append_left (map (λ v. v.pattern.name) (map (renamed_event f) c.events)) (flat_map (λ w. wanted w.body) (map (renamed_window f) c.windows)) (f x) (events c.events a)
+    | inr a ↦ in_append_right (map (λ v. v.pattern.name) (map (renamed_event f) c.events)) (flat_map (λ w. wanted w.body) (map (renamed_window f) c.windows)) (f x) (windows c.windows a)
+  ]
+    where
+      events : (es : List (EventDef S)) → IsIn x (map (λ v. v.pattern.name) es) → IsIn (f x) (map (λ v. v.pattern.name) (map (renamed_event f) es))
+      events [] i = absurd i
+      events (e ∷ es) (inl q) = inl (ap f q)
+      events (e ∷ es) (inr i) = inr (events es i)
+
+      windows : (ws : List (Window S)) → IsIn x (flat_map (λ w. wanted w.body) ws) → IsIn (f x) (flat_map (λ w. wanted w.body) (map (renamed_window f) ws))
+      windows [] i = absurd i
+      windows (w ∷ ws) i = elim (in_append (wanted w.body) (flat_map (λ w. wanted w.body) ws) x i) [
+        | inl a ↦ in_append_left (wanted (renamed_body f w.body)) (flat_map (λ w. wanted w.body) (map (renamed_window f) ws)) (f x) (wanted_on w.body x a)
+        | inr a ↦ in_append_right (wanted (renamed_body f w.body)) (flat_map (λ w. wanted w.body) (map (renamed_window f) ws)) (f x) (windows ws a)
+      ]
+
+  in_order_back : (cs : List (Chronicle S)) → AreInOrder (map (renamed_chronicle f) cs) → AreInOrder cs
+  in_order_back [] h = tt
+  in_order_back (c ∷ cs) h = ((λ d i feeds. h.0 (renamed_chronicle f d) (in_map (renamed_chronicle f) (c ∷ cs) d i) (f feeds.0, emitted_on d feeds.0 feeds.1, used_on c feeds.0 feeds.2)), in_order_back cs h.1)
+
   pub models_back : (m : Models S) → AreModelsOf Q m → AreProper (renamed_models f m) → AreProper m
-  models_back m known h = record {
-    names_few = subst (λ n. n ≤ 256) (length-map m.names (renamed_name f)) h.names_few;
-    arities = each_back _ _ (renamed_name f) m.names (λ n k. k) h.arities;
-    chronicles_few = subst (λ n. n ≤ 64) (length-map m.chronicles (renamed_chronicle f)) h.chronicles_few;
-    chronicles = chronicles_back m.names m.chronicles (named_all m.names known.names) known.chronicles h.chronicles;
-  }
+  models_back m known h =
+      let both : map (renamed_name f) m.names ++ map (renamed_name f) m.derived ≡ map (renamed_name f) (m.names ++ m.derived) = sym (map-append (renamed_name f) m.names m.derived) in
+      record {
+        in_order = in_order_back m.chronicles h.in_order;
+        names_few = subst (λ n. n ≤ 256) (λ i. length-map m.names (renamed_name f) i + length-map m.derived (renamed_name f) i) h.names_few;
+        arities = each_back _ _ (renamed_name f) (m.names ++ m.derived) (λ n k. k) (subst (AllByRecursion (λ (n : Name T). n.arity ≤ 8)) both h.arities);
+        chronicles_few = subst (λ n. n ≤ 64) (length-map m.chronicles (renamed_chronicle f)) h.chronicles_few;
+        chronicles = chronicles_back (m.names ++ m.derived) m.chronicles (all_append (λ n. Q n.name) m.names m.derived (named_all m.names known.names) (named_all m.derived known.derived)) known.chronicles
+            (subst (λ (ns : List (Name T)). AllByRecursion (IsProperChronicle ns) (map (renamed_chronicle f) m.chronicles)) both h.chronicles);
+      }
 
 -- the models over the numbers of a table
 pub proper_in : (texts : List (List ℕ)) (m : Models Sym) → AreDistinct texts → AreModelsOf (λ (s : Sym). s.0 < length texts) m → AreProper (renamed_models (text_in texts) m) → AreProper m

@@ -1,5 +1,5 @@
 -- The models of a reading are proper.
-use Rattle.std.proofs.Common.{◌≡◌, ℕ, ℤ, pos, zero, suc, ◌+◌, ◌≤◌, ◌<◌, ◌≤ℤ◌, ◌+ℤ◌, ◌^◌, ◌==◌, Bool, true, false, cond, not, ◌||◌, List, [], ◌∷◌, ◌++◌, map, length, Option, Some, None, option_map, refl, sym, ap, subst, ◌∙◌, arith, true≢false, eqb-true, one-add}
+use Rattle.std.proofs.Common.{◌≡◌, ℕ, ℤ, pos, zero, suc, ◌+◌, ◌≤◌, ◌<◌, ◌≤ℤ◌, ◌+ℤ◌, ◌^◌, ◌==◌, Bool, true, false, cond, not, ◌||◌, List, [], ◌∷◌, ◌++◌, map, length, Option, Some, None, option_map, refl, sym, ap, subst, ◌∙◌, arith, true≢false, eqb-true, one-add, inl, inr}
 use Rattle.std.specs.Prelude.{IfSome, bytes_eq, neg_ℤ, slice_get}
 use Rattle.std.specs.List.{AllByRecursion, flat_map, list_any}
 use Rattle.std.proofs.lemmas.Int.{ints}
@@ -8,24 +8,26 @@ use Rattle.std.proofs.lemmas.List.Elements.{All-from_recursion}
 use Rattle.std.proofs.lemmas.List.Folds.{list_any-append}
 use Rattle.std.proofs.lemmas.Bool.{or_left, or_right, or_parts}
 use Rattle.crs_base.specs.Symbols.{is_known, text_at}
-use Rattle.crs_base.proofs.Words.{in_map}
+use Rattle.crs_base.specs.Words.{IsIn}
+use Rattle.crs_base.proofs.Words.{in_map, in_append, in_append_left, in_append_right}
 use Rattle.crs_base.proofs.Texts.{bytes_same, same_bytes}
-use Rattle.crs_base.proofs.Alls.{all_left, all_right, all_both}
+use Rattle.crs_base.proofs.Alls.{all_append, all_each, all_left, all_right, all_both}
 use Rattle.crs_stn.specs.declared.bound.Bound.{Bound}
 use Rattle.crs_stn.specs.Bound.{IsBoundBelow}
 use Rattle.crs_model.specs.Models as m
 use Rattle.crs_model.specs.Bindings.{TermIsBelow, PatternIsBelow}
 use Rattle.crs_model.specs.Proper.{term_has, terms_have, change_has, pattern_has, IsNamed}
-use Rattle.crs_grammar.specs.Statements.{Term, Value, Variable, Any, Pattern, Event, Shift, Here, Later, Earlier, Anchor, Body, NoEvent, Occurs, Hold, Distance}
-use Rattle.crs_parse.specs.Faults.{Kind, OfMessage, OfAttribute, Name, Written, Reading, is_of, suits, is_attribute, is_point, is_any, event_points, variable_in, variables_in, variables_of, change_terms, lacks, change_lacks, pattern_lacks, body_lacks, shift_size}
-use Rattle.crs_parse.specs.Meant.{place_in, points_of, term_of, change_of, pattern_of, body_of, event_of, offset_of, anchor_of, window_of, bounds_of, set_of, differ_of, chronicle_of, kind_of, name_of, models_in}
-use Rattle.crs_parse.specs.HeldStatements.{IsNear, AreNear, IsHeldEvent, IsHeldWindow, IsFirmBody, IsHeldChronicle, IsHeldReading}
+use Rattle.crs_grammar.specs.Statements.{Term, Value, Variable, Any, Pattern, Event, Emission, Shift, Here, Later, Earlier, Anchor, Body, NoEvent, Occurs, Hold, Distance}
+use Rattle.crs_parse.specs.Faults.{Kind, OfMessage, OfAttribute, OfDerived, is_derived, Name, Written, Reading, is_of, suits, is_attribute, is_point, is_any, event_points, variable_in, variables_in, variables_of, change_terms, lacks, change_lacks, pattern_lacks, body_lacks, shift_size}
+use Rattle.crs_parse.specs.Meant.{place_in, points_of, term_of, change_of, pattern_of, body_of, event_of, offset_of, anchor_of, window_of, emit_of, that, names_that, bounds_of, set_of, differ_of, chronicle_of, kind_of, name_of, models_in}
+use Rattle.crs_parse.specs.HeldStatements.{IsNear, AreNear, IsHeldEvent, IsHeldWindow, IsHeldEmission, IsHeldName, IsFirmBody, IsHeldChronicle, IsHeldReading}
 use Rattle.crs_model.specs.ProperModels as p
 use Rattle.crs_parse.proofs.Faultless.{not_false}
-use Rattle.crs_parse.proofs.Numbered.{each_made}
+use Rattle.crs_parse.proofs.Apart.{AreApart, apart_in_order}
+use Rattle.crs_parse.proofs.Numbered.{each_made, all_that}
 use Rattle.crs_parse.proofs.Places.{place_within}
 use Rattle.crs_parse.proofs.Points.{points_count}
-use Rattle.crs_parse.proofs.Sound.{Declares, IsDeclared, IsDeclaredBody, AreOf, stands_in, IsSound, IsWhole}
+use Rattle.crs_parse.proofs.Sound.{Declares, IsDeclared, IsDeclaredBody, IsEmitted, AreOf, stands_in, IsSound, IsWhole}
 use Rattle.crs_parse.proofs.SoundReading.{IsSoundSoFar}
 use Rattle.crs_base.proofs.DistinctTexts.{Distinct, known_at}
 
@@ -180,18 +182,24 @@ named_in d names k = record {
 suits_meant : (variables : List (List ℕ)) (k : Kind) (c : Option (Term × Term)) → suits k c ≡ true → p.Suits (kind_of k) (change_of variables c)
 suits_meant variables OfMessage None h = tt
 suits_meant variables OfMessage (Some c) h = cc
+suits_meant variables OfDerived None h = tt
+suits_meant variables OfDerived (Some c) h = cc
 suits_meant variables (OfAttribute vs) None h = cc
 suits_meant variables (OfAttribute vs) (Some c) h = tt
 
 attribute_meant : (k : Kind) → is_attribute k ≡ true → p.IsAttribute (kind_of k)
 attribute_meant OfMessage h = cc
 attribute_meant (OfAttribute vs) h = tt
+attribute_meant OfDerived h = cc
 
 declares_meant : (variables : List (List ℕ)) (names : List Name) (name : List ℕ) (ts : List Term) (n : Name) → Declares names name (length ts) n → p.Declares (map name_of names) name (length (map (term_of variables) ts)) (name_of n)
 declares_meant variables names name ts n h = record { among = in_map name_of names n h.among; same = h.same; arity = h.arity ∙ sym (length-map ts (term_of variables)) }
 
 declared_meant : (variables : List (List ℕ)) (names : List Name) (q : Pattern) → IsDeclared names q → p.IsDeclared (map name_of names) (pattern_of variables q)
 declared_meant variables names q h = (name_of h.0, declares_meant variables names q.name q.terms h.0 h.1, suits_meant variables h.0.kind q.change h.2)
+
+plain_meant : (variables : List (List ℕ)) (c : Option (Term × Term)) → c ≡ None → change_of variables c ≡ None
+plain_meant variables c e = ap (change_of variables) e
 
 -- a `*` comes of none but a `*`
 term_definite : (variables : List (List ℕ)) (t : Term) → is_any t ≡ false → p.IsDefinite (term_of variables t)
@@ -285,6 +293,9 @@ module _ (texts : List (List ℕ)) (names : List Name) (d : ℕ × Written) (h :
   windows_count : length (map (window_of d.1.variables (points_of d.1)) d.1.windows) ≡ length d.1.windows
   windows_count = length-map d.1.windows (window_of d.1.variables (points_of d.1))
 
+  emits_count : length (map (emit_of d.1.variables (points_of d.1)) d.1.emits) ≡ length d.1.emits
+  emits_count = length-map d.1.emits (emit_of d.1.variables (points_of d.1))
+
   points_same : length (map (event_of d.1.variables) d.1.events) + length d.1.free ≡ length d.1.events + length d.1.free
   points_same = ap (λ n. n + length d.1.free) events_count
 
@@ -296,6 +307,7 @@ module _ (texts : List (List ℕ)) (names : List Name) (d : ℕ × Written) (h :
     bounds_few = let a = bounds_count (points_of d.1) d.1.bounds in let b = w.sound.bounds_few in omega (arith, a, b);
     variables_few = h.few_variables;
     windows_few = subst (λ n. n ≤ 16) (sym windows_count) w.sound.windows_few;
+    emits_few = subst (λ n. n ≤ 8) (sym emits_count) w.sound.emits_few;
     within = All-from_recursion _ _ (bounds_meant d.1 (length (map (event_of d.1.variables) d.1.events) + length d.1.free) d.1.bounds points_same w.sound.bounds h.bounds);
     events = each_made _ _ (event_of d.1.variables) d.1.events
         (λ e q. record { declared = declared_meant d.1.variables names e.pattern q.0.0; below = pattern_below d.1.variables e.pattern q.0.1; level = q.1.level })
@@ -311,12 +323,84 @@ module _ (texts : List (List ℕ)) (names : List Name) (d : ℕ × Written) (h :
         })
         (all_both (λ v. IsDeclaredBody names v.body × (is_of (event_points d.1) v.from.point ≡ true) × (is_of (event_points d.1) v.to.point ≡ true)) (λ v. (body_lacks d.1.variables v.body ≡ false) × IsHeldWindow texts v) d.1.windows w.sound.windows
         (all_both (λ v. body_lacks d.1.variables v.body ≡ false) (IsHeldWindow texts) d.1.windows w.bound h.windows));
+    emits = each_made _ _ (emit_of d.1.variables (points_of d.1)) d.1.emits
+        (λ e q. record {
+          declared = declared_meant d.1.variables names e.pattern q.0.0.0;
+          plain = plain_meant d.1.variables e.pattern.change q.0.0.1;
+          below = pattern_below d.1.variables e.pattern (pattern_there d.1.variables e.pattern q.1.0);
+          definite = each_made _ _ (term_of d.1.variables) e.pattern.terms (term_definite d.1.variables) q.1.1.firm;
+          event = subst (λ n. place_in (points_of d.1) e.point < n) (sym events_count) (event_below d.1 e.point q.0.1);
+        })
+        (all_both (λ e. IsEmitted names e.pattern × (is_of (event_points d.1) e.point ≡ true)) (λ e. (pattern_lacks d.1.variables e.pattern ≡ false) × IsHeldEmission texts e) d.1.emits w.sound.emits
+        (all_both (λ e. pattern_lacks d.1.variables e.pattern ≡ false) (IsHeldEmission texts) d.1.emits w.bound_emits h.emits));
   }
 
-pub reading_proper : (texts : List (List ℕ)) (r : Reading) → IsHeldReading texts r → IsSoundSoFar r → p.AreProper (models_in r)
-reading_proper texts r h k = record {
-  names_few = subst (λ n. n ≤ 256) (sym (length-map r.names name_of)) k.names_few;
-  arities = each_made _ _ name_of r.names (λ n q. q.arity) h.names;
+-- Names, the derived ones behind the others.
+
+module _ {S : Type 0} (names more : List (m.Name S)) (there : (n : m.Name S) → IsIn n names → IsIn n more) where
+  declares_more : (name : S) (terms : ℕ) (n : m.Name S) → p.Declares names name terms n → p.Declares more name terms n
+  declares_more name terms n h = record { among = there n h.among; same = h.same; arity = h.arity }
+
+  declared_more : (q : m.Pattern S) → p.IsDeclared names q → p.IsDeclared more q
+  declared_more q h = (h.0, declares_more q.name (length q.terms) h.0 h.1, h.2)
+
+  body_more : (n : ℕ) (b : m.Body S) → p.IsProperBody names n b → p.IsProperBody more n b
+  body_more n (m.NoEvent q) h = (declared_more q h.0, h.1)
+  body_more n (m.Occurs least most q) h = (declared_more q h.0, h.1, h.2)
+  body_more n (m.Hold name terms value) h = ((h.0.0, declares_more name (length terms) h.0.0 h.0.1, h.0.2), h.1, h.2)
+
+  chronicle_more : (c : m.Chronicle S) → p.IsProperChronicle names c → p.IsProperChronicle more c
+  chronicle_more c h = record {
+    events_some = h.events_some;
+    events_few = h.events_few;
+    points_few = h.points_few;
+    bounds_few = h.bounds_few;
+    variables_few = h.variables_few;
+    windows_few = h.windows_few;
+    emits_few = h.emits_few;
+    within = h.within;
+    events = all_each {P = p.IsProperEvent names c} c.events (λ e k. record { declared = declared_more e.pattern k.declared; below = k.below; level = k.level }) h.events;
+    named = h.named;
+    sets = h.sets;
+    differs = h.differs;
+    windows = all_each {P = p.IsProperWindow names c} c.windows (λ w k. record { body = body_more (length c.variables) w.body k.body; from = k.from; to = k.to }) h.windows;
+    emits = all_each {P = p.IsProperEmit names c} c.emits (λ e k. record { declared = declared_more e.pattern k.declared; plain = k.plain; below = k.below; definite = k.definite; event = k.event }) h.emits;
+  }
+
+-- the derived names and the others are all names
+abbrev parted : List Name → List (m.Name (List ℕ))
+parted ns = map name_of (names_that false ns) ++ map name_of (names_that true ns)
+
+behind_first : {A : Type 0} (xs ys : List A) (y x : A) → IsIn x (xs ++ ys) → IsIn x (xs ++ y ∷ ys)
+behind_first xs ys y x h = elim (in_append xs ys x h) [ inl i ↦ in_append_left xs (y ∷ ys) x i | inr i ↦ in_append_right xs (y ∷ ys) x (inr i) ]
+
+parted_in : (ns : List Name) (x : m.Name (List ℕ)) → IsIn x (map name_of ns) → IsIn x (parted ns)
+parted_in [] x h = h
+parted_in (n ∷ ns) x h = by (is_derived n.kind) (λ i. parted_in ns x i) h
+  where
+    by : (b : Bool) → (IsIn x (map name_of ns) → IsIn x (parted ns)) → IsIn x (map name_of (n ∷ ns)) → IsIn x (map name_of (cond b [] (n ∷ []) ++ names_that false ns) ++ map name_of (cond b (n ∷ []) [] ++ names_that true ns))
+    by true more (inl q) = in_append_right (map name_of (names_that false ns)) (name_of n ∷ map name_of (names_that true ns)) x (inl q)
+    by true more (inr i) = behind_first (map name_of (names_that false ns)) (map name_of (names_that true ns)) (name_of n) x (more i)
+    by false more (inl q) = inl q
+    by false more (inr i) = inr (more i)
+
+parted_count : (ns : List Name) → length (map name_of (names_that false ns)) + length (map name_of (names_that true ns)) ≡ length ns
+parted_count [] = refl
+parted_count (n ∷ ns) = by (is_derived n.kind) (parted_count ns)
+  where
+    by : (b : Bool) → length (map name_of (names_that false ns)) + length (map name_of (names_that true ns)) ≡ length ns
+        → length (map name_of (cond b [] (n ∷ []) ++ names_that false ns)) + length (map name_of (cond b (n ∷ []) [] ++ names_that true ns)) ≡ length (n ∷ ns)
+    by true e = omega (arith, e)
+    by false e = omega (arith, e)
+
+pub reading_proper : (texts : List (List ℕ)) (r : Reading) → IsHeldReading texts r → IsSoundSoFar r → AreApart (map (λ d. d.1) r.done) → p.AreProper (models_in r)
+reading_proper texts r h k apart = record {
+  in_order = apart_in_order r.done apart;
+  names_few = subst (λ n. n ≤ 256) (sym (parted_count r.names)) k.names_few;
+  arities = all_append (λ n. n.arity ≤ 8) (map name_of (names_that false r.names)) (map name_of (names_that true r.names)) (short false) (short true);
   chronicles_few = subst (λ n. n ≤ 64) (sym (length-map r.done chronicle_of)) k.done_few;
-  chronicles = each_made _ _ chronicle_of r.done (λ d q. chronicle_proper texts r.names d q.0 q.1) (all_both (λ d. IsHeldChronicle texts d.1) (λ d. IsWhole r.names d.1) r.done h.done k.done);
+  chronicles = each_made _ _ chronicle_of r.done (λ d q. chronicle_more (map name_of r.names) (parted r.names) (parted_in r.names) (chronicle_of d) (chronicle_proper texts r.names d q.0 q.1)) (all_both (λ d. IsHeldChronicle texts d.1) (λ d. IsWhole r.names d.1) r.done h.done k.done);
 }
+  where
+    short : (b : Bool) → AllByRecursion (λ n. n.arity ≤ 8) (map name_of (names_that b r.names))
+    short b = each_made _ _ name_of (names_that b r.names) (λ n q. q.arity) (all_that (IsHeldName texts) b r.names h.names)

@@ -10,8 +10,8 @@ use Rattle.crs_base.specs.Symbols.{with_texts}
 use Rattle.crs_base.proofs.Words.{in_append_left}
 use Rattle.crs_base.proofs.Texts.{bytes_same, same_bytes}
 use Rattle.crs_base.proofs.Alls.{all_put, all_each}
-use Rattle.crs_grammar.specs.Statements.{Term, Pattern, Event, Body, NoEvent, Occurs, Hold, Heading, Statement, Message, Attribute, Begin, Happens, Point, Between, Among, Differ, Over, Close}
-use Rattle.crs_parse.specs.Faults.{Name, Written, is_of, name_of, suits, is_attribute, is_unnamed, is_misfit, is_no_attribute, has_other_arity, is_point, event_points, variables_of, body_lacks, with_statement, begun, body_has_no_name, body_has_wrong_arity}
+use Rattle.crs_grammar.specs.Statements.{Term, Pattern, Event, Emission, Body, NoEvent, Occurs, Hold, Heading, Statement, Message, Attribute, Derived, Begin, Happens, Point, Between, Among, Differ, Over, Emits, Close}
+use Rattle.crs_parse.specs.Faults.{Kind, OfMessage, OfAttribute, OfDerived, Name, Written, is_of, name_of, suits, is_attribute, is_derived, is_unnamed, is_not_derived, is_misfit, is_no_attribute, has_other_arity, is_point, event_points, variables_of, pattern_lacks, body_lacks, with_statement, begun, body_has_no_name, body_has_wrong_arity}
 use Rattle.crs_base.proofs.WithTexts.{all_with, known_behind, known_put, known_left}
 use Rattle.crs_parse.proofs.Faultless.{IsFaultless, not_false, not_le}
 use Rattle.crs_parse.proofs.HeldParts.{room_of}
@@ -50,6 +50,25 @@ declared_by names p (Some n) e h k =
 pattern_declared : (names : List Name) (p : Pattern) → is_unnamed (name_of names p.name) ≡ false → is_misfit (name_of names p.name) p ≡ false → IsDeclared names p
 pattern_declared names p h k = declared_by names p (name_of names p.name) refl h k
 
+-- an `emit`'s pattern is of a declared name, and has no change
+abbrev pub IsEmitted : List Name → Pattern → Type 0
+IsEmitted names p = IsDeclared names p × (p.change ≡ None)
+
+plain_change : (k : Kind) (c : Option (Term × Term)) → is_derived k ≡ true → suits k c ≡ true → c ≡ None
+plain_change OfMessage c h e = absurd (true≢false (sym h))
+plain_change (OfAttribute values) c h e = absurd (true≢false (sym h))
+plain_change OfDerived None h e = refl
+plain_change OfDerived (Some c) h e = absurd (true≢false (sym e))
+
+emitted_by : (names : List Name) (p : Pattern) (o : Option Name) → name_of names p.name ≡ o → is_not_derived o ≡ false → is_misfit o p ≡ false → IsEmitted names p
+emitted_by names p None e h k = absurd (true≢false h)
+emitted_by names p (Some n) e h k =
+    let d = declared_by names p (Some n) e refl k in
+    (d, plain_change n.kind p.change (not_false (is_derived n.kind) h) (not_false (suits n.kind p.change) (or_parts (not (length p.terms == n.arity)) (not (suits n.kind p.change)) k).1))
+
+pattern_emitted : (names : List Name) (p : Pattern) → is_not_derived (name_of names p.name) ≡ false → is_misfit (name_of names p.name) p ≡ false → IsEmitted names p
+pattern_emitted names p h k = emitted_by names p (name_of names p.name) refl h k
+
 hold_declared : (names : List Name) (name : List ℕ) (terms : List Term) (value : Term) (o : Option Name) → name_of names name ≡ o → is_no_attribute o ≡ false → has_other_arity o terms ≡ false → IsDeclaredBody names (Hold name terms value)
 hold_declared names name terms value None e h k = absurd (true≢false h)
 hold_declared names name terms value (Some n) e h k =
@@ -85,6 +104,7 @@ pub record IsSound (names : List Name) (c : Written) : Type 0 where
   pub events_few : length c.events ≤ 16
   pub bounds_few : length c.bounds ≤ 256
   pub windows_few : length c.windows ≤ 16
+  pub emits_few : length c.emits ≤ 8
   pub distinct : Distinct c.variables
   pub events : AllByRecursion (λ e. IsDeclared names e.pattern × AreOf c.variables (variables_of e.pattern)) c.events
   pub stand : AllByRecursion (λ x. stands_in c.events x ≡ true) c.variables
@@ -92,12 +112,14 @@ pub record IsSound (names : List Name) (c : Written) : Type 0 where
   pub sets : AllByRecursion (λ s. is_of c.variables s.0 ≡ true) c.sets
   pub differs : AllByRecursion (λ d. (is_of c.variables d.0 ≡ true) × (is_of c.variables d.1 ≡ true)) c.differs
   pub windows : AllByRecursion (λ w. IsDeclaredBody names w.body × (is_of (event_points c) w.from.point ≡ true) × (is_of (event_points c) w.to.point ≡ true)) c.windows
+  pub emits : AllByRecursion (λ e. IsEmitted names e.pattern × (is_of (event_points c) e.point ≡ true)) c.emits
 
 -- a closed one
 pub record IsWhole (names : List Name) (c : Written) : Type 0 where
   pub sound : IsSound names c
   pub some : 0 < length c.events
   pub bound : AllByRecursion (λ w. body_lacks c.variables w.body ≡ false) c.windows
+  pub bound_emits : AllByRecursion (λ e. pattern_lacks c.variables e.pattern ≡ false) c.emits
 
 -- Texts that are put behind others.
 
@@ -154,6 +176,8 @@ module _ (full : Bool) (names : List Name) (done : List (ℕ × Written)) (c : W
         sets = all_each c.sets (λ s h. old s.0 h) k.sets;
         differs = all_each c.differs (λ d h. (old d.0 h.0, old d.1 h.1)) k.differs;
         windows = all_each c.windows (λ w h. (h.0, event_points_more c.events e w.from.point h.1, event_points_more c.events e w.to.point h.2)) k.windows;
+        emits_few = k.emits_few;
+        emits = all_each c.emits (λ x h. (h.0, event_points_more c.events e x.point h.1)) k.emits;
       }
     where
       point_more : (t : List ℕ) → is_point c t ≡ true → is_point (with_statement c (Happens e)) t ≡ true
@@ -163,6 +187,7 @@ module _ (full : Bool) (names : List Name) (done : List (ℕ × Written)) (c : W
   sound_next (Message name arity) f k = k
   sound_next (Attribute name arity values) f k = k
   sound_next (Begin heading) f k = k
+  sound_next (Derived name arity) f k = k
   sound_next Close f k = k
   sound_next (Happens e) f k = happens_sound e f k
   sound_next (Point name) f k = record {
@@ -176,6 +201,8 @@ module _ (full : Bool) (names : List Name) (done : List (ℕ × Written)) (c : W
     sets = k.sets;
     differs = k.differs;
     windows = k.windows;
+    emits_few = k.emits_few;
+    emits = k.emits;
   }
     where
       point_more : (t : List ℕ) → is_point c t ≡ true → is_point (with_statement c (Point name)) t ≡ true
@@ -194,6 +221,8 @@ module _ (full : Bool) (names : List Name) (done : List (ℕ × Written)) (c : W
         sets = k.sets;
         differs = k.differs;
         windows = k.windows;
+        emits_few = k.emits_few;
+        emits = k.emits;
       }
   sound_next (Among x values) f k = record {
     events_few = k.events_few;
@@ -206,6 +235,8 @@ module _ (full : Bool) (names : List Name) (done : List (ℕ × Written)) (c : W
     sets = all_put (λ s. is_of c.variables s.0 ≡ true) c.sets (x, values) k.sets (not_false (is_of c.variables x) f.variable);
     differs = k.differs;
     windows = k.windows;
+    emits_few = k.emits_few;
+    emits = k.emits;
   }
   sound_next (Differ x y) f k = record {
     events_few = k.events_few;
@@ -218,6 +249,8 @@ module _ (full : Bool) (names : List Name) (done : List (ℕ × Written)) (c : W
     sets = k.sets;
     differs = all_put (λ d. (is_of c.variables d.0 ≡ true) × (is_of c.variables d.1 ≡ true)) c.differs (x, y) k.differs (and_parts (is_of c.variables x) (is_of c.variables y) (not_false (is_of c.variables x && is_of c.variables y) f.variable));
     windows = k.windows;
+    emits_few = k.emits_few;
+    emits = k.emits;
   }
   sound_next (Over w) f k =
       let more : length (c.windows ++ w ∷ []) ≡ length c.windows + 1 = length-append c.windows (w ∷ []) in
@@ -234,6 +267,25 @@ module _ (full : Bool) (names : List Name) (done : List (ℕ × Written)) (c : W
         sets = k.sets;
         differs = k.differs;
         windows = all_put (λ v. IsDeclaredBody names v.body × (is_of (event_points c) v.from.point ≡ true) × (is_of (event_points c) v.to.point ≡ true)) c.windows w k.windows (body_declared names w.body f.name f.arity, ends.0, ends.1);
+        emits_few = k.emits_few;
+        emits = k.emits;
+      }
+  sound_next (Emits e) f k =
+      let more : length (c.emits ++ e ∷ []) ≡ length c.emits + 1 = length-append c.emits (e ∷ []) in
+      let few = not_le 8 (length c.emits) f.count in
+      record {
+        events_few = k.events_few;
+        bounds_few = k.bounds_few;
+        windows_few = k.windows_few;
+        emits_few = omega (arith, more, few);
+        distinct = k.distinct;
+        events = k.events;
+        stand = k.stand;
+        bounds = k.bounds;
+        sets = k.sets;
+        differs = k.differs;
+        windows = k.windows;
+        emits = all_put (λ v. IsEmitted names v.pattern × (is_of (event_points c) v.point ≡ true)) c.emits e k.emits (pattern_emitted names e.pattern f.name f.arity, not_false (is_of (event_points c) e.point) f.point);
       }
 
   not_zero : (n : ℕ) → (n == 0) ≡ false → 0 < n
@@ -244,11 +296,14 @@ module _ (full : Bool) (names : List Name) (done : List (ℕ × Written)) (c : W
   none_of p [] h = tt
   none_of p (x ∷ xs) h = let k = or_parts (p x) (list_any p xs) h in (k.0, none_of p xs k.1)
 
+  unbound_parts : IsFaultless full names done c Close → (list_any (λ w. body_lacks c.variables w.body) c.windows ≡ false) × (list_any (λ e. pattern_lacks c.variables e.pattern) c.emits ≡ false)
+  unbound_parts f = or_parts (list_any (λ w. body_lacks c.variables w.body) c.windows) (list_any (λ e. pattern_lacks c.variables e.pattern) c.emits) f.unbound
+
   pub closed_whole : IsFaultless full names done c Close → IsSound names c → IsWhole names c
-  closed_whole f k = record { sound = k; some = not_zero (length c.events) f.events; bound = none_of (λ w. body_lacks c.variables w.body) c.windows f.unbound }
+  closed_whole f k = record { sound = k; some = not_zero (length c.events) f.events; bound = none_of (λ w. body_lacks c.variables w.body) c.windows (unbound_parts f).0; bound_emits = none_of (λ e. pattern_lacks c.variables e.pattern) c.emits (unbound_parts f).1 }
 
 pub begun_sound : (names : List Name) (heading : Heading) → IsSound names (begun heading)
-begun_sound names heading = record { events_few = omega arith; bounds_few = omega arith; windows_few = omega arith; distinct = tt; events = tt; stand = tt; bounds = tt; sets = tt; differs = tt; windows = tt }
+begun_sound names heading = record { events_few = omega arith; bounds_few = omega arith; windows_few = omega arith; emits_few = omega arith; distinct = tt; events = tt; stand = tt; bounds = tt; sets = tt; differs = tt; windows = tt; emits = tt }
 
 -- with more names
 pub more_sound : (names more : List Name) (c : Written) → IsSound names c → IsSound (names ++ more) c
@@ -263,7 +318,9 @@ more_sound names more c k = record {
   differs = k.differs;
   events = all_each c.events (λ e h. (more_declared names more e.pattern h.0, h.1)) k.events;
   windows = all_each c.windows (λ w h. (more_body names more w.body h.0, h.1, h.2)) k.windows;
+  emits_few = k.emits_few;
+  emits = all_each c.emits (λ e h. ((more_declared names more e.pattern h.0.0, h.0.1), h.1)) k.emits;
 }
 
 pub more_whole : (names more : List Name) (c : Written) → IsWhole names c → IsWhole (names ++ more) c
-more_whole names more c k = record { sound = more_sound names more c k.sound; some = k.some; bound = k.bound }
+more_whole names more c k = record { sound = more_sound names more c k.sound; some = k.some; bound = k.bound; bound_emits = k.bound_emits }

@@ -5,8 +5,8 @@ use Rattle.std.specs.List.{AllByRecursion}
 use Rattle.std.proofs.lemmas.Bool.{or_parts}
 use Rattle.crs_base.specs.Lines.{Line}
 use Rattle.crs_base.proofs.Alls.{all_put, all_each}
-use Rattle.crs_grammar.specs.Statements.{Statement, Message, Attribute, Begin, Happens, Point, Between, Among, Differ, Over, Close, is_inside}
-use Rattle.crs_parse.specs.Faults.{Name, Written, Reading, opened, message_named, attribute_named, with_statement, after, after_line, after_lines, nothing_read, is_above}
+use Rattle.crs_grammar.specs.Statements.{Statement, Message, Attribute, Derived, Begin, Happens, Point, Between, Among, Differ, Over, Emits, Close, is_inside}
+use Rattle.crs_parse.specs.Faults.{Name, Written, Reading, opened, message_named, attribute_named, derived_named, with_statement, after, after_line, after_lines, nothing_read, is_above}
 use Rattle.crs_parse.proofs.Faultless.{IsFaultless, not_le}
 use Rattle.crs_parse.proofs.HeldReading.{by_line, next_of, last_of}
 use Rattle.crs_parse.proofs.Sound.{IsSound, IsWhole, sound_next, closed_whole, begun_sound, more_sound, more_whole}
@@ -52,6 +52,9 @@ module _ (line : ℕ) (r : Reading) (full : Bool) (k : IsSoundSoFar r) where
       let a = or_parts (nat_le 256 (length r.names) || nat_lt 8 arity) (is_above 64 (option_map length values)) f.count in
       let d = declared (attribute_named name arity values) (or_parts (nat_le 256 (length r.names)) (nat_lt 8 arity) a.0).0 in
       record { names_few = d.names_few; done_few = d.done_few; done = d.done; current = d.current }
+  next_sound (Derived name arity) f p =
+      let d = declared (derived_named name arity) (or_parts (nat_le 256 (length r.names)) (nat_lt 8 arity) f.count).0 in
+      record { names_few = d.names_few; done_few = d.done_few; done = d.done; current = d.current }
   next_sound (Begin heading) f p = record { names_few = k.names_few; done_few = k.done_few; done = k.done; current = (begun_sound r.names heading, not_le 64 (length r.done) f.count) }
   next_sound (Happens e) f p = record { names_few = k.names_few; done_few = k.done_few; done = k.done; current = grown (Happens e) f p }
   next_sound (Point name) f p = record { names_few = k.names_few; done_few = k.done_few; done = k.done; current = grown (Point name) f p }
@@ -59,6 +62,7 @@ module _ (line : ℕ) (r : Reading) (full : Bool) (k : IsSoundSoFar r) where
   next_sound (Among x values) f p = record { names_few = k.names_few; done_few = k.done_few; done = k.done; current = grown (Among x values) f p }
   next_sound (Differ x y) f p = record { names_few = k.names_few; done_few = k.done_few; done = k.done; current = grown (Differ x y) f p }
   next_sound (Over w) f p = record { names_few = k.names_few; done_few = k.done_few; done = k.done; current = grown (Over w) f p }
+  next_sound (Emits e) f p = record { names_few = k.names_few; done_few = k.done_few; done = k.done; current = grown (Emits e) f p }
   next_sound Close f p =
       let o = opened_sound r.names r.done r.current p k.current in
       let few = o.1 in

@@ -3,8 +3,8 @@ use Rattle.std.specs.Prelude.{◌≡◌, ◌≤◌, ◌≤ℤ◌, ◌+ℤ◌, �
 use Rattle.std.specs.List.{AllByRecursion}
 use Rattle.crs_base.specs.Symbols.{is_known, is_symbol}
 use Rattle.crs_model.specs.declared.limits.TheConstants.{TICK_LIMIT, LEVEL_LIMIT, COUNT_LIMIT, VARIABLE_LIMIT, POINT_LIMIT, ARITY_LIMIT}
-use Rattle.crs_grammar.specs.Statements.{Term, Value, Pattern, Event, Body, NoEvent, Occurs, Hold, Window, Distance}
-use Rattle.crs_parse.specs.Faults.{Kind, OfMessage, OfAttribute, Name, Written, Reading, shift_size, is_any}
+use Rattle.crs_grammar.specs.Statements.{Term, Value, Pattern, Event, Emission, Body, NoEvent, Occurs, Hold, Window, Distance}
+use Rattle.crs_parse.specs.Faults.{Kind, OfMessage, OfAttribute, OfDerived, Name, Written, Reading, shift_size, is_any}
 use Rattle.crs_parse.specs.Meant.{level_of}
 
 -- a symbol that the table holds
@@ -64,6 +64,12 @@ module _ (texts : List (List ℕ)) where
     pub variable : IsHeld texts s.0
     pub values : AreHeld s.1
 
+  -- it has no `*`
+  pub record IsHeldEmission (e : Emission) : Type 0 where
+    pub pattern : IsHeldPattern e.pattern
+    pub point : IsHeld texts e.point
+    pub firm : AllByRecursion (λ t. is_any t ≡ false) e.pattern.terms
+
   -- a chronicle whose symbols a table holds, and which keeps to the limits
   pub record IsHeldChronicle (c : Written) : Type 0 where
     pub name : IsHeld texts c.name
@@ -73,12 +79,14 @@ module _ (texts : List (List ℕ)) where
     pub variables : AreHeld c.variables
     pub sets : AllByRecursion IsHeldSet c.sets
     pub windows : AllByRecursion IsHeldWindow c.windows
+    pub emits : AllByRecursion IsHeldEmission c.emits
     pub few_variables : length c.variables ≤ VARIABLE_LIMIT
     pub few_points : length c.events + length c.free ≤ POINT_LIMIT
 
   abbrev pub IsHeldKind : Kind → Type 0
   IsHeldKind OfMessage = Unit {0}
   IsHeldKind (OfAttribute values) = IfSome values AreHeld
+  IsHeldKind OfDerived = Unit {0}
 
   pub record IsHeldName (n : Name) : Type 0 where
     pub name : IsHeld texts n.name

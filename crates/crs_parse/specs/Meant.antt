@@ -1,8 +1,8 @@
 -- The models that a text means, with texts for symbols.
-use Rattle.std.specs.Prelude.{ℕ, ℤ, pos, neg_ℤ, List, [], ◌∷◌, ◌++◌, map, Option, Some, None, option_map, Result, Ok, Err, bytes_eq}
+use Rattle.std.specs.Prelude.{ℕ, ℤ, pos, neg_ℤ, Bool, true, false, cond, List, [], ◌∷◌, ◌++◌, map, Option, Some, None, option_map, Result, Ok, Err, bytes_eq}
 use Rattle.std.specs.List.{flat_map, position_or_len}
 use Rattle.crs_stn.specs.declared.bound.Bound.{Bound}
-use Rattle.crs_model.specs.Models.{Term, Value, Var, Any, Pattern, EventDef, VarSet, Anchor, Body, NoEvent, Occurs, Hold, Window, Chronicle, Kind, Message, Attribute, Name, Models}
+use Rattle.crs_model.specs.Models.{Term, Value, Var, Any, Pattern, EventDef, VarSet, Anchor, Body, NoEvent, Occurs, Hold, Window, Emit, Chronicle, Kind, Message, Attribute, Name, Models}
 use Rattle.crs_grammar.specs.Statements as w
 use Rattle.crs_parse.specs.Faults as f
 
@@ -49,6 +49,9 @@ anchor_of points a = record { event = place_in points a.point; offset = offset_o
 abbrev pub window_of : List (List ℕ) → List (List ℕ) → w.Window → Window (List ℕ)
 window_of variables points v = record { body = body_of variables v.body; from = anchor_of points v.from; to = anchor_of points v.to }
 
+abbrev pub emit_of : List (List ℕ) → List (List ℕ) → w.Emission → Emit (List ℕ)
+emit_of variables points e = record { pattern = pattern_of variables e.pattern; event = place_in points e.point }
+
 -- `Q - P in [L, H]`: from P to Q with most H, and from Q to P with most -L
 abbrev pub bounds_of : List (List ℕ) → w.Distance → List Bound
 bounds_of points d = record { from = place_in points d.from; to = place_in points d.to; most = d.high } ∷ record { from = place_in points d.to; to = place_in points d.from; most = option_map neg_ℤ d.low } ∷ []
@@ -72,18 +75,28 @@ chronicle_of d = record {
   sets = map (set_of d.1.variables) d.1.sets;
   differs = map (differ_of d.1.variables) d.1.differs;
   windows = map (window_of d.1.variables (points_of d.1)) d.1.windows;
+  emits = map (emit_of d.1.variables (points_of d.1)) d.1.emits;
 }
 
 abbrev pub kind_of : f.Kind → Kind (List ℕ)
 kind_of f.OfMessage = Message
 kind_of (f.OfAttribute values) = Attribute values
+kind_of f.OfDerived = Message
 
 abbrev pub name_of : f.Name → Name (List ℕ)
 name_of n = record { name = n.name; arity = n.arity; kind = kind_of n.kind }
 
+-- the name alone, where it is a derived one or not as wanted
+abbrev pub that : Bool → f.Name → List f.Name
+that derived n = cond (f.is_derived n.kind) (cond derived (n ∷ []) []) (cond derived [] (n ∷ []))
+
+-- the derived names, or the others
+abbrev pub names_that : Bool → List f.Name → List f.Name
+names_that derived ns = flat_map (that derived) ns
+
 -- what a reading without fault means
 abbrev pub models_in : f.Reading → Models (List ℕ)
-models_in r = record { names = map name_of r.names; chronicles = map chronicle_of r.done }
+models_in r = record { names = map name_of (names_that false r.names); derived = map name_of (names_that true r.names); chronicles = map chronicle_of r.done }
 
 -- the models of a reading, and the texts of the table behind it
 abbrev pub read_of : Result f.Reading f.Fault → Result (Models (List ℕ) × List (List ℕ)) f.Fault

@@ -3,11 +3,11 @@ use Rattle.std.specs.Prelude.{◌≡◌, ℕ, nat_lt, Bool, List, [], ◌∷◌,
 use Rattle.std.specs.List.{AllByRecursion}
 use Rattle.crs_base.specs.Symbols.{is_symbol, with_texts}
 use Rattle.crs_base.specs.Tokens.{Token, tokens_of, is_model_mark}
-use Rattle.crs_grammar.specs.Statements.{Heading, Statement, Message, Attribute, Begin, Close, is_inside}
+use Rattle.crs_grammar.specs.Statements.{Heading, Statement, Message, Attribute, Derived, Begin, Close, is_inside}
 use Rattle.crs_grammar.specs.TokenReading.{◌>>=◌, inside_of, outside_of}
-use Rattle.crs_parse.specs.Faults.{Name, Written, Reading, own_fault, nameless, begun, message_named, attribute_named, with_statement, symbols_of}
+use Rattle.crs_parse.specs.Faults.{Name, Written, Reading, own_fault, nameless, is_looped, begun, message_named, attribute_named, derived_named, with_statement, symbols_of}
 use Rattle.crs_model.specs.declared.models.ModelWord.{ModelWord}
-use Rattle.crs_model.specs.declared.models.ModelWord.TheVariants.{Form as FormWord, Limit as LimitWord}
+use Rattle.crs_model.specs.declared.models.ModelWord.TheVariants.{Form as FormWord, Limit as LimitWord, Emit as EmitWord}
 use Rattle.crs_base.specs.Lines.{Line, is_long, bytes_of, is_passed_over}
 use Rattle.crs_model.specs.declared.models.ModelRefused.{ModelRefused}
 use Rattle.crs_model.specs.declared.models.ModelRefused.TheVariants as halts
@@ -51,10 +51,10 @@ abbrev pub unless_fault : {X : Type 0} → Option ModelWord → Result X ModelWo
 unless_fault None r = r
 unless_fault (Some word) r = Err word
 
-abbrev pub step_of : ℕ → List Name → Written → List (List ℕ) → Option Statement → Result Outcome ModelWord
-step_of limit names c texts None = Err FormWord
-step_of limit names c texts (Some s) = unless_fault (own_fault names [] c s) (cond (passes limit (with_texts texts (symbols_of s))) (Err LimitWord)
-    (Ok (record { chronicle = with_statement c s; texts = with_texts texts (symbols_of s); closes = is_close s })))
+abbrev pub step_of : ℕ → List Name → List (ℕ × Written) → Written → List (List ℕ) → Option Statement → Result Outcome ModelWord
+step_of limit names done c texts None = Err FormWord
+step_of limit names done c texts (Some s) = unless_fault (own_fault names [] c s) (cond (passes limit (with_texts texts (symbols_of s))) (Err LimitWord)
+    (cond (is_looped done c s) (Err EmitWord) (Ok (record { chronicle = with_statement c s; texts = with_texts texts (symbols_of s); closes = is_close s }))))
 
 abbrev pub FailsWith : {Y : Type 0} → Refused → Result Y ModelWord → Type 0
 FailsWith refused.Memory wanted = Unit {0}
@@ -65,8 +65,8 @@ abbrev pub Meets : {X Y : Type 0} → (X → Y) → Result X Refused → Result 
 Meets view (Ok x) wanted = wanted ≡ Ok (view x)
 Meets view (Err e) wanted = FailsWith e wanted
 
-abbrev pub line_outcome : ℕ → List Name → Written → List (List ℕ) → Line → Result Outcome ModelWord
-line_outcome limit names c texts l = cond (is_long l) (Err LimitWord) (cond (is_passed_over (bytes_of l)) (Ok (record { chronicle = c; texts = texts; closes = false })) (step_of limit names c texts (inside_line (bytes_of l))))
+abbrev pub line_outcome : ℕ → List Name → List (ℕ × Written) → Written → List (List ℕ) → Line → Result Outcome ModelWord
+line_outcome limit names done c texts l = cond (is_long l) (Err LimitWord) (cond (is_passed_over (bytes_of l)) (Ok (record { chronicle = c; texts = texts; closes = false })) (step_of limit names done c texts (inside_line (bytes_of l))))
 
 -- a closed chronicle, the symbols met so far, the line that closed it, and the lines behind that one
 pub record Closing : Type 0 where
@@ -80,9 +80,9 @@ onward line (Ok x) f = f x
 onward line (Err word) f = Err (line, word)
 
 -- the lines of a chronicle up to its close
-abbrev pub until_close : ℕ → List Name → ℕ → Written → List (List ℕ) → List Line → Result Closing (ℕ × ModelWord)
-until_close limit names line c texts [] = Err (line, FormWord)
-until_close limit names line c texts (l ∷ ls) = onward line (line_outcome limit names c texts l) (λ o. cond o.closes (Ok (record { chronicle = o.chronicle; texts = o.texts; line = line; rest = ls })) (until_close limit names (line + 1) o.chronicle o.texts ls))
+abbrev pub until_close : ℕ → List Name → List (ℕ × Written) → ℕ → Written → List (List ℕ) → List Line → Result Closing (ℕ × ModelWord)
+until_close limit names done line c texts [] = Err (line, FormWord)
+until_close limit names done line c texts (l ∷ ls) = onward line (line_outcome limit names done c texts l) (λ o. cond o.closes (Ok (record { chronicle = o.chronicle; texts = o.texts; line = line; rest = ls })) (until_close limit names done (line + 1) o.chronicle o.texts ls))
 
 abbrev pub HaltsWith : {Y : Type 0} → ModelRefused → Result Y (ℕ × ModelWord) → Type 0
 HaltsWith halts.Memory wanted = Unit {0}
@@ -106,6 +106,7 @@ AreRead = (line : List ℕ) → HasSymbols (inside_line line)
 abbrev pub with_name : List Name → Statement → List Name
 with_name names (Message name arity) = names ++ message_named name arity ∷ []
 with_name names (Attribute name arity values) = names ++ attribute_named name arity values ∷ []
+with_name names (Derived name arity) = names ++ derived_named name arity ∷ []
 with_name names _ = names
 
 abbrev pub begins : Statement → Option Heading

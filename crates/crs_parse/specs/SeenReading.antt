@@ -8,8 +8,8 @@ use Rattle.crs_parse.specs.declared.builder.VariableSet.{VariableSet as CodeSet}
 use Rattle.crs_parse.specs.declared.builder.Written.{Written as CodeWritten}
 use Rattle.crs_parse.specs.declared.builder.Closed.{Closed as CodeClosed}
 use Rattle.crs_parse.specs.declared.builder.Reading.{Reading as CodeReading}
-use Rattle.crs_parse.specs.Faults.{Kind, OfMessage, OfAttribute, Name, Written, Reading}
-use Rattle.crs_grammar.specs.SeenStatements.{event_of, distance_of, window_of}
+use Rattle.crs_parse.specs.Faults.{Kind, OfMessage, OfAttribute, OfDerived, Name, Written, Reading}
+use Rattle.crs_grammar.specs.SeenStatements.{event_of, distance_of, window_of, emission_of}
 
 abbrev pub values_of : Option (Vec (Bor (List ℕ)) Global) → Option (List (List ℕ))
 values_of values = option_map (λ vs. map (λ v. v.now) vs.items) values
@@ -17,6 +17,7 @@ values_of values = option_map (λ vs. map (λ v. v.now) vs.items) values
 abbrev pub kind_of : CodeKind → Kind
 kind_of kinds.Message = OfMessage
 kind_of (kinds.Attribute values) = OfAttribute (values_of values)
+kind_of kinds.Derived = OfDerived
 
 abbrev pub name_of : CodeName → Name
 name_of n = record { name = n.name.now; arity = n.arity; kind = kind_of n.kind }
@@ -35,6 +36,7 @@ written_of c = record {
   sets = map set_of c.sets.items;
   differs = map (λ d. (d.0.now, d.1.now)) c.differs.items;
   windows = map window_of c.windows.items;
+  emits = map emission_of c.emits.items;
 }
 
 abbrev pub closed_of : CodeClosed → ℕ × Written

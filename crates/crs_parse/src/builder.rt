@@ -3,25 +3,29 @@ ghost use Rattle.std.specs.Prelude.{◌≡◌, ◌∷◌, [], ◌++◌, ◌&&◌
 ghost use Rattle.std.specs.List.{list_any};
 ghost use Rattle.crs_parse.specs.Faults as faults;
 ghost use Rattle.crs_parse.specs.SeenReading as see;
-ghost use Rattle.crs_grammar.specs.Statements.{Point, Between, Among, Differ, Over, Happens, Close, Message, Attribute, Begin};
+ghost use Rattle.crs_grammar.specs.Statements.{Point, Between, Among, Differ, Over, Happens, Emits, Close, Message, Attribute, Derived, Begin};
 ghost use Rattle.crs_base.specs.Symbols.{with_text, with_texts};
 ghost use Rattle.crs_parse.specs.Adds.{Adds};
 ghost use Rattle.crs_parse.specs.declared.builder.Refused.TheVariants.{Memory};
 ghost use Rattle.crs_grammar.specs.SeenStatements as seen;
 
-use crs_grammar::{Body, Distance, Event, Heading, Pattern, Shift, Statement, Term, Window};
+use crs_grammar::{
+    Body, Distance, Emission, Event, Heading, Pattern, Shift, Statement, Term, Window,
+};
 use crs_model::ModelWord;
 use crs_model::limits::{
-    ARITY_LIMIT, CHRONICLE_LIMIT, COUNT_LIMIT, DIFFERENCE_LIMIT, DISTANCE_LIMIT, EVENT_LIMIT,
-    LEVEL_LIMIT, NAME_LIMIT, POINT_LIMIT, TICK_LIMIT, VALUE_LIMIT, VARIABLE_LIMIT, WINDOW_LIMIT,
+    ARITY_LIMIT, CHRONICLE_LIMIT, COUNT_LIMIT, DIFFERENCE_LIMIT, DISTANCE_LIMIT, EMIT_LIMIT,
+    EVENT_LIMIT, LEVEL_LIMIT, NAME_LIMIT, POINT_LIMIT, TICK_LIMIT, VALUE_LIMIT, VARIABLE_LIMIT,
+    WINDOW_LIMIT,
 };
 use std::alloc::{AllocError, AllocFailed, Global};
 
-/// What is declared of a message or an attribute.
+/// What is declared of a message, of an attribute or of a derived name.
 #[derive(Drop)]
 pub enum Kind<'a> {
     Message,
     Attribute(Option<Vec<&'a [u8]>>),
+    Derived,
 }
 
 #[derive(Drop)]
@@ -49,6 +53,7 @@ pub struct Written<'a> {
     pub sets: Vec<VariableSet<'a>>,
     pub differs: Vec<(&'a [u8], &'a [u8])>,
     pub windows: Vec<Window<'a>>,
+    pub emits: Vec<Emission<'a>>,
 }
 
 /// A closed chronicle, and the line that closed it.
@@ -141,6 +146,7 @@ impl<'a> Written<'a> {
             sets: Vec::new(alloc),
             differs: Vec::new(alloc),
             windows: Vec::new(alloc),
+            emits: Vec::new(alloc),
         }
     }
 }
@@ -160,7 +166,7 @@ fn suits(kind: &Kind<'_>, change: &Option<(Term<'_>, Term<'_>)>) -> bool
     ensures { result ≡ faults.suits (see.kind_of kind.now) (seen.change_of change.now) }
 {
     match (kind, change) {
-        (Kind::Message, None) => true,
+        (Kind::Message | Kind::Derived, None) => true,
         (Kind::Attribute(_), Some(_)) => true,
         _ => false,
     }
@@ -384,11 +390,59 @@ impl<'a> Written<'a> {
     }
 }
 
+impl<'a> Written<'a> {
+    fn add_emit(&mut self, names: &[Name<'a>], emission: Emission<'a>) -> Result<(), Refused>
+        ensures { Adds result (faults.own_fault (map see.name_of names.now) [] (see.written_of self.old) (Emits (seen.emission_of emission.entry))) (see.written_of self.new) (faults.with_statement (see.written_of self.old) (Emits (seen.emission_of emission.entry))) }
+    {
+        if let Some(word) = emit_name_fault(names, &emission.pattern) {
+            return Err(Refused::Word(word));
+        }
+        if let Some(word) = emit_fault(self, &emission) {
+            return Err(Refused::Word(word));
+        }
+        self.emits.push(emission)?;
+        Ok(())
+    }
+}
+
 /// Whether an anchor names no event's point.
 fn lacks_anchor(c: &Written<'_>, window: &Window<'_>) -> bool
     ensures { result ≡ faults.has_no_point (see.written_of c.now) (Over (seen.window_of window.now)) }
 {
     !(is_event_point(&c.events, window.from.point) && is_event_point(&c.events, window.to.point))
+}
+
+/// The first of the words `name` and `arity` that applies to what an `emit` gives.
+fn emit_name_fault(names: &[Name<'_>], pattern: &Pattern<'_>) -> Option<ModelWord>
+    ensures { result ≡ faults.emit_name_fault (map see.name_of names.now) (seen.pattern_of pattern.now) }
+{
+    let Some(name) = name_of(names, pattern.name) else {
+        return Some(ModelWord::Name);
+    };
+    let Kind::Derived = &name.kind else {
+        return Some(ModelWord::Name);
+    };
+    if pattern.terms.len() as u64 != name.arity || !suits(&name.kind, &pattern.change) {
+        return Some(ModelWord::Arity);
+    }
+    None
+}
+
+/// The first of the words from `point` on that applies to an `emit`.
+#[tactic(auto, using(crate::proofs::Sizes::length_seen))]
+fn emit_fault(c: &Written<'_>, emission: &Emission<'_>) -> Option<ModelWord>
+    ensures { result ≡ faults.emit_fault (see.written_of c.now) (seen.emission_of emission.now) }
+{
+    if !is_event_point(&c.events, emission.point) {
+        return Some(ModelWord::Point);
+    }
+    if has_any_term(&emission.pattern.terms) {
+        return Some(ModelWord::Window);
+    }
+    if EMIT_LIMIT <= c.emits.len() {
+        return Some(ModelWord::Limit);
+    }
+    None
 }
 
 /// Whether an offset or a count is out of its bounds.
@@ -528,6 +582,17 @@ fn windows_lack(variables: &[&[u8]], windows: &[Window<'_>]) -> bool
     false
 }
 
+fn emits_lack(variables: &[&[u8]], emits: &[Emission<'_>]) -> bool
+    ensures { result ≡ list_any (λ e. faults.pattern_lacks (map (λ t. t.now) variables.now) e.pattern) (map seen.emission_of emits.now) }
+{
+    for e in emits {
+        if pattern_lacks(variables, &e.pattern) {
+            return true;
+        }
+    }
+    false
+}
+
 fn is_above(limit: u64, level: Option<u64>) -> bool
     ensures { result ≡ faults.is_above limit level }
 {
@@ -545,6 +610,13 @@ impl<'a> Written<'a> {
         self.events.is_empty()
     }
 
+    /// Whether a variable of a window or of an `emit` stands in no event's pattern.
+    fn lacks_variables(&self) -> bool
+        ensures { result ≡ faults.is_unbound (see.written_of self.now) Close }
+    {
+        windows_lack(&self.variables, &self.windows) || emits_lack(&self.variables, &self.emits)
+    }
+
     /// The first of the words `events` and `unbound` that applies.
     pub fn closing_fault(&self) -> Option<ModelWord>
         ensures { result ≡ faults.own_fault [] [] (see.written_of self.now) Close }
@@ -552,7 +624,7 @@ impl<'a> Written<'a> {
         if self.lacks_events() {
             return Some(ModelWord::Events);
         }
-        if windows_lack(&self.variables, &self.windows) {
+        if self.lacks_variables() {
             return Some(ModelWord::Unbound);
         }
         None
@@ -602,6 +674,24 @@ pub fn add_message<'a>(names: &mut Vec<Name<'a>>, name: &'a [u8], arity: u64) ->
         name,
         arity,
         kind: Kind::Message,
+    })?;
+    Ok(())
+}
+
+/// Declares a derived name.
+pub fn add_derived<'a>(names: &mut Vec<Name<'a>>, name: &'a [u8], arity: u64) -> Result<(), Refused>
+    ensures { Adds result (faults.own_fault (map see.name_of names.old.items) [] (faults.begun faults.nameless) (Derived name.now arity)) (map see.name_of names.new.items) (map see.name_of names.old.items ++ faults.derived_named name.now arity ∷ []) }
+{
+    if name_of(names, name).is_some() {
+        return Err(Refused::Word(ModelWord::Twice));
+    }
+    if NAME_LIMIT <= names.len() || ARITY_LIMIT < arity {
+        return Err(Refused::Word(ModelWord::Limit));
+    }
+    names.push(Name {
+        name,
+        arity,
+        kind: Kind::Derived,
     })?;
     Ok(())
 }
@@ -664,10 +754,98 @@ impl<'a> Written<'a> {
             Statement::Among(variable, values) => self.add_set(VariableSet { variable, values }),
             Statement::Differ(left, right) => self.add_differ(left, right),
             Statement::Over(window) => self.add_window(names, window),
+            Statement::Emits(emission) => self.add_emit(names, emission),
             Statement::Close => match self.closing_fault() {
                 Some(word) => Err(Refused::Word(word)),
                 None => Ok(()),
             },
         }
+    }
+}
+
+fn is_emitted(emits: &[Emission<'_>], name: &[u8]) -> bool
+    ensures { result ≡ faults.is_of (map (λ e. e.pattern.name) (map seen.emission_of emits.now)) name.now }
+{
+    for e in emits {
+        if name == e.pattern.name {
+            return true;
+        }
+    }
+    false
+}
+
+fn is_event_name(events: &[Event<'_>], name: &[u8]) -> bool
+    ensures { result ≡ faults.is_of (map (λ e. e.pattern.name) (map seen.event_of events.now)) name.now }
+{
+    for e in events {
+        if name == e.pattern.name {
+            return true;
+        }
+    }
+    false
+}
+
+/// Whether the pattern of a window names it.
+fn is_wanted(body: &Body<'_>, name: &[u8]) -> bool
+    ensures { result ≡ faults.is_of (faults.body_names (seen.body_of body.now)) name.now }
+{
+    match body {
+        Body::NoEvent(pattern) => name == pattern.name,
+        Body::Occurs(_, _, pattern) => name == pattern.name,
+        Body::Hold(_, _, _) => false,
+    }
+}
+
+fn is_window_name(windows: &[Window<'_>], name: &[u8]) -> bool
+    ensures { result ≡ list_any (λ w. faults.is_of (faults.body_names w.body) name.now) (map seen.window_of windows.now) }
+{
+    for w in windows {
+        if is_wanted(&w.body, name) {
+            return true;
+        }
+    }
+    false
+}
+
+/// Whether a pattern of an event or a window names it.
+fn uses(c: &Written<'_>, name: &[u8]) -> bool
+    ensures { result ≡ faults.uses (see.written_of c.now) name.now }
+{
+    is_event_name(&c.events, name) || is_window_name(&c.windows, name)
+}
+
+fn is_used_above(done: &[Closed<'_>], name: &[u8]) -> bool
+    ensures { result ≡ list_any (λ d. faults.uses d.1 name.now) (map see.closed_of done.now) }
+{
+    for d in done {
+        if uses(&d.chronicle, name) {
+            return true;
+        }
+    }
+    false
+}
+
+/// Whether the pattern of a window names what the chronicle emits.
+fn wants_emitted(emits: &[Emission<'_>], body: &Body<'_>) -> bool
+    ensures { result ≡ list_any (faults.is_of (map (λ e. e.pattern.name) (map seen.emission_of emits.now))) (faults.body_names (seen.body_of body.now)) }
+{
+    match body {
+        Body::NoEvent(pattern) => is_emitted(emits, pattern.name),
+        Body::Occurs(_, _, pattern) => is_emitted(emits, pattern.name),
+        Body::Hold(_, _, _) => false,
+    }
+}
+
+/// Whether behind this statement the open chronicle emits a name that it, or one above it, uses.
+pub fn is_looped(done: &[Closed<'_>], c: &Written<'_>, statement: &Statement<'_>) -> bool
+    ensures { result ≡ faults.is_looped (map see.closed_of done.now) (see.written_of c.now) (seen.statement_of statement.now) }
+{
+    match statement {
+        Statement::Happens(event) => is_emitted(&c.emits, event.pattern.name),
+        Statement::Over(window) => wants_emitted(&c.emits, &window.body),
+        Statement::Emits(emission) => {
+            uses(c, emission.pattern.name) || is_used_above(done, emission.pattern.name)
+        }
+        _ => false,
     }
 }

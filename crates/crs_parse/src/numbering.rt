@@ -12,9 +12,9 @@ ghost use Rattle.crs_grammar.specs.SeenStatements as seen;
 use crate::builder::{self, Closed, Reading, VariableSet, Written};
 use crs_base::{List, Sym, Symbols};
 use crs_grammar as written;
-use crs_grammar::{Distance, Event, Shift};
+use crs_grammar::{Distance, Emission, Event, Shift};
 use crs_model::{
-    Anchor, Body, Chronicle, EventDef, Kind, Models, Name, Pattern, Term, VarSet, Window,
+    Anchor, Body, Chronicle, Emit, EventDef, Kind, Models, Name, Pattern, Term, VarSet, Window,
 };
 use crs_stn::Bound;
 use std::alloc::{AllocError, Global};
@@ -258,6 +258,27 @@ fn windows(
     Ok(out)
 }
 
+fn emits(
+    alloc: Global,
+    symbols: &Symbols,
+    variables: &[&[u8]],
+    points: &[&[u8]],
+    emits: &[Emission<'_>],
+) -> Result<List<Emit>, AllocError>
+    requires few { length variables.now ≤ 16 }
+    requires few_points { length points.now ≤ 24 }
+    requires held { AllByRecursion (held.IsHeldEmission symbols.now.texts) (map seen.emission_of emits.now) }
+    ensures { IfOk result (λ es. map (renamed.renamed_emit (renamed.text_in symbols.now.texts)) (map view.emit_of es) ≡ map (meant.emit_of (map (λ t. t.now) variables.now) (map (λ t. t.now) points.now)) (map seen.emission_of emits.now)) }
+{
+    let mut out = List::new(alloc);
+    for e in emits {
+        let pattern = pattern(alloc, symbols, variables, &e.pattern)?;
+        let event = place(points, e.point) as u8;
+        out.push(Emit { pattern, event })?;
+    }
+    Ok(out)
+}
+
 fn most(high: Option<i128>) -> Option<i64>
     requires { IfSome high held.IsNear }
     ensures { result ≡ high }
@@ -360,20 +381,22 @@ fn push_all<'a>(out: &mut Vec<&'a [u8]>, texts: &[&'a [u8]]) -> Result<(), Alloc
     Ok(())
 }
 
-/// What stands on a chronicle's points: its bounds and its windows.
+/// What stands on a chronicle's points: its bounds, its windows and its emits.
 fn on_points(
     alloc: Global,
     symbols: &Symbols,
     c: &Written<'_>,
-) -> Result<(List<Bound>, List<Window>), AllocError>
+) -> Result<(List<Bound>, List<Window>, List<Emit>), AllocError>
     requires { held.IsHeldChronicle symbols.now.texts (see.written_of c.now) }
     ensures bounds { IfOk result (λ x. x.0 ≡ flat_map (meant.bounds_of (meant.points_of (see.written_of c.now))) (see.written_of c.now).bounds) }
     ensures windows { IfOk result (λ x. map (renamed.renamed_window (renamed.text_in symbols.now.texts)) (map view.window_of x.1) ≡ map (meant.window_of (see.written_of c.now).variables (meant.points_of (see.written_of c.now))) (see.written_of c.now).windows) }
+    ensures emits { IfOk result (λ x. map (renamed.renamed_emit (renamed.text_in symbols.now.texts)) (map view.emit_of x.2) ≡ map (meant.emit_of (see.written_of c.now).variables (meant.points_of (see.written_of c.now))) (see.written_of c.now).emits) }
 {
     let points = points(alloc, c)?;
     let bounds = bounds(alloc, &points, &c.bounds)?;
     let windows = windows(alloc, symbols, &c.variables, &points, &c.windows)?;
-    Ok((bounds, windows))
+    let emits = emits(alloc, symbols, &c.variables, &points, &c.emits)?;
+    Ok((bounds, windows, emits))
 }
 
 /// What stands on a chronicle's variables alone: their values, and which of them differ.
@@ -400,7 +423,7 @@ fn chronicle(alloc: Global, symbols: &Symbols, closed: &Closed<'_>) -> Result<Ch
     let free = numbers(alloc, symbols, &c.free)?;
     let variables = numbers(alloc, symbols, &c.variables)?;
     let (sets, differs) = on_variables(alloc, symbols, c)?;
-    let (bounds, windows) = on_points(alloc, symbols, c)?;
+    let (bounds, windows, emits) = on_points(alloc, symbols, c)?;
     Ok(Chronicle {
         name: symbol(symbols, c.name),
         prompt: c.prompt,
@@ -412,6 +435,7 @@ fn chronicle(alloc: Global, symbols: &Symbols, closed: &Closed<'_>) -> Result<Ch
         sets,
         differs,
         windows,
+        emits,
     })
 }
 
@@ -435,7 +459,7 @@ fn kind(alloc: Global, symbols: &Symbols, kind: &builder::Kind<'_>) -> Result<Ki
     ensures { IfOk result (λ k. renamed.renamed_kind (renamed.text_in symbols.now.texts) (view.kind_of k) ≡ meant.kind_of (see.kind_of kind.now)) }
 {
     match kind {
-        builder::Kind::Message => Ok(Kind::Message),
+        builder::Kind::Message | builder::Kind::Derived => Ok(Kind::Message),
         builder::Kind::Attribute(None) => Ok(Kind::Attribute { values: None }),
         builder::Kind::Attribute(Some(values)) => Ok(Kind::Attribute {
             values: Some(numbers(alloc, symbols, values)?),
@@ -443,20 +467,46 @@ fn kind(alloc: Global, symbols: &Symbols, kind: &builder::Kind<'_>) -> Result<Ki
     }
 }
 
-fn names(
+/// Whether it is a derived name.
+fn is_derived(kind: &builder::Kind<'_>) -> bool
+    ensures { result ≡ faults.is_derived (see.kind_of kind.now) }
+{
+    matches!(kind, builder::Kind::Derived)
+}
+
+/// Adds a name, where it is a derived one or not as wanted.
+fn push_name(
     alloc: Global,
     symbols: &Symbols,
-    names: &[builder::Name<'_>],
-) -> Result<List<Name>, AllocError>
-    requires { AllByRecursion (held.IsHeldName symbols.now.texts) (map see.name_of names.now) }
-    ensures { IfOk result (λ ns. map (renamed.renamed_name (renamed.text_in symbols.now.texts)) (map view.name_of ns) ≡ map meant.name_of (map see.name_of names.now)) }
+    derived: bool,
+    out: &mut List<Name>,
+    n: &builder::Name<'_>,
+) -> Result<(), AllocError>
+    requires { held.IsHeldName symbols.now.texts (see.name_of n.now) }
+    ensures { OnOk result (map (renamed.renamed_name (renamed.text_in symbols.now.texts)) (map view.name_of out.new) ≡ map (renamed.renamed_name (renamed.text_in symbols.now.texts)) (map view.name_of out.old) ++ map meant.name_of (meant.that derived (see.name_of n.now))) }
 {
-    let mut out = List::new(alloc);
-    for n in names {
+    if is_derived(&n.kind) == derived {
         let name = symbol(symbols, n.name);
         let kind = kind(alloc, symbols, &n.kind)?;
         let arity = n.arity as u8;
         out.push(Name { name, arity, kind })?;
+    }
+    Ok(())
+}
+
+/// The derived names, or the others.
+fn names(
+    alloc: Global,
+    symbols: &Symbols,
+    derived: bool,
+    names: &[builder::Name<'_>],
+) -> Result<List<Name>, AllocError>
+    requires { AllByRecursion (held.IsHeldName symbols.now.texts) (map see.name_of names.now) }
+    ensures { IfOk result (λ ns. map (renamed.renamed_name (renamed.text_in symbols.now.texts)) (map view.name_of ns) ≡ map meant.name_of (meant.names_that derived (map see.name_of names.now))) }
+{
+    let mut out = List::new(alloc);
+    for n in names {
+        push_name(alloc, symbols, derived, &mut out, n)?;
     }
     Ok(out)
 }
@@ -467,7 +517,8 @@ pub fn models(alloc: Global, symbols: &Symbols, reading: &Reading<'_>) -> Result
     ensures { IfOk result (λ m. renamed.renamed_models (renamed.text_in symbols.now.texts) (view.models_of m) ≡ meant.models_in (see.reading_of symbols.now.texts reading.now)) }
 {
     Ok(Models {
-        names: names(alloc, symbols, &reading.names)?,
+        names: names(alloc, symbols, false, &reading.names)?,
+        derived: names(alloc, symbols, true, &reading.names)?,
         chronicles: chronicles(alloc, symbols, &reading.done)?,
     })
 }

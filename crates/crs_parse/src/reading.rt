@@ -12,7 +12,9 @@ ghost use Rattle.crs_base.specs.SeenLines.{line_seen};
 ghost use Rattle.crs_parse.specs.SeenReading as see;
 ghost use Rattle.crs_grammar.specs.SeenStatements as seen;
 
-use crate::builder::{Closed, Name, Refused, Written, add_attribute, add_message, begin_fault};
+use crate::builder::{
+    Closed, Name, Refused, Written, add_attribute, add_derived, add_message, begin_fault, is_looped,
+};
 use crate::symbols::{declared_symbols, intern_all, symbols_of};
 use crs_base::{RawLine, SymRefused, Symbols, first_line, is_long, line_bytes, passed_over};
 use crs_grammar::{Declaration, Heading, Statement, Unread, inside, outside, tokens};
@@ -70,6 +72,7 @@ fn closes(statement: &Statement<'_>) -> bool
 pub fn add_numbered<'a>(
     alloc: Global,
     names: &[Name<'a>],
+    done: &[Closed<'a>],
     c: &mut Written<'a>,
     symbols: &mut Symbols,
     statement: Statement<'a>,
@@ -78,12 +81,16 @@ pub fn add_numbered<'a>(
     ensures limit { symbols.new.limit ≡ symbols.old.limit }
     ensures grows { Grows (faults.symbols_of (seen.statement_of statement.entry)) symbols.old.texts symbols.new.texts }
     ensures step { steps.Meets (λ b. record { chronicle = see.written_of c.new; texts = symbols.new.texts; closes = b }) result
-        (steps.step_of symbols.old.limit (map see.name_of names.now) (see.written_of c.old) symbols.old.texts (Some (seen.statement_of statement.entry))) }
+        (steps.step_of symbols.old.limit (map see.name_of names.now) (map see.closed_of done.now) (see.written_of c.old) symbols.old.texts (Some (seen.statement_of statement.entry))) }
 {
     let texts = symbols_of(alloc, &statement)?;
     let is_close = closes(&statement);
+    let is_looped = is_looped(done, c, &statement);
     c.add(names, statement)?;
     number_symbols(symbols, &texts)?;
+    if is_looped {
+        return Err(Refused::Word(ModelWord::Emit));
+    }
     Ok(is_close)
 }
 
@@ -91,6 +98,7 @@ pub fn add_numbered<'a>(
 pub fn step_inside<'a>(
     alloc: Global,
     names: &[Name<'a>],
+    done: &[Closed<'a>],
     c: &mut Written<'a>,
     symbols: &mut Symbols,
     line: &'a [u8],
@@ -100,10 +108,10 @@ pub fn step_inside<'a>(
     ensures limit { symbols.new.limit ≡ symbols.old.limit }
     ensures grows { Grows (read_symbols (steps.inside_line line.now)) symbols.old.texts symbols.new.texts }
     ensures step { steps.Meets (λ b. record { chronicle = see.written_of c.new; texts = symbols.new.texts; closes = b }) result
-        (steps.step_of symbols.old.limit (map see.name_of names.now) (see.written_of c.old) symbols.old.texts (steps.inside_line line.now)) }
+        (steps.step_of symbols.old.limit (map see.name_of names.now) (map see.closed_of done.now) (see.written_of c.old) symbols.old.texts (steps.inside_line line.now)) }
 {
     match read_inside(alloc, line) {
-        Ok(statement) => add_numbered(alloc, names, c, symbols, statement),
+        Ok(statement) => add_numbered(alloc, names, done, c, symbols, statement),
         Err(Unread::Form) => Err(Refused::Word(ModelWord::Form)),
         Err(Unread::Memory) => Err(Refused::Memory),
     }
@@ -113,6 +121,7 @@ pub fn step_inside<'a>(
 fn chronicle_line<'a>(
     alloc: Global,
     names: &[Name<'a>],
+    done: &[Closed<'a>],
     c: &mut Written<'a>,
     symbols: &mut Symbols,
     line: RawLine<'a>,
@@ -120,7 +129,7 @@ fn chronicle_line<'a>(
     ensures limit { symbols.new.limit ≡ symbols.old.limit }
     ensures grows { Grows (line_symbols (line_seen line.entry)) symbols.old.texts symbols.new.texts }
     ensures step { steps.Meets (λ b. record { chronicle = see.written_of c.new; texts = symbols.new.texts; closes = b }) result
-        (steps.line_outcome symbols.old.limit (map see.name_of names.now) (see.written_of c.old) symbols.old.texts (line_seen line.entry)) }
+        (steps.line_outcome symbols.old.limit (map see.name_of names.now) (map see.closed_of done.now) (see.written_of c.old) symbols.old.texts (line_seen line.entry)) }
 {
     if is_long(line) {
         return Err(Refused::Word(ModelWord::Limit));
@@ -129,13 +138,14 @@ fn chronicle_line<'a>(
     if passed_over(bytes) {
         return Ok(false);
     }
-    step_inside(alloc, names, c, symbols, bytes)
+    step_inside(alloc, names, done, c, symbols, bytes)
 }
 
 /// Reads a chronicle up to the line that closes it, and gives that line's number and the text behind it.
 pub fn read_chronicle<'a>(
     alloc: Global,
     names: &[Name<'a>],
+    done: &[Closed<'a>],
     c: &mut Written<'a>,
     symbols: &mut Symbols,
     text: &'a [u8],
@@ -148,13 +158,13 @@ pub fn read_chronicle<'a>(
     ensures behind { IfOk result (λ x. length x.0.now ≤ length text.now) }
     ensures rest { IfOk result (λ x. AreAmong (lines_of x.0.now) (lines_of text.now)) }
     ensures closing { steps.Comes (λ x. record { chronicle = see.written_of c.new; texts = symbols.new.texts; line = x.1; rest = lines_of x.0.now }) result
-        (steps.until_close symbols.old.limit (map see.name_of names.now) line (see.written_of c.old) symbols.old.texts (lines_of text.now)) }
+        (steps.until_close symbols.old.limit (map see.name_of names.now) (map see.closed_of done.now) line (see.written_of c.old) symbols.old.texts (lines_of text.now)) }
 {
     let mut rest = text;
     let mut number = line;
     while !rest.is_empty() {
         let (raw, more) = first_line(rest);
-        match chronicle_line(alloc, names, c, symbols, raw) {
+        match chronicle_line(alloc, names, done, c, symbols, raw) {
             Ok(true) => return Ok((more, number)),
             Ok(false) => {}
             Err(Refused::Word(word)) => return Err(ModelRefused::At { line: number, word }),
@@ -186,6 +196,10 @@ pub fn declare<'a>(
         }
         Declaration::Attribute(name, arity, values) => {
             add_attribute(names, name, arity, values)?;
+            Ok(None)
+        }
+        Declaration::Derived(name, arity) => {
+            add_derived(names, name, arity)?;
             Ok(None)
         }
         Declaration::Begin(heading) => match begin_fault(done, heading) {
@@ -263,7 +277,7 @@ pub fn closed_chronicle<'a>(
         (faults.after_lines symbols.old.limit line (steps.reading_in (map see.name_of names.now) (map see.closed_of done.old.items) (faults.begun (seen.heading_of heading.entry)) symbols.old.texts) (lines_of text.now)) }
 {
     let mut c = Written::begin(alloc, heading);
-    match read_chronicle(alloc, names, &mut c, symbols, text, line) {
+    match read_chronicle(alloc, names, done, &mut c, symbols, text, line) {
         Ok((rest, last)) => match done.push(Closed {
             line: last,
             chronicle: c,

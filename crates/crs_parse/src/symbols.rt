@@ -116,6 +116,10 @@ pub fn symbols_of<'a>(alloc: Global, statement: &Statement<'a>) -> Result<Vec<&'
             push_body(&mut out, &window.body)?;
             push_two(&mut out, window.from.point, window.to.point)?;
         }
+        Statement::Emits(emission) => {
+            push_pattern(&mut out, &emission.pattern)?;
+            out.push(emission.point)?;
+        }
         Statement::Close => {}
     }
     Ok(out)
@@ -133,6 +137,7 @@ pub fn declared_symbols<'a>(
         Declaration::Message(name, _) => out.push(*name)?,
         Declaration::Attribute(name, _, None) => out.push(*name)?,
         Declaration::Attribute(name, _, Some(values)) => push_named(&mut out, name, values)?,
+        Declaration::Derived(name, _) => out.push(*name)?,
         Declaration::Begin(heading) => out.push(heading.name)?,
     }
     Ok(out)

@@ -4,10 +4,10 @@ use Rattle.std.specs.List.{AllByRecursion, flat_map}
 use Rattle.std.proofs.lemmas.Bool.{or_left, or_right}
 use Rattle.crs_base.specs.Symbols.{is_known, with_texts}
 use Rattle.crs_base.proofs.Alls.{all_put, all_each}
-use Rattle.crs_parse.specs.Faults.{Name, Written, is_of, event_points, is_point, name_of, variables_of, is_unnamed, is_misfit, is_beyond, is_no_attribute, has_other_arity, holds_beyond, is_above, has_no_name, has_wrong_arity, has_wrong_value, has_no_variable, has_no_point, is_out_of_bounds, has_any, is_unbound, body_has_no_name, body_has_wrong_arity, body_has_wrong_value, symbols_of, with_statement}
+use Rattle.crs_parse.specs.Faults.{Name, Written, is_of, event_points, is_point, name_of, variables_of, is_unnamed, is_misfit, is_beyond, is_not_derived, is_no_attribute, has_other_arity, holds_beyond, is_above, has_no_name, has_wrong_arity, has_wrong_value, has_no_variable, has_no_point, is_out_of_bounds, has_any, is_unbound, body_has_no_name, body_has_wrong_arity, body_has_wrong_value, symbols_of, with_statement}
 use Rattle.crs_parse.specs.Meant.{points_of}
 use Rattle.crs_base.proofs.DistinctTexts.{Distinct}
-use Rattle.crs_grammar.specs.Statements.{Body, NoEvent, Occurs, Hold, Heading, Statement, Message, Attribute, Begin, Happens, Point, Between, Among, Differ, Over, Close}
+use Rattle.crs_grammar.specs.Statements.{Body, NoEvent, Occurs, Hold, Heading, Statement, Message, Attribute, Derived, Begin, Happens, Point, Between, Among, Differ, Over, Emits, Close}
 use Rattle.crs_print.proofs.Lines.{Writable}
 
 -- the statement can be written, and its symbols are among these texts
@@ -45,6 +45,7 @@ pub record AreAll (P : Statement → Type 0) (c : Written) : Type 0 where
   pub sets : AllByRecursion (λ s. P (Among s.0 s.1)) c.sets
   pub differs : AllByRecursion (λ d. P (Differ d.0 d.1)) c.differs
   pub windows : AllByRecursion (λ w. P (Over w)) c.windows
+  pub emits : AllByRecursion (λ e. P (Emits e)) c.emits
 
 pub record IsFew (c : Written) : Type 0 where
   pub events : length c.events ≤ 16
@@ -53,6 +54,7 @@ pub record IsFew (c : Written) : Type 0 where
   pub bounds : length c.bounds ≤ 256
   pub differs : length c.differs ≤ 64
   pub windows : length c.windows ≤ 16
+  pub emits : length c.emits ≤ 8
 
 -- the first line of a chronicle
 abbrev pub heading_of : Written → Heading
@@ -80,19 +82,22 @@ each_of P Q c f h = record {
   sets = all_each c.sets (λ s k. f (Among s.0 s.1) k) h.sets;
   differs = all_each c.differs (λ d k. f (Differ d.0 d.1) k) h.differs;
   windows = all_each c.windows (λ w k. f (Over w) k) h.windows;
+  emits = all_each c.emits (λ e k. f (Emits e) k) h.emits;
 }
 
 pub one_more_of : (P : Statement → Type 0) (c : Written) (s : Statement) → AreAll P c → P s → AreAll P (with_statement c s)
 one_more_of P c (Message name arity) h p = h
 one_more_of P c (Attribute name arity values) h p = h
+one_more_of P c (Derived name arity) h p = h
 one_more_of P c (Begin heading) h p = h
 one_more_of P c Close h p = h
-one_more_of P c (Happens e) h p = record { events = all_put (λ e. P (Happens e)) c.events e h.events p; free = h.free; bounds = h.bounds; sets = h.sets; differs = h.differs; windows = h.windows }
-one_more_of P c (Point t) h p = record { events = h.events; free = all_put (λ t. P (Point t)) c.free t h.free p; bounds = h.bounds; sets = h.sets; differs = h.differs; windows = h.windows }
-one_more_of P c (Between d) h p = record { events = h.events; free = h.free; bounds = all_put (λ d. P (Between d)) c.bounds d h.bounds p; sets = h.sets; differs = h.differs; windows = h.windows }
-one_more_of P c (Among x vs) h p = record { events = h.events; free = h.free; bounds = h.bounds; sets = all_put (λ s. P (Among s.0 s.1)) c.sets (x, vs) h.sets p; differs = h.differs; windows = h.windows }
-one_more_of P c (Differ x y) h p = record { events = h.events; free = h.free; bounds = h.bounds; sets = h.sets; differs = all_put (λ d. P (Differ d.0 d.1)) c.differs (x, y) h.differs p; windows = h.windows }
-one_more_of P c (Over w) h p = record { events = h.events; free = h.free; bounds = h.bounds; sets = h.sets; differs = h.differs; windows = all_put (λ w. P (Over w)) c.windows w h.windows p }
+one_more_of P c (Happens e) h p = record { events = all_put (λ e. P (Happens e)) c.events e h.events p; free = h.free; bounds = h.bounds; sets = h.sets; differs = h.differs; windows = h.windows; emits = h.emits }
+one_more_of P c (Point t) h p = record { events = h.events; free = all_put (λ t. P (Point t)) c.free t h.free p; bounds = h.bounds; sets = h.sets; differs = h.differs; windows = h.windows; emits = h.emits }
+one_more_of P c (Between d) h p = record { events = h.events; free = h.free; bounds = all_put (λ d. P (Between d)) c.bounds d h.bounds p; sets = h.sets; differs = h.differs; windows = h.windows; emits = h.emits }
+one_more_of P c (Among x vs) h p = record { events = h.events; free = h.free; bounds = h.bounds; sets = all_put (λ s. P (Among s.0 s.1)) c.sets (x, vs) h.sets p; differs = h.differs; windows = h.windows; emits = h.emits }
+one_more_of P c (Differ x y) h p = record { events = h.events; free = h.free; bounds = h.bounds; sets = h.sets; differs = all_put (λ d. P (Differ d.0 d.1)) c.differs (x, y) h.differs p; windows = h.windows; emits = h.emits }
+one_more_of P c (Over w) h p = record { events = h.events; free = h.free; bounds = h.bounds; sets = h.sets; differs = h.differs; windows = all_put (λ w. P (Over w)) c.windows w h.windows p; emits = h.emits }
+one_more_of P c (Emits e) h p = record { events = h.events; free = h.free; bounds = h.bounds; sets = h.sets; differs = h.differs; windows = h.windows; emits = all_put (λ e. P (Emits e)) c.emits e h.emits p }
 
 -- With more names.
 
@@ -107,6 +112,10 @@ found_more (m ∷ ms) more t h = found_by _ m (name_of ms t) (name_of (ms ++ mor
 attribute_named : (o : Option Name) → is_no_attribute o ≡ false → is_unnamed o ≡ false
 attribute_named None h = h
 attribute_named (Some n) h = refl
+
+derived_named : (o : Option Name) → is_not_derived o ≡ false → is_unnamed o ≡ false
+derived_named None h = h
+derived_named (Some n) h = refl
 
 suited_body : (names more : List Name) (b : Body) → body_has_no_name names b ≡ false → body_has_wrong_arity names b ≡ false → body_has_wrong_value names b ≡ false
     → (body_has_no_name (names ++ more) b ≡ false) × (body_has_wrong_arity (names ++ more) b ≡ false) × (body_has_wrong_value (names ++ more) b ≡ false)
@@ -123,6 +132,9 @@ suited_more names more (Happens e) h =
     let same = found_more names more e.pattern.name h.name in
     record { name = ap is_unnamed same ∙ h.name; arity = ap (λ o. is_misfit o e.pattern) same ∙ h.arity; value = ap (λ o. is_beyond o e.pattern.change) same ∙ h.value }
 suited_more names more (Over w) h = let k = suited_body names more w.body h.name h.arity h.value in record { name = k.0; arity = k.1; value = k.2 }
+suited_more names more (Emits e) h =
+    let same = found_more names more e.pattern.name (derived_named (name_of names e.pattern.name) h.name) in
+    record { name = ap is_not_derived same ∙ h.name; arity = ap (λ o. is_misfit o e.pattern) same ∙ h.arity; value = refl }
 suited_more names more _ h = record { name = refl; arity = refl; value = refl }
 
 -- In a chronicle with more points and variables.
@@ -147,6 +159,11 @@ point_more c d g t h = either_true (is_of (event_points c) t) (is_of c.free t) (
 placed : (c d : Written) (s : Statement) → Grows c d → has_no_point c s ≡ false → has_no_point d s ≡ false
 placed c d (Between b) g h = both_true (is_point c b.to) (is_point c b.from) (is_point d b.to) (is_point d b.from) (point_more c d g b.to) (point_more c d g b.from) h
 placed c d (Over w) g h = both_true (is_of (event_points c) w.from.point) (is_of (event_points c) w.to.point) (is_of (event_points d) w.from.point) (is_of (event_points d) w.to.point) (g.points w.from.point) (g.points w.to.point) h
+placed c d (Emits e) g h = by (is_of (event_points c) e.point) (is_of (event_points d) e.point) (g.points e.point) h
+  where
+    by : (a b : Bool) → (a ≡ true → b ≡ true) → not a ≡ false → not b ≡ false
+    by true b f h = ap not (f refl)
+    by false b f h = absurd (true≢false h)
 placed c d _ g h = refl
 
 bound_in : (c d : Written) (s : Statement) → Grows c d → has_no_variable c s ≡ false → has_no_variable d s ≡ false

@@ -8,7 +8,7 @@ use Rattle.std.specs.Prelude.{bytes_eq}
 use Rattle.std.proofs.lemmas.Bool.{or_parts}
 use Rattle.crs_parse.specs.Faults.{Name, Written, event_points, variables_of, is_above, is_full, with_statement, begun, passes_count}
 use Rattle.crs_parse.specs.Meant.{points_of}
-use Rattle.crs_grammar.specs.Statements.{Event, Heading, Statement, Message, Attribute, Begin, Happens, Point, Between, Among, Differ, Over, Close}
+use Rattle.crs_grammar.specs.Statements.{Event, Heading, Statement, Message, Attribute, Derived, Begin, Happens, Point, Between, Among, Differ, Over, Emits, Close}
 use Rattle.crs_base.proofs.WithTexts.{known_behind, known_left}
 use Rattle.crs_parse.proofs.Faultless.{IsFaultless, not_le, not_lt}
 use Rattle.crs_parse.proofs.Texts.{with_texts_append}
@@ -41,6 +41,7 @@ grows_next c (Between d) = record { points = λ t h. h; free = λ t h. h; variab
 grows_next c (Among x vs) = record { points = λ t h. h; free = λ t h. h; variables = λ t h. h }
 grows_next c (Differ x y) = record { points = λ t h. h; free = λ t h. h; variables = λ t h. h }
 grows_next c (Over w) = record { points = λ t h. h; free = λ t h. h; variables = λ t h. h }
+grows_next c (Emits e) = record { points = λ t h. h; free = λ t h. h; variables = λ t h. h }
 grows_next c _ = grows_same c
 
 module _ (texts : List (List ℕ)) (full : Bool) (names : List Name) (done : List (ℕ × Written)) (c : Written) where
@@ -59,17 +60,19 @@ module _ (texts : List (List ℕ)) (full : Bool) (names : List Name) (done : Lis
   few_next (Happens e) f k =
       let r = room_of c e f in
       let n = length-append c.events (e ∷ []) in
-      record { events = one_more 16 c.events e r.events; points = (let p = r.points in omega (arith, n, p)); variables = r.variables; bounds = k.bounds; differs = k.differs; windows = k.windows }
+      record { events = one_more 16 c.events e r.events; points = (let p = r.points in omega (arith, n, p)); variables = r.variables; bounds = k.bounds; differs = k.differs; windows = k.windows; emits = k.emits }
   few_next (Point t) f k =
       let n = length-append c.free (t ∷ []) in
       let p = not_le 24 (length c.events + length c.free) f in
-      record { events = k.events; points = omega (arith, n, p); variables = k.variables; bounds = k.bounds; differs = k.differs; windows = k.windows }
-  few_next (Between d) f k = record { events = k.events; points = k.points; variables = k.variables; bounds = one_more 256 c.bounds d (not_le 256 (length c.bounds) f); differs = k.differs; windows = k.windows }
-  few_next (Differ x y) f k = record { events = k.events; points = k.points; variables = k.variables; bounds = k.bounds; differs = one_more 64 c.differs (x, y) (not_le 64 (length c.differs) f); windows = k.windows }
-  few_next (Over w) f k = record { events = k.events; points = k.points; variables = k.variables; bounds = k.bounds; differs = k.differs; windows = one_more 16 c.windows w (not_le 16 (length c.windows) f) }
-  few_next (Among x vs) f k = record { events = k.events; points = k.points; variables = k.variables; bounds = k.bounds; differs = k.differs; windows = k.windows }
+      record { events = k.events; points = omega (arith, n, p); variables = k.variables; bounds = k.bounds; differs = k.differs; windows = k.windows; emits = k.emits }
+  few_next (Between d) f k = record { events = k.events; points = k.points; variables = k.variables; bounds = one_more 256 c.bounds d (not_le 256 (length c.bounds) f); differs = k.differs; windows = k.windows; emits = k.emits }
+  few_next (Differ x y) f k = record { events = k.events; points = k.points; variables = k.variables; bounds = k.bounds; differs = one_more 64 c.differs (x, y) (not_le 64 (length c.differs) f); windows = k.windows; emits = k.emits }
+  few_next (Over w) f k = record { events = k.events; points = k.points; variables = k.variables; bounds = k.bounds; differs = k.differs; windows = one_more 16 c.windows w (not_le 16 (length c.windows) f); emits = k.emits }
+  few_next (Emits e) f k = record { events = k.events; points = k.points; variables = k.variables; bounds = k.bounds; differs = k.differs; windows = k.windows; emits = one_more 8 c.emits e (not_le 8 (length c.emits) f) }
+  few_next (Among x vs) f k = record { events = k.events; points = k.points; variables = k.variables; bounds = k.bounds; differs = k.differs; windows = k.windows; emits = k.emits }
   few_next (Message name arity) f k = k
   few_next (Attribute name arity vs) f k = k
+  few_next (Derived name arity) f k = k
   few_next (Begin heading) f k = k
   few_next Close f k = k
 
@@ -84,6 +87,8 @@ module _ (texts : List (List ℕ)) (full : Bool) (names : List Name) (done : Lis
   points_next (Among x vs) f d = d
   points_next (Message name arity) f d = d
   points_next (Attribute name arity vs) f d = d
+  points_next (Derived name arity) f d = d
+  points_next (Emits e) f d = d
   points_next (Begin heading) f d = d
   points_next Close f d = d
 
@@ -96,6 +101,8 @@ module _ (texts : List (List ℕ)) (full : Bool) (names : List Name) (done : Lis
   sets_next (Over w) f d = d
   sets_next (Message name arity) f d = d
   sets_next (Attribute name arity vs) f d = d
+  sets_next (Derived name arity) f d = d
+  sets_next (Emits e) f d = d
   sets_next (Begin heading) f d = d
   sets_next Close f d = d
 
@@ -114,6 +121,8 @@ module _ (texts : List (List ℕ)) (full : Bool) (names : List Name) (done : Lis
   variables_next (Among x vs) h = h
   variables_next (Message name arity) h = h
   variables_next (Attribute name arity vs) h = h
+  variables_next (Derived name arity) h = h
+  variables_next (Emits e) h = h
   variables_next (Begin heading) h = h
   variables_next Close h = h
 
@@ -124,6 +133,7 @@ module _ (texts : List (List ℕ)) (full : Bool) (names : List Name) (done : Lis
   same_heading (Differ x y) = refl
   same_heading (Over w) = refl
   same_heading (Among x vs) = refl
+  same_heading (Emits e) = refl
   same_heading _ = refl
 
   same_name : (s : Statement) → (with_statement c s).name ≡ c.name
@@ -133,6 +143,7 @@ module _ (texts : List (List ℕ)) (full : Bool) (names : List Name) (done : Lis
   same_name (Differ x y) = refl
   same_name (Over w) = refl
   same_name (Among x vs) = refl
+  same_name (Emits e) = refl
   same_name _ = refl
 
   pub good_next : (s : Statement) → IsFaultless full names done c s → IsFit texts s → IsGood texts names c → IsGood texts names (with_statement c s)
@@ -154,9 +165,9 @@ name_stays c s = same_name [] false [] [] c s
 pub good_begun : (texts : List (List ℕ)) (names : List Name) (heading : Heading) → IsFit texts (Begin heading) → IsGood texts names (begun heading)
 good_begun texts names heading h = record {
   begins = h;
-  all = record { events = tt; free = tt; bounds = tt; sets = tt; differs = tt; windows = tt };
+  all = record { events = tt; free = tt; bounds = tt; sets = tt; differs = tt; windows = tt; emits = tt };
   points = tt;
   sets = tt;
   variables = refl;
-  few = record { events = omega arith; points = omega arith; variables = omega arith; bounds = omega arith; differs = omega arith; windows = omega arith };
+  few = record { events = omega arith; points = omega arith; variables = omega arith; bounds = omega arith; differs = omega arith; windows = omega arith; emits = omega arith };
 }

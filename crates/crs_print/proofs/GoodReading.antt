@@ -5,8 +5,8 @@ use Rattle.std.specs.List.{AllByRecursion}
 use Rattle.std.proofs.lemmas.List.{map-append, append-nil, length-map}
 use Rattle.crs_base.specs.Lines.{Line}
 use Rattle.crs_base.proofs.Alls.{all_put, all_each}
-use Rattle.crs_parse.specs.Faults.{Kind, OfMessage, OfAttribute, Name, Written, Reading, is_of, passes_symbols, message_named, attribute_named, opened, nameless, begun, with_statement, after, after_line, after_lines, nothing_read}
-use Rattle.crs_grammar.specs.Statements.{Statement, Message, Attribute, Begin, Happens, Point, Between, Among, Differ, Over, Close, is_inside}
+use Rattle.crs_parse.specs.Faults.{Kind, OfMessage, OfAttribute, OfDerived, Name, Written, Reading, is_of, passes_symbols, message_named, attribute_named, derived_named, opened, nameless, begun, with_statement, after, after_line, after_lines, nothing_read}
+use Rattle.crs_grammar.specs.Statements.{Statement, Message, Attribute, Derived, Begin, Happens, Point, Between, Among, Differ, Over, Emits, Close, is_inside}
 use Rattle.crs_parse.proofs.Faultless.{IsFaultless}
 use Rattle.crs_parse.proofs.HeldReading.{Within, next_of, last_of, texts_within, by_line, symbols_known}
 use Rattle.crs_print.proofs.Good.{IsFit, IsGood, IsDone, good_named, done_named}
@@ -16,6 +16,7 @@ use Rattle.crs_print.proofs.Written.{writable_of}
 abbrev pub said_kind : List ℕ → ℕ → Kind → Statement
 said_kind name arity OfMessage = Message name arity
 said_kind name arity (OfAttribute values) = Attribute name arity values
+said_kind name arity OfDerived = Derived name arity
 
 -- the declaration of a name
 abbrev pub said : Name → Statement
@@ -80,10 +81,13 @@ module _ (texts : List (List ℕ)) (full : Bool) (line : ℕ) (r : Reading) (k :
 
   next_good : (s : Statement) → IsFaultless full r.names r.done (opened r.current) s → is_inside s ≡ is_some r.current → IsFit texts s → IsGoodReading texts (after line r s)
   next_good (Message name arity) f p fit =
-      let d = named (message_named name arity) fit (record { twice = f.twice; name = refl; arity = refl; value = refl; variable = refl; point = refl; bound = refl; window = refl; count = f.count; room = refl; events = refl; unbound = refl }) in
+      let d = named (message_named name arity) fit (record { twice = f.twice; name = refl; arity = refl; value = refl; variable = refl; point = refl; bound = refl; window = refl; count = f.count; room = refl; unlooped = refl; events = refl; unbound = refl }) in
       record { names = d.names; done = d.done; begins = d.begins; current = d.current }
   next_good (Attribute name arity values) f p fit =
-      let d = named (attribute_named name arity values) fit (record { twice = f.twice; name = refl; arity = refl; value = refl; variable = refl; point = refl; bound = refl; window = refl; count = f.count; room = refl; events = refl; unbound = refl }) in
+      let d = named (attribute_named name arity values) fit (record { twice = f.twice; name = refl; arity = refl; value = refl; variable = refl; point = refl; bound = refl; window = refl; count = f.count; room = refl; unlooped = refl; events = refl; unbound = refl }) in
+      record { names = d.names; done = d.done; begins = d.begins; current = d.current }
+  next_good (Derived name arity) f p fit =
+      let d = named (derived_named name arity) fit (record { twice = f.twice; name = refl; arity = refl; value = refl; variable = refl; point = refl; bound = refl; window = refl; count = f.count; room = refl; unlooped = refl; events = refl; unbound = refl }) in
       record { names = d.names; done = d.done; begins = d.begins; current = d.current }
   next_good (Begin heading) f p fit = record { names = k.names; done = k.done; begins = k.begins; current = record { good = good_begun texts r.names heading fit; new = f.twice; room = f.count } }
   next_good (Happens e) f p fit = record { names = k.names; done = k.done; begins = k.begins; current = grown (Happens e) f fit p }
@@ -92,6 +96,7 @@ module _ (texts : List (List ℕ)) (full : Bool) (line : ℕ) (r : Reading) (k :
   next_good (Among x values) f p fit = record { names = k.names; done = k.done; begins = k.begins; current = grown (Among x values) f fit p }
   next_good (Differ x y) f p fit = record { names = k.names; done = k.done; begins = k.begins; current = grown (Differ x y) f fit p }
   next_good (Over w) f p fit = record { names = k.names; done = k.done; begins = k.begins; current = grown (Over w) f fit p }
+  next_good (Emits e) f p fit = record { names = k.names; done = k.done; begins = k.begins; current = grown (Emits e) f fit p }
   next_good Close f p fit =
       let o = opened_good texts r.names r.done r.current p k.current in
       record {

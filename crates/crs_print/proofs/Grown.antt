@@ -12,24 +12,26 @@ use Rattle.crs_model.specs.Renaming.{text_in, renamed_event}
 use Rattle.crs_grammar.specs.Statements.{Statement}
 use Rattle.crs_grammar.specs.Canon.{statement_line}
 
-regrouped : (g : Statement → List ℕ) (b k : Statement) (e p d s f w : List Statement) (o : List ℕ)
-    → ((((((o ++ g b) ++ flat_map g e) ++ flat_map g p) ++ flat_map g d) ++ flat_map g s) ++ flat_map g f) ++ flat_map g w ++ g k ≡ o ++ flat_map g (b ∷ e ++ p ++ d ++ s ++ f ++ w ++ k ∷ [])
-regrouped g b k e p d s f w o = simp (flat_map-append, append_assoc, append-nil)
+regrouped : (g : Statement → List ℕ) (b k : Statement) (e p d s f w m : List Statement) (o : List ℕ)
+    → (((((((o ++ g b) ++ flat_map g e) ++ flat_map g p) ++ flat_map g d) ++ flat_map g s) ++ flat_map g f) ++ flat_map g w) ++ flat_map g m ++ g k ≡ o ++ flat_map g (b ∷ e ++ p ++ d ++ s ++ f ++ w ++ m ++ k ∷ [])
+regrouped g b k e p d s f w m o = simp (flat_map-append, append_assoc, append-nil)
 
--- eight parts, each behind those before
-pub joined : (b k : Statement) (e p d s f w : List Statement) (o0 o1 o2 o3 o4 o5 o6 o7 o8 : List ℕ)
+-- nine parts, each behind those before
+pub joined : (b k : Statement) (e p d s f w m : List Statement) (o0 o1 o2 o3 o4 o5 o6 o7 o8 o9 : List ℕ)
     → o1 ≡ o0 ++ statement_line b → o2 ≡ o1 ++ flat_map statement_line e → o3 ≡ o2 ++ flat_map statement_line p → o4 ≡ o3 ++ flat_map statement_line d
-    → o5 ≡ o4 ++ flat_map statement_line s → o6 ≡ o5 ++ flat_map statement_line f → o7 ≡ o6 ++ flat_map statement_line w → o8 ≡ o7 ++ statement_line k
-    → o8 ≡ o0 ++ flat_map statement_line (b ∷ e ++ p ++ d ++ s ++ f ++ w ++ k ∷ [])
-joined b k e p d s f w o0 o1 o2 o3 o4 o5 o6 o7 o8 h1 h2 h3 h4 h5 h6 h7 h8 =
-    h8 ∙ (λ i. h7 i ++ statement_line k)
-    ∙ (λ i. (h6 i ++ flat_map statement_line w) ++ statement_line k)
-    ∙ (λ i. ((h5 i ++ flat_map statement_line f) ++ flat_map statement_line w) ++ statement_line k)
-    ∙ (λ i. (((h4 i ++ flat_map statement_line s) ++ flat_map statement_line f) ++ flat_map statement_line w) ++ statement_line k)
-    ∙ (λ i. ((((h3 i ++ flat_map statement_line d) ++ flat_map statement_line s) ++ flat_map statement_line f) ++ flat_map statement_line w) ++ statement_line k)
-    ∙ (λ i. (((((h2 i ++ flat_map statement_line p) ++ flat_map statement_line d) ++ flat_map statement_line s) ++ flat_map statement_line f) ++ flat_map statement_line w) ++ statement_line k)
-    ∙ (λ i. ((((((h1 i ++ flat_map statement_line e) ++ flat_map statement_line p) ++ flat_map statement_line d) ++ flat_map statement_line s) ++ flat_map statement_line f) ++ flat_map statement_line w) ++ statement_line k)
-    ∙ regrouped statement_line b k e p d s f w o0
+    → o5 ≡ o4 ++ flat_map statement_line s → o6 ≡ o5 ++ flat_map statement_line f → o7 ≡ o6 ++ flat_map statement_line w → o8 ≡ o7 ++ flat_map statement_line m
+    → o9 ≡ o8 ++ statement_line k
+    → o9 ≡ o0 ++ flat_map statement_line (b ∷ e ++ p ++ d ++ s ++ f ++ w ++ m ++ k ∷ [])
+joined b k e p d s f w m o0 o1 o2 o3 o4 o5 o6 o7 o8 o9 h1 h2 h3 h4 h5 h6 h7 h8 h9 =
+    h9 ∙ (λ i. h8 i ++ statement_line k)
+    ∙ (λ i. (h7 i ++ flat_map statement_line m) ++ statement_line k)
+    ∙ (λ i. ((h6 i ++ flat_map statement_line w) ++ flat_map statement_line m) ++ statement_line k)
+    ∙ (λ i. (((h5 i ++ flat_map statement_line f) ++ flat_map statement_line w) ++ flat_map statement_line m) ++ statement_line k)
+    ∙ (λ i. ((((h4 i ++ flat_map statement_line s) ++ flat_map statement_line f) ++ flat_map statement_line w) ++ flat_map statement_line m) ++ statement_line k)
+    ∙ (λ i. (((((h3 i ++ flat_map statement_line d) ++ flat_map statement_line s) ++ flat_map statement_line f) ++ flat_map statement_line w) ++ flat_map statement_line m) ++ statement_line k)
+    ∙ (λ i. ((((((h2 i ++ flat_map statement_line p) ++ flat_map statement_line d) ++ flat_map statement_line s) ++ flat_map statement_line f) ++ flat_map statement_line w) ++ flat_map statement_line m) ++ statement_line k)
+    ∙ (λ i. (((((((h1 i ++ flat_map statement_line e) ++ flat_map statement_line p) ++ flat_map statement_line d) ++ flat_map statement_line s) ++ flat_map statement_line f) ++ flat_map statement_line w) ++ flat_map statement_line m) ++ statement_line k)
+    ∙ regrouped statement_line b k e p d s f w m o0
 
 -- the points of a chronicle with texts
 pub points_are : (texts : List (List ℕ)) (es : List CodeEvent) (free ps : List Sym) → ps ≡ map (λ e. e.point) es ++ free

@@ -8,10 +8,11 @@ use Rattle.crs_model.specs.Models.{Chronicle, Models}
 use Rattle.crs_model.specs.declared.models.ModelWord.TheVariants.{Size as SizeWord}
 use Rattle.crs_grammar.specs.Canon.{statements_text}
 use Rattle.crs_parse.specs.Faults.{Name, Written, Reading, Fault, after_lines, nothing_read, reading_of}
-use Rattle.crs_parse.specs.Meant.{chronicle_of, models_in, read_of, models_read}
-use Rattle.crs_print.specs.CanonicalText.{name_from, chronicle_from, statements_from, models_text}
+use Rattle.crs_parse.specs.Meant.{chronicle_of, name_of, models_in, read_of, models_read}
+use Rattle.crs_print.specs.CanonicalText.{name_from, derived_from, chronicle_from, statements_from, models_text}
 use Rattle.crs_grammar.specs.Statements.{Statement, Close}
 use Rattle.crs_parse.specs.ModelSteps.{reading_out}
+use Rattle.crs_parse.proofs.Apart.{IsApart, AreApart, read_apart}
 use Rattle.crs_parse.proofs.Numbered.{each_made, each_back}
 use Rattle.crs_parse.proofs.SoundReading.{read_sound}
 use Rattle.crs_base.proofs.DistinctTexts.{distinct_by}
@@ -21,7 +22,8 @@ use Rattle.crs_print.proofs.Distinct.{IsTable}
 use Rattle.crs_print.proofs.Good.{IsDone}
 use Rattle.crs_print.proofs.GoodReading.{IsGoodReading, said, AreDeclared, AreBegun, called, read_good}
 use Rattle.crs_print.proofs.Lines.{Writable, line_of, text_lines}
-use Rattle.crs_print.proofs.Normal.{normal, done_normal, chronicle_meant}
+use Rattle.crs_print.proofs.Normal.{normal, done_normal, all_apart_normal, chronicle_meant}
+use Rattle.crs_print.proofs.Reordered.{sorted, sorted_that, name_sorted, declared_distinct, declared_sorted, done_same}
 use Rattle.crs_print.proofs.Says.{statements_again}
 use Rattle.crs_print.proofs.Steps.{body_of, Steps, good_leads}
 use Rattle.crs_print.proofs.Tables.{read_few, read_tables}
@@ -36,12 +38,12 @@ names_writable : (texts : List (List ℕ)) (ns before : List Name) → AreDeclar
 names_writable texts [] before h = tt
 names_writable texts (n ∷ ns) before h = (h.0.writable, names_writable texts ns (before ++ n ∷ []) h.2)
 
-chronicle_writable : (texts : List (List ℕ)) (names : List Name) (c : Written) → IsDone texts names c → AllByRecursion Writable (statements_of c)
-chronicle_writable texts names c h = let l = good_leads texts names [] c h.good in (h.good.begins.writable, all_append Writable (body_of c) (Close ∷ []) (steps_writable texts names [] (body_of c) _ l.steps) ((tt, tt), tt))
+chronicle_writable : (texts : List (List ℕ)) (names : List Name) (c : Written) → IsDone texts names c → IsApart c c → AllByRecursion Writable (statements_of c)
+chronicle_writable texts names c h own = let l = good_leads texts names [] c h.good own tt in (h.good.begins.writable, all_append Writable (body_of c) (Close ∷ []) (steps_writable texts names [] (body_of c) _ l.steps) ((tt, tt), tt))
 
-chronicles_writable : (texts : List (List ℕ)) (names : List Name) (cs : List Written) → AllByRecursion (IsDone texts names) cs → AllByRecursion Writable (flat_map statements_of cs)
-chronicles_writable texts names [] h = tt
-chronicles_writable texts names (c ∷ cs) h = all_append Writable (statements_of c) (flat_map statements_of cs) (chronicle_writable texts names c h.0) (chronicles_writable texts names cs h.1)
+chronicles_writable : (texts : List (List ℕ)) (names : List Name) (cs : List Written) → AllByRecursion (IsDone texts names) cs → AreApart cs → AllByRecursion Writable (flat_map statements_of cs)
+chronicles_writable texts names [] h apart = tt
+chronicles_writable texts names (c ∷ cs) h apart = all_append Writable (statements_of c) (flat_map statements_of cs) (chronicle_writable texts names c h.0 apart.0.0) (chronicles_writable texts names cs h.1 apart.1)
 
 -- The chronicles mean the same, apart from their lines.
 
@@ -67,20 +69,27 @@ record IsAgain (limit : ℕ) (table : List (List ℕ)) (m : Models (List ℕ)) :
   is : models_read limit table (models_text m) ≡ Ok (models, more)
   same : without_lines models ≡ without_lines m
 
-module _ (limit : ℕ) (r : Reading) (good : IsGoodReading r.texts r) (few : length r.texts ≤ limit)
-    (whole : statements_from (models_in r) ≡ map said r.names ++ flat_map statements_of (map (λ d. normal d.1) r.done))
+module _ (limit : ℕ) (r : Reading) (good : IsGoodReading r.texts r) (apart : AreApart (map (λ d. d.1) r.done)) (few : length r.texts ≤ limit)
+    (whole : statements_from (models_in r) ≡ map said (sorted r.names) ++ flat_map statements_of (map (λ d. normal d.1) r.done))
     (readable : IsReadable (models_text (models_in r))) (table : List (List ℕ)) (within : IsTable r.texts table) where
   abbrev cs : List Written
   cs = map (λ d. normal d.1) r.done
 
   abbrev ss : List Statement
-  ss = map said r.names ++ flat_map statements_of cs
+  ss = map said (sorted r.names) ++ flat_map statements_of cs
 
-  all_done : AllByRecursion (IsDone r.texts r.names) cs
-  all_done = each_made _ _ (λ d. normal d.1) r.done (λ d h. done_normal r.texts r.names d.1 h) good.done
+  declared : AreDeclared r.texts [] (sorted r.names)
+  declared = declared_sorted r.texts r.names good.names
+
+  all_done : AllByRecursion (IsDone r.texts (sorted r.names)) cs
+  all_done = each_made _ _ (λ d. normal d.1) r.done
+      (λ d h. done_same r.names (sorted r.names) (name_sorted r.names (declared_distinct r.texts r.names good.names)) r.texts (normal d.1) (done_normal r.texts r.names d.1 h)) good.done
+
+  all_apart : AreApart cs
+  all_apart = all_apart_normal r.done apart
 
   writable : AllByRecursion Writable ss
-  writable = all_append Writable (map said r.names) (flat_map statements_of cs) (names_writable r.texts r.names [] good.names) (chronicles_writable r.texts r.names cs all_done)
+  writable = all_append Writable (map said (sorted r.names)) (flat_map statements_of cs) (names_writable r.texts (sorted r.names) [] declared) (chronicles_writable r.texts (sorted r.names) cs all_done all_apart)
 
   text_is : models_text (models_in r) ≡ statements_text ss
   text_is = ap statements_text whole
@@ -96,13 +105,17 @@ module _ (limit : ℕ) (r : Reading) (good : IsGoodReading r.texts r) (few : len
 
   again : IsAgain limit table (models_in r)
   again =
-      let a = all_go r.texts limit few r.names cs table good.names all_done begins short within in
+      let a = all_go r.texts limit few (sorted r.names) cs table declared all_done all_apart begins short within in
       let small = le-ltb 1048576 (length (models_text (models_in r))) readable.size in
       record {
-        models = models_in (reading_out r.names a.0 a.1);
+        models = models_in (reading_out (sorted r.names) a.0 a.1);
         more = a.1;
         is = (λ i. read_of (cond (small i) (Err (0, SizeWord)) (after_lines limit 1 (nothing_read table) (lines_are i)))) ∙ ap read_of a.3;
-        same = ap (λ l. record (without_lines (models_in r)) { chronicles = l }) (without_each a.0 ∙ ap (map unlined) a.2 ∙ normal_each r.done);
+        same = λ i. record {
+          names = map name_of (sorted_that false r.names i);
+          derived = map name_of (sorted_that true r.names i);
+          chronicles = (without_each a.0 ∙ ap (map unlined) a.2 ∙ normal_each r.done) i;
+        };
       }
 
 abbrev first_of : Models (List ℕ) → Result (Models (List ℕ) × List (List ℕ)) Fault → Models (List ℕ)
@@ -113,11 +126,11 @@ abbrev second_of : List (List ℕ) → Result (Models (List ℕ) × List (List �
 second_of texts (Ok p) = p.1
 second_of texts (Err f) = texts
 
-by_reading : (o : Result Reading Fault) (m : Models (List ℕ)) (texts : List (List ℕ)) → read_of o ≡ Ok (m, texts) → (r : Reading) × (o ≡ Ok r) × (models_in r ≡ m) × (r.texts ≡ texts)
+pub by_reading : (o : Result Reading Fault) (m : Models (List ℕ)) (texts : List (List ℕ)) → read_of o ≡ Ok (m, texts) → (r : Reading) × (o ≡ Ok r) × (models_in r ≡ m) × (r.texts ≡ texts)
 by_reading (Err f) m texts h = cc
 by_reading (Ok r) m texts h = (r, refl, ap (first_of m) h, ap (second_of texts) h)
 
-sized : (b : Bool) (x : Result Reading Fault) (r : Reading) → cond b (Err (0, SizeWord)) x ≡ Ok r → x ≡ Ok r
+pub sized : (b : Bool) (x : Result Reading Fault) (r : Reading) → cond b (Err (0, SizeWord)) x ≡ Ok r → x ≡ Ok r
 sized true x r h = cc
 sized false x r h = h
 
@@ -128,9 +141,10 @@ canonical_is_read limit was texts text m few accepted readable table within =
     let e = sized (nat_lt 1048576 (length text)) (after_lines limit 1 (nothing_read was) (lines_of text)) r b.1 in
     let good = read_good limit 1 was r (lines_of text) e in
     let sound = read_sound limit 1 was r (lines_of text) e in
+    let apart = read_apart limit 1 was r (lines_of text) e in
     let size = read_few limit 1 was r (lines_of text) few e in
     let inside : IsTable r.texts table = subst (λ l. IsTable l table) (sym b.3) (record { distinct = distinct_by table within.distinct; within = within.within }) in
-    let a = subst (IsAgain limit table) b.2 (again limit r good size (statements_again r sound.done) (subst (λ x. IsReadable (models_text x)) (sym b.2) readable) table inside) in
+    let a = subst (IsAgain limit table) b.2 (again limit r good apart size (statements_again r sound.done) (subst (λ x. IsReadable (models_text x)) (sym b.2) readable) table inside) in
     (a.models, a.more, a.is, a.same)
 
 pub tables_are_within : TablesAreWithin
@@ -147,7 +161,7 @@ unwritten [] = refl
 unwritten (c ∷ cs) = ap (λ l. chronicle_from c ++ l) (unwritten cs)
 
 without_text : (m : Models (List ℕ)) → models_text (without_lines m) ≡ models_text m
-without_text m = ap (λ l. statements_text (map name_from m.names ++ l)) (unwritten m.chronicles)
+without_text m = ap (λ l. statements_text (map name_from m.names ++ map derived_from m.derived ++ l)) (unwritten m.chronicles)
 
 pub lines_are_not_written : LinesAreNotWritten
 lines_are_not_written n m e = sym (without_text n) ∙ ap models_text e ∙ without_text m

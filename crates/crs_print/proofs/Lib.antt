@@ -8,6 +8,7 @@ pub mod GoodReading
 pub mod Law
 pub mod Lines
 pub mod Normal
+pub mod Reordered
 pub mod Says
 pub mod Steps
 pub mod Tables

@@ -13,7 +13,7 @@ use Rattle.crs_parse.specs.Faults.{Reading, after_line, after_statement}
 use Rattle.crs_grammar.specs.Forms.{Part, AreWritten, body_form, span_form, form_of, begin_form}
 use Rattle.crs_grammar.specs.GrammarLaws.{IsWritable}
 use Rattle.crs_grammar.specs.TokenReading.{◌>>=◌, statement_of}
-use Rattle.crs_grammar.specs.Statements.{Body, NoEvent, Occurs, Hold, Statement, Message, Attribute, Begin, Happens, Point, Between, Among, Differ, Over, Close, is_inside}
+use Rattle.crs_grammar.specs.Statements.{Body, NoEvent, Occurs, Hold, Statement, Message, Attribute, Derived, Begin, Happens, Point, Between, Among, Differ, Over, Emits, Close, is_inside}
 use Rattle.crs_grammar.proofs.CanonTokens.{canonical_is_read}
 use Rattle.crs_grammar.proofs.GivesStatements.{read_is_meant}
 
@@ -102,6 +102,7 @@ begin_writes true name h = h
 writes : (s : Statement) → AreWritten (form_of s) [] → ⊥
 writes (Message name arity) h = h
 writes (Attribute name arity values) h = h
+writes (Derived name arity) h = h
 writes (Begin heading) h = begin_writes heading.prompt heading.name h
 writes (Happens e) h = h
 writes (Point name) h = h
@@ -109,6 +110,7 @@ writes (Between d) h = h
 writes (Among x values) h = h
 writes (Differ x y) h = h
 writes (Over w) h = body_writes w.body (span_form w.from w.to) h
+writes (Emits e) h = h
 writes Close h = h
 
 not_empty : (inside : Bool) (s : Statement) → statement_of inside [] ≡ Some s → ⊥

@@ -2,12 +2,13 @@
 use Rattle.std.proofs.Common.{◌≡◌, ℕ, zero, suc, ◌+◌, ◌≤◌, false, ◌||◌, ◌==◌, nat_lt, List, [], ◌∷◌, ◌++◌, map, length, Option, Some, None, refl, sym, ap, subst, ◌∙◌}
 use Rattle.std.specs.List.{AllByRecursion, flat_map, list_any}
 use Rattle.std.proofs.lemmas.List.{length-map}
-use Rattle.crs_parse.specs.Faults.{Name, Written, is_of, is_above, shift_size, variables_of, body_lacks, has_wrong_counts}
+use Rattle.crs_parse.specs.Faults.{Name, Written, is_of, is_above, shift_size, variables_of, uses, body_names, body_lacks, pattern_lacks, has_wrong_counts}
 use Rattle.crs_grammar.specs.Forms.{Part, Sign, Gap, Symbol, pattern_form, level_form, shift_form, anchor_form, body_form, span_form}
 use Rattle.crs_grammar.specs.GrammarLaws.{IsWritable}
-use Rattle.crs_parse.specs.Meant.{level_of, offset_of, points_of, event_of, anchor_of, window_of, bounds_of, chronicle_of}
+use Rattle.crs_parse.specs.Meant.{level_of, offset_of, points_of, event_of, anchor_of, window_of, emit_of, bounds_of, chronicle_of}
 use Rattle.crs_print.specs.CanonicalText.{level_from, shift_from}
-use Rattle.crs_grammar.specs.Statements.{Event, Shift, Here, Later, Earlier, Anchor, Window, Statement, Happens, Point, Between, Among, Differ, Over}
+use Rattle.crs_grammar.specs.Statements.{Event, Shift, Here, Later, Earlier, Anchor, Window, Statement, Happens, Point, Between, Among, Differ, Over, Emits}
+use Rattle.crs_parse.proofs.Apart.{IsApart, AreApart}
 use Rattle.crs_parse.proofs.Numbered.{each_made}
 use Rattle.crs_base.proofs.DistinctTexts.{Distinct}
 use Rattle.crs_print.proofs.Good.{IsFit, IsFine, IsGood, IsDone, Grows, fine_in}
@@ -137,6 +138,7 @@ good_normal texts names c h =
         sets = all_each c.sets (λ s k. moved (Among s.0 s.1) k) h.all.sets;
         differs = all_each c.differs (λ d k. moved (Differ d.0 d.1) k) h.all.differs;
         windows = each_made _ _ normal_window c.windows (λ w k. window_fine texts names (normal c) w (moved (Over w) k)) h.all.windows;
+        emits = all_each c.emits (λ e k. moved (Emits e) k) h.all.emits;
       };
       points = subst Distinct (sym (points_same c)) h.points;
       sets = h.sets;
@@ -148,11 +150,37 @@ good_normal texts names c h =
         bounds = h.few.bounds;
         differs = h.few.differs;
         windows = subst (λ n. n ≤ 16) (sym windows) h.few.windows;
+        emits = h.few.emits;
       };
     }
 
 pub done_normal : (texts : List (List ℕ)) (names : List Name) (c : Written) → IsDone texts names c → IsDone texts names (normal c)
-done_normal texts names c h = record { good = good_normal texts names c h.good; some = ap (λ n. n == 0) (length-map c.events normal_event) ∙ h.some; bound = lacks_same c.variables c.windows ∙ h.bound }
+done_normal texts names c h = record { good = good_normal texts names c h.good; some = ap (λ n. n == 0) (length-map c.events normal_event) ∙ h.some; bound = ap (λ b. b || list_any (λ e. pattern_lacks c.variables e.pattern) c.emits) (lacks_same c.variables c.windows) ∙ h.bound }
+
+-- It uses the same names.
+
+event_names_same : (es : List Event) → map (λ e. e.pattern.name) (map normal_event es) ≡ map (λ e. e.pattern.name) es
+event_names_same [] = refl
+event_names_same (e ∷ es) = ap (λ l. e.pattern.name ∷ l) (event_names_same es)
+
+window_names_same : (ws : List Window) (t : List ℕ) → list_any (λ w. is_of (body_names w.body) t) (map normal_window ws) ≡ list_any (λ w. is_of (body_names w.body) t) ws
+window_names_same [] t = refl
+window_names_same (w ∷ ws) t = ap (λ b. is_of (body_names w.body) t || b) (window_names_same ws t)
+
+uses_same : (c : Written) (t : List ℕ) → uses (normal c) t ≡ uses c t
+uses_same c t = λ i. is_of (event_names_same c.events i) t || window_names_same c.windows t i
+
+apart_normal : (c d : Written) → IsApart c d → IsApart (normal c) (normal d)
+apart_normal c d k t given used = k t given (sym (uses_same c t) ∙ used)
+
+-- chronicles of which none emits what it or one above it uses
+pub all_apart_normal : (done : List (ℕ × Written)) → AreApart (map (λ d. d.1) done) → AreApart (map (λ d. normal d.1) done)
+all_apart_normal [] k = tt
+all_apart_normal (d ∷ done) k = ((apart_normal d.1 d.1 k.0.0, each done k.0.1), all_apart_normal done k.1)
+  where
+    each : (ds : List (ℕ × Written)) → AllByRecursion (IsApart d.1) (map (λ d. d.1) ds) → AllByRecursion (IsApart (normal d.1)) (map (λ d. normal d.1) ds)
+    each [] k = tt
+    each (e ∷ ds) k = (apart_normal d.1 e.1 k.0, each ds k.1)
 
 -- It means the same.
 
@@ -174,6 +202,7 @@ chronicle_meant line c =
     let windows : map (window_of c.variables (points_of (normal c))) (map normal_window c.windows) ≡ map (window_of c.variables (points_of c)) c.windows =
     ap (λ p. map (window_of c.variables p) (map normal_window c.windows)) (points_same c) ∙ each_same (window_of c.variables (points_of c)) normal_window (window_meant c.variables (points_of c)) c.windows in
     λ i. record (chronicle_of (line, c)) {
+      emits = map (emit_of c.variables (points_same c i)) c.emits;
       events = each_same (event_of c.variables) normal_event (event_meant c.variables) c.events i;
       bounds = flat_map (bounds_of (points_same c i)) c.bounds;
       windows = windows i;

@@ -1,21 +1,23 @@
 -- The statements of the models of a reading are those of its chronicles.
-use Rattle.std.proofs.Common.{◌≡◌, ℕ, ℤ, true, false, not, List, [], ◌∷◌, ◌++◌, map, Option, Some, None, option_map, refl, ap, ◌∙◌}
+use Rattle.std.proofs.Common.{◌≡◌, ℕ, ℤ, true, false, not, List, [], ◌∷◌, ◌++◌, map, Option, Some, None, option_map, refl, sym, ap, ◌∙◌}
 use Rattle.std.specs.Prelude.{bytes_eq, neg_ℤ}
 use Rattle.std.specs.List.{AllByRecursion, flat_map, list_any}
 use Rattle.std.proofs.Math.IntN.{neg_ℤ-neg_ℤ}
+use Rattle.std.proofs.lemmas.List.{map-append}
 use Rattle.std.proofs.lemmas.List.Folds.{list_any-append}
 use Rattle.std.proofs.lemmas.Bool.{or_parts, or_from, or_left}
 use Rattle.crs_base.specs.Symbols.{is_known, text_at}
 use Rattle.crs_base.proofs.Alls.{all_left, all_right, all_both}
-use Rattle.crs_parse.specs.Faults.{Kind, OfMessage, OfAttribute, Name, Written, Reading, is_of, event_points, is_point, variable_in, variables_in, variables_of, change_terms, lacks, change_lacks, pattern_lacks, body_lacks}
-use Rattle.crs_parse.specs.Meant.{points_of, term_of, change_of, pattern_of, body_of, event_of, anchor_of, window_of, bounds_of, set_of, differ_of, chronicle_of, name_of, models_in}
-use Rattle.crs_print.specs.CanonicalText.{term_from, change_from, pattern_from, body_from, event_from, anchor_from, window_from, points_in, distances_from, name_from, chronicle_from, statements_from}
-use Rattle.crs_grammar.specs.Statements.{Term, Value, Variable, Any, Pattern, Event, Anchor, Body, NoEvent, Occurs, Hold, Window, Distance, Begin, Happens, Point, Between, Among, Differ, Over, Close}
+use Rattle.crs_parse.specs.Faults.{Kind, OfMessage, OfAttribute, OfDerived, Name, Written, Reading, is_of, event_points, is_point, variable_in, variables_in, variables_of, change_terms, lacks, change_lacks, pattern_lacks, body_lacks}
+use Rattle.crs_parse.specs.Meant.{points_of, term_of, change_of, pattern_of, body_of, event_of, anchor_of, window_of, emit_of, bounds_of, set_of, differ_of, chronicle_of, name_of, names_that, models_in}
+use Rattle.crs_print.specs.CanonicalText.{term_from, change_from, pattern_from, body_from, event_from, anchor_from, window_from, emit_from, points_in, distances_from, name_from, derived_from, chronicle_from, statements_from}
+use Rattle.crs_grammar.specs.Statements.{Term, Value, Variable, Any, Pattern, Event, Emission, Anchor, Body, NoEvent, Occurs, Hold, Window, Distance, Begin, Happens, Point, Between, Among, Differ, Over, Emits, Close}
 use Rattle.crs_parse.proofs.Faultless.{not_false}
 use Rattle.crs_parse.proofs.Places.{place_text}
 use Rattle.crs_parse.proofs.Sound.{AreOf, IsWhole}
 use Rattle.crs_print.proofs.Again.{statements_of}
 use Rattle.crs_print.proofs.GoodReading.{said_kind, said}
+use Rattle.crs_print.proofs.Reordered.{sorted}
 use Rattle.crs_print.proofs.Normal.{normal_event, normal_anchor, normal_window, normal}
 
 -- what is written of what is meant is what was written
@@ -94,6 +96,9 @@ module _ (points : List (List ℕ)) where
       → window_from variables points (window_of variables points w) ≡ normal_window w
   window_again variables w h f t = λ i. record { body = body_again variables w.body h i; from = anchor_again w.from f i; to = anchor_again w.to t i }
 
+emit_again : (points variables : List (List ℕ)) (e : Emission) → pattern_lacks variables e.pattern ≡ false → is_known points e.point ≡ true → emit_from variables points (emit_of variables points e) ≡ e
+emit_again points variables e h k = λ i. record { pattern = pattern_again variables e.pattern h i; point = place_text points e.point k i }
+
 points_are : (variables : List (List ℕ)) (es : List Event) → map (λ e. e.point) (map (event_of variables) es) ≡ map (λ e. e.point) es
 points_are variables [] = refl
 points_are variables (e ∷ es) = ap (λ l. e.point ∷ l) (points_are variables es)
@@ -123,24 +128,43 @@ chronicle_again names d h =
     ap (λ p. map (λ v. Over (window_from variables p v)) (map (window_of variables points) c.windows)) same
     ∙ again _ (λ v. Over (window_from variables points v)) (window_of variables points) Over normal_window
     (λ w q. ap Over (window_again points variables w q.1 (event_point c w.from.point q.0.1) (event_point c w.to.point q.0.2))) c.windows (all_both _ _ c.windows h.sound.windows h.bound) in
-    λ i. Begin (record { prompt = c.prompt; name = c.name }) ∷ (events i ++ map Point c.free ++ bounds i ++ sets i ++ differs i ++ windows i ++ Close ∷ [])
+    let emits : map (λ e. Emits (emit_from variables (points_in (chronicle_of d)) e)) (map (emit_of variables points) c.emits) ≡ map Emits c.emits =
+    ap (λ p. map (λ e. Emits (emit_from variables p e)) (map (emit_of variables points) c.emits)) same
+    ∙ same_again _ (λ e. Emits (emit_from variables points e)) (emit_of variables points) Emits
+    (λ e q. ap Emits (emit_again points variables e q.1 (event_point c e.point q.0.1))) c.emits (all_both _ _ c.emits h.sound.emits h.bound_emits) in
+    λ i. Begin (record { prompt = c.prompt; name = c.name }) ∷ (events i ++ map Point c.free ++ bounds i ++ sets i ++ differs i ++ windows i ++ emits i ++ Close ∷ [])
   where
     known_bounds : (c : Written) (ds : List Distance) → AllByRecursion (λ d. (is_point c d.to ≡ true) × (is_point c d.from ≡ true)) ds → AllByRecursion (λ d. (is_known (points_of c) d.to ≡ true) × (is_known (points_of c) d.from ≡ true)) ds
     known_bounds c [] k = tt
     known_bounds c (d ∷ ds) k = ((known_point c d.to k.0.0, known_point c d.from k.0.1), known_bounds c ds k.1)
 
-names_again : (ns : List Name) → map name_from (map name_of ns) ≡ map said ns
+-- the declarations of the names that are derived ones, or not, are those that were written
+names_again : (ns : List Name) → map name_from (map name_of (names_that false ns)) ≡ map said (names_that false ns)
 names_again [] = refl
-names_again (n ∷ ns) = λ i. one n.name n.arity n.kind i ∷ names_again ns i
+names_again (n ∷ ns) = by n.name n.arity n.kind (names_again ns)
   where
-    one : (name : List ℕ) (arity : ℕ) (k : Kind) → name_from (name_of (record { name = name; arity = arity; kind = k })) ≡ said_kind name arity k
-    one name arity OfMessage = refl
-    one name arity (OfAttribute values) = refl
+    by : (name : List ℕ) (arity : ℕ) (k : Kind) → map name_from (map name_of (names_that false ns)) ≡ map said (names_that false ns)
+        → map name_from (map name_of (names_that false (record { name = name; arity = arity; kind = k } ∷ ns))) ≡ map said (names_that false (record { name = name; arity = arity; kind = k } ∷ ns))
+    by name arity OfMessage e = ap (λ l. said_kind name arity OfMessage ∷ l) e
+    by name arity (OfAttribute values) e = ap (λ l. said_kind name arity (OfAttribute values) ∷ l) e
+    by name arity OfDerived e = e
+
+derived_again : (ns : List Name) → map derived_from (map name_of (names_that true ns)) ≡ map said (names_that true ns)
+derived_again [] = refl
+derived_again (n ∷ ns) = by n.name n.arity n.kind (derived_again ns)
+  where
+    by : (name : List ℕ) (arity : ℕ) (k : Kind) → map derived_from (map name_of (names_that true ns)) ≡ map said (names_that true ns)
+        → map derived_from (map name_of (names_that true (record { name = name; arity = arity; kind = k } ∷ ns))) ≡ map said (names_that true (record { name = name; arity = arity; kind = k } ∷ ns))
+    by name arity OfMessage e = e
+    by name arity (OfAttribute values) e = e
+    by name arity OfDerived e = ap (λ l. said_kind name arity OfDerived ∷ l) e
 
 chronicles_again : (names : List Name) (done : List (ℕ × Written)) → AllByRecursion (λ d. IsWhole names d.1) done → flat_map chronicle_from (map chronicle_of done) ≡ flat_map statements_of (map (λ d. normal d.1) done)
 chronicles_again names [] h = refl
 chronicles_again names (d ∷ done) h = λ i. chronicle_again names d h.0 i ++ chronicles_again names done h.1 i
 
 -- the statements of the models
-pub statements_again : (r : Reading) → AllByRecursion (λ d. IsWhole r.names d.1) r.done → statements_from (models_in r) ≡ map said r.names ++ flat_map statements_of (map (λ d. normal d.1) r.done)
-statements_again r h = λ i. names_again r.names i ++ chronicles_again r.names r.done h i
+pub statements_again : (r : Reading) → AllByRecursion (λ d. IsWhole r.names d.1) r.done → statements_from (models_in r) ≡ map said (sorted r.names) ++ flat_map statements_of (map (λ d. normal d.1) r.done)
+statements_again r h =
+    (λ i. names_again r.names i ++ derived_again r.names i ++ chronicles_again r.names r.done h i)
+    ∙ ap (λ l. l ++ flat_map statements_of (map (λ d. normal d.1) r.done)) (sym (map-append said (names_that false r.names) (names_that true r.names)))

@@ -3,7 +3,7 @@ use Rattle.std.specs.Prelude.{ℕ, zero, suc, ℤ, pos, negsuc, neg_ℤ, List, [
 use Rattle.std.specs.List.{flat_map}
 use Rattle.crs_base.specs.Symbols.{text_at}
 use Rattle.crs_stn.specs.declared.bound.Bound.{Bound}
-use Rattle.crs_model.specs.Models.{Term, Value, Var, Any, Pattern, EventDef, Anchor, Body, NoEvent, Occurs, Hold, Window, Chronicle, Kind, Message, Attribute, Name, Models}
+use Rattle.crs_model.specs.Models.{Term, Value, Var, Any, Pattern, EventDef, Anchor, Body, NoEvent, Occurs, Hold, Window, Emit, Chronicle, Kind, Message, Attribute, Name, Models}
 use Rattle.crs_grammar.specs.Statements as w
 use Rattle.crs_grammar.specs.Canon.{statements_text}
 
@@ -48,6 +48,9 @@ anchor_from points a = record { point = text_at points a.event; shift = shift_fr
 abbrev pub window_from : List (List ℕ) → List (List ℕ) → Window (List ℕ) → w.Window
 window_from variables points v = record { body = body_from variables v.body; from = anchor_from points v.from; to = anchor_from points v.to }
 
+abbrev pub emit_from : List (List ℕ) → List (List ℕ) → Emit (List ℕ) → w.Emission
+emit_from variables points e = record { pattern = pattern_from variables e.pattern; point = text_at points e.event }
+
 -- the first of two bounds gives the greatest distance, and the second the least
 abbrev pub distance_from : List (List ℕ) → Bound → Bound → w.Distance
 distance_from points high low = record { to = text_at points high.to; from = text_at points high.from; low = option_map neg_ℤ low.most; high = high.most }
@@ -57,7 +60,7 @@ distances_from points [] = []
 distances_from points (b ∷ []) = []
 distances_from points (high ∷ low ∷ bs) = distance_from points high low ∷ distances_from points bs
 
--- events, free points, bounds, sets, differences and windows
+-- events, free points, bounds, sets, differences, windows and emits
 abbrev pub chronicle_from : Chronicle (List ℕ) → List w.Statement
 chronicle_from c =
     w.Begin (record { prompt = c.prompt; name = c.name }) ∷ map (λ e. w.Happens (event_from c.variables e)) c.events
@@ -66,6 +69,7 @@ chronicle_from c =
     ++ map (λ s. w.Among (text_at c.variables s.variable) s.values) c.sets
     ++ map (λ d. w.Differ (text_at c.variables d.0) (text_at c.variables d.1)) c.differs
     ++ map (λ v. w.Over (window_from c.variables (points_in c) v)) c.windows
+    ++ map (λ e. w.Emits (emit_from c.variables (points_in c) e)) c.emits
     ++ w.Close ∷ []
 
 abbrev pub kind_from : List ℕ → ℕ → Kind (List ℕ) → w.Statement
@@ -75,9 +79,12 @@ kind_from name arity (Attribute values) = w.Attribute name arity values
 abbrev pub name_from : Name (List ℕ) → w.Statement
 name_from n = kind_from n.name n.arity n.kind
 
--- declared names first, then the chronicles
+abbrev pub derived_from : Name (List ℕ) → w.Statement
+derived_from n = w.Derived n.name n.arity
+
+-- declared names first, then derived names, then the chronicles
 abbrev pub statements_from : Models (List ℕ) → List w.Statement
-statements_from m = map name_from m.names ++ flat_map chronicle_from m.chronicles
+statements_from m = map name_from m.names ++ map derived_from m.derived ++ flat_map chronicle_from m.chronicles
 
 abbrev pub models_text : Models (List ℕ) → List ℕ
 models_text m = statements_text (statements_from m)

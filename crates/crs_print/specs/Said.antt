@@ -11,11 +11,12 @@ use Rattle.crs_model.specs.declared.chronicle.VarSet.{VarSet as CodeSet}
 use Rattle.crs_model.specs.declared.chronicle.Anchor.{Anchor as CodeAnchor}
 use Rattle.crs_model.specs.declared.chronicle.Body.{Body as CodeBody}
 use Rattle.crs_model.specs.declared.chronicle.Window.{Window as CodeWindow}
+use Rattle.crs_model.specs.declared.chronicle.Emit.{Emit as CodeEmit}
 use Rattle.crs_model.specs.declared.chronicle.Chronicle.{Chronicle as CodeChronicle}
 use Rattle.crs_model.specs.declared.models.Name.{Name as CodeName}
 use Rattle.crs_model.specs.SeenModels as view
-use Rattle.crs_model.specs.Renaming.{text_in, renamed_term, renamed_pattern, renamed_event, renamed_set, renamed_body, renamed_window, renamed_chronicle, renamed_name, IsTermOf, IsPatternOf}
-use Rattle.crs_grammar.specs.Statements.{Term, Pattern, Event, Anchor, Body, Window, Distance, Statement, Happens, Point, Between, Among, Differ, Over}
+use Rattle.crs_model.specs.Renaming.{text_in, renamed_term, renamed_pattern, renamed_event, renamed_set, renamed_body, renamed_window, renamed_emit, renamed_chronicle, renamed_name, IsTermOf, IsPatternOf}
+use Rattle.crs_grammar.specs.Statements.{Term, Pattern, Event, Anchor, Body, Window, Distance, Statement, Happens, Point, Between, Among, Differ, Over, Emits}
 use Rattle.crs_grammar.specs.Canon.{part_text}
 use Rattle.crs_grammar.specs.Forms.{Part}
 use Rattle.crs_print.specs.CanonicalText as from
@@ -86,6 +87,18 @@ module _ (texts : List (List ℕ)) where
 
   abbrev pub windows : List Sym → List Sym → List CodeWindow → List Statement
   windows variables points ws = map (λ v. Over (from.window_from (texts_of texts variables) (texts_of texts points) v)) (map (renamed_window (text_in texts)) (map view.window_of ws))
+
+  abbrev pub emit : List Sym → List Sym → CodeEmit → Statement
+  emit variables points e = Emits (from.emit_from (texts_of texts variables) (texts_of texts points) (renamed_emit (text_in texts) (view.emit_of e)))
+
+  abbrev pub emits : List Sym → List Sym → List CodeEmit → List Statement
+  emits variables points es = map (λ e. Emits (from.emit_from (texts_of texts variables) (texts_of texts points) e)) (map (renamed_emit (text_in texts)) (map view.emit_of es))
+
+  abbrev pub derived : CodeName → Statement
+  derived n = from.derived_from (renamed_name (text_in texts) (view.name_of n))
+
+  abbrev pub all_derived : List CodeName → List Statement
+  all_derived ns = map from.derived_from (map (renamed_name (text_in texts)) (map view.name_of ns))
 
   abbrev pub name : CodeName → Statement
   name n = from.name_from (renamed_name (text_in texts) (view.name_of n))

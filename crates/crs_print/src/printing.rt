@@ -13,7 +13,7 @@ ghost use Rattle.crs_grammar.specs.Statements.{Happens, Point, Between, Among, D
 
 use crs_base::{List, Sym, Symbols, Text, push_bytes, push_integer, push_number};
 use crs_model::{
-    Anchor, Body, Chronicle, EventDef, Kind, Models, Name, Pattern, Term, VarSet, Window,
+    Anchor, Body, Chronicle, Emit, EventDef, Kind, Models, Name, Pattern, Term, VarSet, Window,
 };
 use crs_stn::Bound;
 use std::alloc::{AllocError, Global};
@@ -520,6 +520,43 @@ fn put_windows(
     Ok(())
 }
 
+fn put_emit(
+    out: &mut Vec<u8>,
+    symbols: &Symbols,
+    variables: &[Sym],
+    points: &[Sym],
+    e: &Emit,
+) -> Result<(), AllocError>
+    requires variables { renamed.AreKnown symbols.now.texts variables.now }
+    requires points { renamed.AreKnown symbols.now.texts points.now }
+    requires pattern { said.HasPattern symbols.now.texts e.now.pattern }
+    ensures { OnOk result (out.new.items ≡ out.old.items ++ statement_line (said.emit symbols.now.texts variables.now points.now e.now)) }
+{
+    push_bytes(out, b"  emit(")?;
+    put_pattern(out, symbols, variables, &e.pattern)?;
+    push_bytes(out, b", ")?;
+    push_bytes(out, text_of(symbols, points, e.event))?;
+    push_bytes(out, b")\n")
+}
+
+fn put_emits(
+    out: &mut Vec<u8>,
+    symbols: &Symbols,
+    variables: &[Sym],
+    points: &[Sym],
+    emits: &[Emit],
+) -> Result<(), AllocError>
+    requires variables { renamed.AreKnown symbols.now.texts variables.now }
+    requires points { renamed.AreKnown symbols.now.texts points.now }
+    requires emits { AllByRecursion (λ e. renamed.IsPatternOf (said.Has symbols.now.texts) e.pattern) (map view.emit_of emits.now) }
+    ensures { OnOk result (out.new.items ≡ out.old.items ++ flat_map statement_line (said.emits symbols.now.texts variables.now points.now emits.now)) }
+{
+    for e in emits {
+        put_emit(out, symbols, variables, points, e)?;
+    }
+    Ok(())
+}
+
 fn put_plain_begin(out: &mut Vec<u8>, symbols: &Symbols, name: Sym) -> Result<(), AllocError>
     requires { said.Has symbols.now.texts name }
     ensures { OnOk result (out.new.items ≡ out.old.items ++ statement_line (Begin (record { prompt = false; name = renamed.text_in symbols.now.texts name }))) }
@@ -632,6 +669,27 @@ fn put_names(out: &mut Vec<u8>, symbols: &Symbols, names: &[Name]) -> Result<(),
     Ok(())
 }
 
+fn put_derived(out: &mut Vec<u8>, symbols: &Symbols, name: &Name) -> Result<(), AllocError>
+    requires { said.Has symbols.now.texts name.now.name }
+    ensures { OnOk result (out.new.items ≡ out.old.items ++ statement_line (said.derived symbols.now.texts name.now)) }
+{
+    push_bytes(out, b"derived ")?;
+    push_bytes(out, symbols.text(name.name))?;
+    push_bytes(out, b" ")?;
+    push_number(out, name.arity as u64)?;
+    push_bytes(out, b"\n")
+}
+
+fn put_all_derived(out: &mut Vec<u8>, symbols: &Symbols, names: &[Name]) -> Result<(), AllocError>
+    requires { AllByRecursion (renamed.IsNameOf (said.Has symbols.now.texts)) (map view.name_of names.now) }
+    ensures { OnOk result (out.new.items ≡ out.old.items ++ flat_map statement_line (said.all_derived symbols.now.texts names.now)) }
+{
+    for n in names {
+        put_derived(out, symbols, n)?;
+    }
+    Ok(())
+}
+
 fn put_chronicle(
     alloc: Global,
     out: &mut Vec<u8>,
@@ -652,6 +710,7 @@ fn put_chronicle(
     put_sets(out, symbols, variables, c.sets.as_slice())?;
     put_differs(out, symbols, variables, c.differs.as_slice())?;
     put_windows(out, symbols, variables, &points, c.windows.as_slice())?;
+    put_emits(out, symbols, variables, &points, c.emits.as_slice())?;
     push_bytes(out, b"}\n")?;
     Ok(())
 }
@@ -671,13 +730,14 @@ fn put_chronicles(
     Ok(())
 }
 
-/// The canonical text of models: declared names and then chronicles, each in order.
+/// The canonical text of models: declared names, derived names and then chronicles, each in order.
 pub fn print_models(alloc: Global, models: &Models, symbols: &Symbols) -> Result<Text, AllocError>
     requires { renamed.AreModelsOf (λ s. s.0 < length symbols.now.texts) (view.models_of models.now) }
     ensures { IfOk result (λ t. t ≡ from.models_text (renamed.renamed_models (renamed.text_in symbols.now.texts) (view.models_of models.now))) }
 {
     let mut out = Vec::new(alloc);
     put_names(&mut out, symbols, models.names.as_slice())?;
+    put_all_derived(&mut out, symbols, models.derived.as_slice())?;
     put_chronicles(alloc, &mut out, symbols, models.chronicles.as_slice())?;
     Ok(Text::from_vec(out))
 }

@@ -7,7 +7,7 @@ use Rattle.crs_model.specs.declared.recognition.Mark.{Mark}
 use Rattle.crs_model.specs.Models.{Chronicle, EventDef}
 use Rattle.crs_model.specs.Matching.{Assignment}
 use Rattle.crs_model.proofs.Twins.{Twins}
-use Rattle.crs_model.proofs.TwinLists.{Paired}
+use Rattle.crs_model.proofs.PairedLists.{Paired}
 use Rattle.crs_report.specs.OutputLines.{recognition_line, point_text, value_text, mark_text}
 
 module _ (T : Entry (List ℕ) → Entry (List ℕ) → Type 0) (t : Twins T) where

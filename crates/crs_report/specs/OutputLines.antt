@@ -2,13 +2,13 @@
 use Rattle.std.specs.Prelude.{ℕ, Bool, false, true, List, [], ◌∷◌, ◌++◌, codes, decimal, flat_map, zip}
 use Rattle.crs_base.specs.Entry.{Entry}
 use Rattle.crs_model.specs.declared.models.ModelWord.{ModelWord}
-use Rattle.crs_model.specs.declared.models.ModelWord.TheVariants.{Form as FormWord, Twice as TwiceWord, Name as NameWord, Arity as ArityWord, Value as ValueWord, Variable as VariableWord, Point as PointWord, Bound as BoundWord, Window as WindowWord, Limit as LimitWord, Events as EventsWord, Unbound as UnboundWord, Inconsistent as InconsistentWord, Size as SizeWord}
+use Rattle.crs_model.specs.declared.models.ModelWord.TheVariants.{Form as FormWord, Twice as TwiceWord, Name as NameWord, Arity as ArityWord, Value as ValueWord, Variable as VariableWord, Point as PointWord, Bound as BoundWord, Window as WindowWord, Limit as LimitWord, Emit as EmitWord, Events as EventsWord, Unbound as UnboundWord, Inconsistent as InconsistentWord, Lag as LagWord, Hierarchy as HierarchyWord, Size as SizeWord}
 use Rattle.crs_model.specs.declared.recognition.Mark.{Mark}
 use Rattle.crs_model.specs.declared.recognition.Mark.TheVariants.{Clock, Finish}
 use Rattle.crs_model.specs.Models.{EventDef, Chronicle}
 use Rattle.crs_model.specs.Matching.{Assignment}
 use Rattle.crs_report.specs.declared.refusals.Fault.{Fault}
-use Rattle.crs_report.specs.declared.refusals.Fault.TheVariants.{Long, Form, Order, Back, Late, Arity, Value, Full, Values}
+use Rattle.crs_report.specs.declared.refusals.Fault.TheVariants.{Long, Form, Order, Back, Late, Arity, Value, Full, Values, Flood}
 
 -- a clock mark's number, or `end`
 abbrev pub mark_text : Mark → List ℕ
@@ -50,6 +50,7 @@ fault_text Arity = codes "arity"
 fault_text Value = codes "value"
 fault_text (Full limit) = codes "full " ++ decimal limit
 fault_text (Values limit) = codes "values " ++ decimal limit
+fault_text (Flood limit) = codes "flood " ++ decimal limit
 
 -- the refusal of the log's line of that number
 abbrev pub refusal_line : ℕ → Fault → List ℕ
@@ -67,9 +68,12 @@ word_text PointWord = codes "point"
 word_text BoundWord = codes "bound"
 word_text WindowWord = codes "window"
 word_text LimitWord = codes "limit"
+word_text EmitWord = codes "emit"
 word_text EventsWord = codes "events"
 word_text UnboundWord = codes "unbound"
 word_text InconsistentWord = codes "inconsistent"
+word_text LagWord = codes "lag"
+word_text HierarchyWord = codes "hierarchy"
 word_text SizeWord = codes "size"
 
 -- the refusal of a models text at the line of that number

@@ -16,4 +16,6 @@ mod rows;
 #[cfg(test)]
 mod runs;
 #[cfg(test)]
+mod several_logs;
+#[cfg(test)]
 mod windows;

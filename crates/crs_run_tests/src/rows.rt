@@ -74,7 +74,7 @@ pub(crate) fn run(
     desk: &mut MemoryDesk,
 ) -> Result<Status, AllocError>
     requires { memory_inputs desk.old < 2 ^ 31 }
-    ensures { memory_inputs desk.new ≤ memory_inputs desk.old + 2 }
+    ensures { memory_inputs desk.new ≤ memory_inputs desk.old + 9 }
 {
     let words = words_in(alloc, words)?;
     let listeners = listeners(alloc)?;
@@ -93,7 +93,7 @@ pub(crate) fn ends_so(
     output: &str,
 ) -> Result<(), Fail>
     requires { memory_inputs desk.old < 2 ^ 30 }
-    ensures { memory_inputs desk.new ≤ memory_inputs desk.old + 2 }
+    ensures { memory_inputs desk.new ≤ memory_inputs desk.old + 9 }
 {
     let ended = run(alloc, words, limits, desk)?;
     assert!(rt; ended == status, "{output}: {ended:?}");

@@ -13,7 +13,7 @@ use std::process::Abort;
 use std::test::Fail;
 
 const USAGE: &str =
-    "usage: crs run [--focus] [--summary] [--tally KINDS] MODELS LOG\n       crs model [--minimal] MODELS\n       crs drill [--focus] SEED N\n       crs import CSV\n";
+    "usage: crs run [--focus] [--summary] [--cite] [--tally KINDS] MODELS LOG\n       crs model [--minimal] MODELS\n       crs drill [--focus] SEED N\n       crs import CSV\n       crs feeds [--focus] MODELS LOG..\n       crs audit MODELS LOG OUTPUT\n";
 
 #[test]
 fn worked_logs(rt: HostRuntime) -> Result<(), Fail> {

@@ -87,14 +87,14 @@ passed_brings f x s r n after out is = subst (λ (a : State × Outcome). Brings 
 })
 
 -- what the engine says of a date
-late_by : (stopped early : Bool) (date h d horizon : ℕ)
+pub late_by : (stopped early : Bool) (date h d horizon : ℕ)
     → Err (Late date horizon) ≡ answer_by (if stopped then Some Stopped else (if early then Some (Late d h) else None))
     → (early ≡ true) × (date ≡ d) × (horizon ≡ h)
 late_by true early date h d horizon e = absurd cc
 late_by false true date h d horizon e = (refl, cc, cc)
 late_by false false date h d horizon e = absurd cc
 
-fine_by : (stopped early : Bool) (h d : ℕ)
+pub fine_by : (stopped early : Bool) (h d : ℕ)
     → Ok tt ≡ answer_by (if stopped then Some Stopped else (if early then Some (Late d h) else None)) → early ≡ false
 fine_by true early h d e = absurd cc
 fine_by false true h d e = absurd cc

@@ -1,13 +1,21 @@
 -- A run that meets no fault ends well.
-use Rattle.std.proofs.Common.{◌≡◌, ◌∙◌, sym, refl, subst, ap, inl, inr, ℕ, Bool, List, [], ◌∷◌, arith}
+use Rattle.std.proofs.Common.{◌≡◌, ◌⊎◌, ◌∙◌, ◌<◌, ◌≤◌, sym, refl, subst, ap, inl, inr, ℕ, Bool, true, List, [], ◌∷◌, ◌++◌, length, Some, arith}
 use Rattle.std.specs.List.{AllByRecursion}
+use Rattle.crs_audit.specs.Audits.{Ground, IsAudit}
+use Rattle.crs_audit.specs.declared.words.AuditWord.{AuditWord}
 use Rattle.crs_desk.specs.Desk.{Told}
 use Rattle.crs_stn.specs.Bound.{IsConsistent}
+use Rattle.crs_model.specs.Hierarchy.{IsEmitLine}
 use Rattle.crs_model.specs.Models.{Chronicle, Models}
+use Rattle.crs_parse.specs.Meant.{models_read}
 use Rattle.crs_model.specs.declared.models.ModelWord.{ModelWord}
 use Rattle.crs_top.specs.declared.status.Status.{Status}
 use Rattle.crs_top.specs.declared.status.Status.TheVariants.{Done, Refusals, Words, Rejected, ReadFault, WriteFault, Memory, TooLong}
-use Rattle.crs_top.specs.ModelTexts.{AreModelsIn, IsAccepted, IsFaulty, ClosesInconsistent}
+use Rattle.crs_model.specs.ProperModels.{AreProper}
+use Rattle.crs_model.specs.ShortLags.{AreInTime, ClosesSlow}
+use Rattle.crs_compile.proofs.UniqueLags as lags
+use Rattle.crs_parse.proofs.ReadProper.{read_proper}
+use Rattle.crs_top.specs.ModelTexts.{AreModelsIn, IsAccepted, ClosesInconsistent, BreaksRule, IsFaulty}
 use Rattle.crs_top.specs.Inputs.{bytes_of}
 use Rattle.crs_top.specs.Logs.{Tail}
 use Rattle.crs_top.specs.RunOutcomes.{Most, Runs, Completes}
@@ -15,6 +23,7 @@ use Rattle.crs_top.specs.Texts.{Frame}
 use Rattle.crs_words.specs.declared.command.Listing.{Listing}
 use Rattle.crs_top.specs.Listings.{Prints, CompletesPrint}
 use Rattle.crs_top.specs.Imports.{Imports, CompletesImport}
+use Rattle.crs_top.specs.AuditOutcomes.{most_checked, ground_of, AreTakenWhole, Audits, CompletesAudit}
 use Rattle.crs_import.specs.Tables.{table_log}
 use Rattle.std.specs.Prelude.{Result, Ok, Err}
 
@@ -24,15 +33,35 @@ none_inconsistent (c ∷ cs) line h (inl k) = k.0 h.0
 none_inconsistent (c ∷ cs) line h (inr k) = none_inconsistent cs line h.1 k.1
 
 -- a text that breaks no rule of models has no fault
-pub not_faulty : (symbols : ℕ) (text : List ℕ) (m : Models (List ℕ)) (line : ℕ) (word : ModelWord) → AreModelsIn symbols text m → IsFaulty symbols text line word → ⊥
-not_faulty symbols text m line word a (inl e) = let k = sym a.read ∙ e in cc
-not_faulty symbols text m line word a (inr h) =
+pub not_broken : (symbols : ℕ) (text : List ℕ) (m : Models (List ℕ)) (line : ℕ) (word : ModelWord) → AreModelsIn symbols text m → BreaksRule symbols text line word → ⊥
+not_broken symbols text m line word a (inl e) = let k = sym a.read ∙ e in cc
+not_broken symbols text m line word a (inr h) =
     let pair : (m, a.texts) ≡ (h.0, h.1) = (let r = a.read in let e = h.2 in cc) in
-    none_inconsistent h.0.chronicles line (subst (AllByRecursion (λ c. IsConsistent c.bounds)) (ap (λ (p : Models (List ℕ) × List (List ℕ)). p.0.chronicles) pair) a.consistent) h.4
+    let same : m.chronicles ≡ h.0.chronicles = ap (λ (p : Models (List ℕ) × List (List ℕ)). p.0.chronicles) pair in
+    elim h.3 [
+      | inl k ↦ none_inconsistent h.0.chronicles line (subst (AllByRecursion (λ c. IsConsistent c.bounds)) same a.consistent) k.1
+      | inr k ↦
+          let proper : AreProper m = read_proper symbols [] text m a.texts a.read in
+          lags.not_both (List ℕ) (m.names ++ m.derived) m.chronicles line proper.chronicles proper.in_order a.in_time (subst (λ cs. ClosesSlow (List ℕ) cs line) (sym same) k.2)
+    ]
+
+none_gives : (cs : List (Chronicle (List ℕ))) (line : ℕ) → AllByRecursion (λ c. c.emits ≡ []) cs → IsEmitLine cs (Some line) → ⊥
+none_gives [] line h k = absurd cc
+none_gives (c ∷ cs) line h (inl k) = none_gives cs line h.1 k.1
+none_gives (c ∷ cs) line h (inr k) = k.0 h.0
+
+one_reading : (symbols : ℕ) (text : List ℕ) (m n : Models (List ℕ)) (texts more : List (List ℕ)) → models_read symbols [] text ≡ Ok (m, texts) → models_read symbols [] text ≡ Ok (n, more)
+    → m.chronicles ≡ n.chronicles
+one_reading symbols text m n texts more h k =
+    let pair : (m, texts) ≡ (n, more) = (let e = sym h ∙ k in cc) in
+    ap (λ (p : Models (List ℕ) × List (List ℕ)). p.0.chronicles) pair
 
 -- a text that is accepted isn't refused
 pub not_both : (cite : Bool) (symbols entries : ℕ) (text : List ℕ) (f : Frame) (line : ℕ) (word : ModelWord) → IsAccepted cite symbols entries text f → IsFaulty symbols text line word → ⊥
-not_both cite symbols entries text f line word a = not_faulty symbols text f.models line word (record { texts = f.texts; read = a.read; consistent = a.consistent })
+not_both cite symbols entries text f line word a (inl h) = not_broken symbols text f.models line word (record { texts = f.texts; read = a.read; consistent = a.consistent; in_time = a.in_time }) h
+not_both cite symbols entries text f line word a (inr h) =
+    let same = one_reading symbols text h.1.0 f.models h.1.1.texts f.texts h.1.1.read a.read in
+    none_gives f.models.chronicles line a.none_emits (subst (λ (cs : List (Chronicle (List ℕ))). IsEmitLine cs (Some line)) same h.1.2)
 
 module _ (base now : ℕ) (cite : Bool) (tail : Tail) (most : Most) (old new : Told) (models log : List ℕ) (fault : Type 0) where
   abbrev Text : List ℕ
@@ -67,11 +96,11 @@ module _ (base now symbols : ℕ) (listing : Listing) (old new : Told) (models :
   pub completes_print : (status : Status) → Prints base now symbols listing old models status new → (status ≡ ReadFault → fault) → (status ≡ WriteFault → fault) → CompletesPrint symbols old models fault status
   completes_print Done p rf wf = record {
     accepted = λ m a n. inl refl;
-    refused = λ line word h n. absurd (not_faulty symbols (bytes_of old models) p.4.outcome.2.1.0 line word p.4.outcome.2.1.1 h);
+    refused = λ line word h n. absurd (not_broken symbols (bytes_of old models) p.4.outcome.2.1.0 line word p.4.outcome.2.1.1 h);
   }
   completes_print Memory p rf wf = record { accepted = λ m a n. inr refl; refused = λ line word h n. inr refl }
   completes_print Rejected p rf wf = record {
-    accepted = λ m a n. absurd (not_faulty symbols (bytes_of old models) m p.4.outcome.2.1.0 p.4.outcome.2.1.1 a p.4.outcome.2.1.2);
+    accepted = λ m a n. absurd (not_broken symbols (bytes_of old models) m p.4.outcome.2.1.0 p.4.outcome.2.1.1 a p.4.outcome.2.1.2);
     refused = λ line word h n. inl refl;
   }
   completes_print ReadFault p rf wf = record { accepted = λ m a n. absurd (n (rf refl)); refused = λ line word h n. absurd (n (rf refl)) }
@@ -99,3 +128,97 @@ module _ (base now : ℕ) (old new : Told) (table : List ℕ) (fault : Type 0) w
   completes_import Words p rf wf = record { written = λ log e n. absurd p.4.outcome; refused = λ e h n. absurd p.4.outcome }
   completes_import Refusals p rf wf = record { written = λ log e n. absurd p.4.outcome; refused = λ e h n. absurd p.4.outcome }
   completes_import TooLong p rf wf = record { written = λ log e n. absurd p.4.outcome; refused = λ e h n. absurd p.4.outcome }
+
+-- two frames of the same text judge claims alike
+one_ground : (cite : Bool) (symbols entries : ℕ) (text : List ℕ) (f g : Frame) → IsAccepted cite symbols entries text f → IsAccepted cite symbols entries text g
+    → (log : List ℕ) → ground_of f log ≡ ground_of g log
+one_ground cite symbols entries text f g a b log =
+    let pair : ◌≡◌ {A = Models (List ℕ) × List (List ℕ)} (f.models, f.texts) (g.models, g.texts) = (let p = a.read in let q = b.read in cc) in
+    λ i. record {
+      chronicles = (pair i).0.chronicles;
+      setting = record { names = (pair i).0.names; symbols = (a.symbols_are ∙ sym b.symbols_are) i; entries = (a.entries_are ∙ sym b.entries_are) i };
+      texts = (pair i).1;
+      log = log;
+    }
+
+-- what was taken whole isn't too long
+not_too_long : (bytes : List ℕ) (k : ℕ) → AreTakenWhole bytes k → most_checked < length bytes → ⊥
+not_too_long bytes k w lt = absurd (omega (arith, w.0, w.1, lt))
+
+module _ (base now : ℕ) (most : Most) (old new : Told) (models log output : List ℕ) (fault : Type 0) where
+  abbrev Accepted : Frame → Type 0
+  Accepted f = IsAccepted true most.symbols most.entries (bytes_of old models) f
+
+  -- the audit of the output by one frame is that by another
+  moved : (f g : Frame) → Accepted f → Accepted g → (answer : Result ℕ (ℕ × AuditWord)) → IsAudit (ground_of f (bytes_of old log)) (bytes_of old output) answer
+      → IsAudit (ground_of g (bytes_of old log)) (bytes_of old output) answer
+  moved f g a b answer h = subst (λ (x : Ground). IsAudit x (bytes_of old output) answer) (one_ground true most.symbols most.entries (bytes_of old models) f g a b (bytes_of old log)) h
+
+  one_too_long : (t u : ℕ) → AreTakenWhole (bytes_of old log) t → AreTakenWhole (bytes_of old output) u
+      → (most_checked < length (bytes_of old log)) ⊎ (most_checked < length (bytes_of old output)) → ⊥
+  one_too_long t u w v (inl lt) = not_too_long (bytes_of old log) t w lt
+  one_too_long t u w v (inr lt) = not_too_long (bytes_of old output) u v lt
+
+  unlike : (f : Frame) → Accepted f → (line : ℕ) (word : ModelWord) → IsFaulty most.symbols (bytes_of old models) line word → ⊥
+  unlike f a line word h = not_both true most.symbols most.entries (bytes_of old models) f line word a h
+
+  pub completes_audit : (status : Status) → Audits base now most old models log output status new → (status ≡ ReadFault → fault) → (status ≡ WriteFault → fault)
+      → CompletesAudit most old models log output fault status
+  completes_audit Done r rf wf =
+      let o = r.8.outcome in
+      let w = o.3 in
+      record {
+        faultless = λ f a l m none n. inl refl;
+        faulty = λ f a l m none n. absurd (none w.3.1.0 (moved w.0 f w.1 a (Ok w.3.1.0) w.3.1.1));
+        too_long = λ f a l n. absurd (one_too_long r.3 r.4 o.1 o.2 l);
+        refused = λ line word h n. absurd (unlike w.0 w.1 line word h);
+      }
+  completes_audit Rejected r rf wf = elim r.8.outcome [
+    | inl o ↦ (
+        let q = o.2.1 in
+        record {
+          faultless = λ f a l m none n. absurd (unlike f a q.0 q.1 q.2);
+          faulty = λ f a l m none n. absurd (unlike f a q.0 q.1 q.2);
+          too_long = λ f a l n. absurd (unlike f a q.0 q.1 q.2);
+          refused = λ line word h n. inl refl;
+        })
+    | inr o ↦ (
+        let w = o.3 in
+        record {
+          faultless = λ f a l m none n. absurd (none w.3.1.0 w.3.1.1 (moved w.0 f w.1 a (Err (w.3.1.0, w.3.1.1)) w.3.1.2));
+          faulty = λ f a l m none n. inl refl;
+          too_long = λ f a l n. absurd (one_too_long r.3 r.4 o.1 o.2 l);
+          refused = λ line word h n. absurd (unlike w.0 w.1 line word h);
+        })
+  ]
+  completes_audit TooLong r rf wf =
+      let d = r.8 in
+      let short : length (bytes_of old log) ≤ most_checked → length (bytes_of old output) ≤ most_checked → ⊥ = λ l m. elim d.outcome.0 [
+        | inl q ↦ absurd (omega (arith, d.log_read.within, q.1, l))
+        | inr q ↦ absurd (omega (arith, d.output_read.within, q.1, m))
+      ] in
+      let reached : 1 < r.0 = elim d.outcome.0 [
+        | inl q ↦ omega (arith, q.0)
+        | inr q ↦ omega (arith, q.0)
+      ] in
+      record {
+        faultless = λ f a l m none n. absurd (short l m);
+        faulty = λ f a l m none n. absurd (short l m);
+        too_long = λ f a l n. inl refl;
+        refused = λ line word h n. absurd (let w = d.accepted reached in unlike w.0 w.1 line word h);
+      }
+  completes_audit Memory r rf wf = record { faultless = λ f a l m none n. inr refl; faulty = λ f a l m none n. inr refl; too_long = λ f a l n. inr refl; refused = λ line word h n. inr refl }
+  completes_audit ReadFault r rf wf = record {
+    faultless = λ f a l m none n. absurd (n (rf refl));
+    faulty = λ f a l m none n. absurd (n (rf refl));
+    too_long = λ f a l n. absurd (n (rf refl));
+    refused = λ line word h n. absurd (n (rf refl));
+  }
+  completes_audit WriteFault r rf wf = record {
+    faultless = λ f a l m none n. absurd (n (wf refl));
+    faulty = λ f a l m none n. absurd (n (wf refl));
+    too_long = λ f a l n. absurd (n (wf refl));
+    refused = λ line word h n. absurd (n (wf refl));
+  }
+  completes_audit Refusals r rf wf = absurd r.8.outcome
+  completes_audit Words r rf wf = absurd r.8.outcome

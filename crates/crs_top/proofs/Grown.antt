@@ -42,7 +42,7 @@ text_grows : (texts : List (List ℕ)) (t : List ℕ) (b : Bool) → (more : Lis
 text_grows texts t true = ([], sym (append-nil texts))
 text_grows texts t false = (t ∷ [], refl)
 
-texts_grow : (texts ts : List (List ℕ)) → (more : List (List ℕ)) × (with_texts texts ts ≡ texts ++ more)
+pub texts_grow : (texts ts : List (List ℕ)) → (more : List (List ℕ)) × (with_texts texts ts ≡ texts ++ more)
 texts_grow texts [] = ([], sym (append-nil texts))
 texts_grow texts (t ∷ ts) =
     let first = text_grows texts t (is_known texts t) in

@@ -12,6 +12,8 @@ pub mod Summing
 pub mod LogReading
 pub mod Follows
 pub mod Runs
+pub mod AuditRuns
+pub mod AuditPlans
 pub mod Wanting
 pub mod Completes
 pub mod Drilled
@@ -22,7 +24,27 @@ pub mod Tables
 pub mod OneText
 pub mod Parting
 pub mod Rearranging
+pub mod CitedWords
+pub mod CitedModels
+pub mod CitedLines
+pub mod CitedMarks
+pub mod CitedRefusals
+pub mod CitedAudit
 mod RearrangedRows
 pub mod Loads
 pub mod Listed
 mod Rows
+pub mod FeedOrder
+pub mod PairTexts
+pub mod MergedRises
+pub mod MergedSteps
+pub mod MergedEvents
+pub mod SourcePlaces
+pub mod FeedReading
+pub mod FeedTurns
+pub mod FeedSteps
+pub mod RoundEnds
+pub mod Openings
+pub mod PreparingMerged
+pub mod FeedRuns
+mod FeedRows

@@ -1,5 +1,5 @@
 -- An input that is read whole, and of which a text is then printed, or which is refused.
-use Rattle.std.proofs.Common.{◌≡◌, ◌⊎◌, ◌∙◌, ap, sym, refl, inl, inr, ℕ, ◌+◌, ◌<◌, ◌≤◌, ◌^◌, List, [], ◌∷◌, ◌++◌, length, arith, append-nil, Ok, Err, Vec, codes, cond, lt-ltb}
+use Rattle.std.proofs.Common.{◌≡◌, ◌⊎◌, ◌∙◌, ap, sym, refl, inl, inr, ℕ, ◌+◌, ◌<◌, ◌≤◌, ◌^◌, List, [], ◌∷◌, ◌++◌, length, arith, append-nil, Result, Ok, Err, Vec, codes, cond, lt-ltb}
 use Rattle.std.proofs.Math.Seq.{take-length, get_or-append_seam, set-append_seam}
 use Rattle.std.specs.Fmt.{digits}
 use Rattle.std.specs.declared.alloc.Global.{Global}
@@ -8,6 +8,7 @@ use Rattle.crs_desk.specs.Desk.{Told, Stream, stream_at, advanced, Opens, Wrote}
 use Rattle.crs_desk.specs.ReadAll.{ReadsAll}
 use Rattle.crs_desk.specs.declared.turn.Turn.{Turn}
 use Rattle.crs_desk.specs.declared.desk.DeskError.TheVariants as errors
+use Rattle.crs_desk.specs.declared.whole.ReadAllError.{ReadAllError}
 use Rattle.crs_desk.specs.declared.whole.ReadAllError.TheVariants as refusals
 use Rattle.crs_model.specs.declared.models.ModelWord.{ModelWord}
 use Rattle.crs_model.specs.declared.models.ModelWord.TheVariants.{Size}
@@ -19,22 +20,26 @@ use Rattle.crs_report.specs.OutputLines.{model_line}
 use Rattle.crs_top.specs.declared.status.Status.{Status}
 use Rattle.crs_top.specs.declared.status.Status.TheVariants.{Done, Refusals, Words, Rejected, ReadFault, WriteFault, Memory, TooLong}
 use Rattle.crs_top.specs.Inputs.{bytes_of, after, Opened, IsRead}
-use Rattle.crs_top.specs.Loads.{AreTaken, IsModelLine, LoadOutcome, EndsWithInput, Loaded, IsTooLong, Loads, Refuses}
+use Rattle.crs_top.specs.AuditOutcomes.{most_checked, LoadsChecked}
+use Rattle.crs_top.specs.Loads.{AreTaken, IsModelLine, LoadOutcome, EndsWithInput, Loaded, IsTooLong, ReadsWhole, Loads, Refuses}
 use Rattle.crs_top.specs.Logs.{AppendsFront, Says}
-use Rattle.crs_top.specs.ModelTexts.{IsFaulty}
+use Rattle.crs_top.specs.ModelTexts.{BreaksRule, IsFaulty}
 
 size_line : model_line 0 Size ≡ codes "model line 0 size\n"
 unfolding digits
 size_line = refl
 
 -- a text of more than 2^20 bytes is refused by its size
-pub long_is_faulty : (symbols : ℕ) (models text : List ℕ) → IsTooLong (2 ^ 20) (codes "model line 0 size\n") models text → IsModelLine (IsFaulty symbols models) text
-long_is_faulty symbols models text h = (
+pub long_breaks_rule : (symbols : ℕ) (models text : List ℕ) → IsTooLong (2 ^ 20) (codes "model line 0 size\n") models text → IsModelLine (BreaksRule symbols models) text
+long_breaks_rule symbols models text h = (
   0,
   Size,
   inl (λ i. read_of (cond (lt-ltb 1048576 (length models) h.0 i) (Err (0, Size)) (after_lines symbols 1 (nothing_read []) (lines_of models)))),
   h.1 ∙ sym size_line,
 )
+
+pub long_is_faulty : (symbols : ℕ) (models text : List ℕ) → IsTooLong (2 ^ 20) (codes "model line 0 size\n") models text → IsModelLine (IsFaulty symbols models) text
+long_is_faulty symbols models text h = let b = long_breaks_rule symbols models text h in (b.0, b.1, inl b.2, b.3)
 
 -- the input that was just opened
 pub opened_stream : (old mid : Told) (name : List ℕ) (i : ℕ) → i ≡ length old.left → Opens old name (Ok i) mid → stream_at mid.left i ≡ record { taken = 0; rest = bytes_of old name }
@@ -195,39 +200,78 @@ module _ (limit : ℕ) (P Q R S : List ℕ → Type 0) (up : (text : List ℕ) �
     record { did = h.4.did; read = h.4.read; failed = h.4.failed; outcome = outcome_weaker (bytes_of old name) h.0 h.2 old.written status new.written h.4.outcome },
   )
 
--- what load tells at each of its ends
-module _ (base now limit : ℕ) (refusal : List ℕ) (old mid : Told) (models : List ℕ) where
-  pub load_failed : now ≡ base → Opens old models (Err errors.Failed) mid → Loads base now limit refusal old models (Err ReadFault) mid
-  load_failed e o = ends_failed base now limit (λ text. ⊥) (IsTooLong limit refusal (bytes_of old models)) old models 1 0 0 [] mid
-      (record { did = failed_open base now old mid models (bytes_of old models) e o; read = nothing_read_of base (limit + 1) (0 < 1) (bytes_of old models); written = o.written })
+-- what read_whole tells at each of its ends
+module _ (base now limit : ℕ) (old mid : Told) (models : List ℕ) where
+  pub whole_failed : now ≡ base → Opens old models (Err errors.Failed) mid → ReadsWhole base now limit old models (Err refusals.Failed) mid
+  whole_failed e o = (
+    1,
+    0,
+    0,
+    [],
+    record { did = failed_open base now old mid models (bytes_of old models) e o; read = nothing_read_of base (limit + 1) (0 < 1) (bytes_of old models); written = o.written },
+    (refl, omega arith),
+  )
 
-  pub load_wanting : now ≡ base → Opens old models (Err errors.Memory) mid → Loads base now limit refusal old models (Err Memory) mid
-  load_wanting e o = ends_wanting base now limit (λ text. ⊥) (IsTooLong limit refusal (bytes_of old models)) old models 0 0 0 [] mid
-      (record { did = refused_open base now old mid models (bytes_of old models) e o; read = nothing_read_of base (limit + 1) (0 < 1) (bytes_of old models); written = o.written })
-      (omega arith)
+  pub whole_wanting : now ≡ base → Opens old models (Err errors.Memory) mid → ReadsWhole base now limit old models (Err refusals.Memory) mid
+  whole_wanting e o = (
+    0,
+    0,
+    0,
+    [],
+    record { did = refused_open base now old mid models (bytes_of old models) e o; read = nothing_read_of base (limit + 1) (0 < 1) (bytes_of old models); written = o.written },
+    omega arith,
+  )
 
   module _ (new : Told) (i : ℕ) (ie : i ≡ base) (be : base ≡ length old.left) (ne : now ≡ base + 1) (o : Opens old models (Ok i) mid) where
-    pub load_done : (v : Vec ℕ Global) → ReadsAll mid i limit (Ok v) new → Loads base now limit refusal old models (Ok v) new
-    load_done v h =
+    pub whole_read : (result : Result (Vec ℕ Global) ReadAllError) → ReadsAll mid i limit result new → ReadsWhole base now limit old models result new
+    whole_read (Ok v) h =
         let rest_is : (stream_at mid.left i).rest ≡ bytes_of old models = ap (λ (x : Stream). x.rest) (opened_stream old mid models i (ie ∙ be) o) in
         let is : v.items ≡ bytes_of old models = h.answered.0 ∙ rest_is in
         let long : h.k ≡ length v.items = h.answered.1 ∙ ap length (sym h.answered.0) in
-        (h.more, rw long at (all_loaded base now limit old mid new models i (Ok v) ie be ne o h (omega (arith, h.answered.2))), is, omega (arith, h.answered.2, long))
+        (1, 1, h.k, h.more, all_loaded base now limit old mid new models i (Ok v) ie be ne o h (omega (arith, h.answered.2)), (refl, refl, long, is, h.answered.2))
+    whole_read (Err refusals.Failed) h =
+        (1, 1, h.k, h.more, all_loaded base now limit old mid new models i (Err refusals.Failed) ie be ne o h (omega (arith, h.answered)), (refl, h.answered))
+    whole_read (Err refusals.Memory) h =
+        (1, 1, h.k, h.more, all_loaded base now limit old mid new models i (Err refusals.Memory) ie be ne o h (omega (arith, h.answered)), omega arith)
+    whole_read (Err refusals.Long) h =
+        (1, 1, h.k, h.more, all_loaded base now limit old mid new models i (Err refusals.Long) ie be ne o h (omega (arith, h.answered)), (refl, refl, h.answered))
 
-    pub load_stopped : ReadsAll mid i limit (Err refusals.Failed) new → Loads base now limit refusal old models (Err ReadFault) new
-    load_stopped h = ends_failed base now limit (λ text. ⊥) (IsTooLong limit refusal (bytes_of old models)) old models 1 1 h.k h.more new
-        (all_loaded base now limit old mid new models i (Err refusals.Failed) ie be ne o h (omega (arith, h.answered)))
+-- it was read whole
+pub whole_loaded : (base now limit : ℕ) (old new : Told) (name : List ℕ) (v : Vec ℕ Global) → ReadsWhole base now limit old name (Ok v) new
+    → (more : List Turn) × Loaded base now limit old name 1 1 (length v.items) more new × (v.items ≡ bytes_of old name) × (length v.items ≤ limit)
+whole_loaded base now limit old new name v h =
+    let q = h.5 in
+    let one = rw q.0 at h.4 in
+    let both = rw q.1 at one in
+    let all = rw q.2 at both in
+    (h.3, all, q.3, omega (arith, q.2, q.4))
 
-    pub load_short : ReadsAll mid i limit (Err refusals.Memory) new → Loads base now limit refusal old models (Err Memory) new
-    load_short h = ends_wanting base now limit (λ text. ⊥) (IsTooLong limit refusal (bytes_of old models)) old models 1 1 h.k h.more new
-        (all_loaded base now limit old mid new models i (Err refusals.Memory) ie be ne o h (omega (arith, h.answered))) (omega arith)
+-- what load tells at each of its ends
+module _ (base now limit : ℕ) (refusal : List ℕ) (old mid : Told) (models : List ℕ) where
+  pub load_failed : ReadsWhole base now limit old models (Err refusals.Failed) mid → Loads base now limit refusal old models (Err ReadFault) mid
+  load_failed h = ends_failed base now limit (λ text. ⊥) (IsTooLong limit refusal (bytes_of old models)) old models h.0 h.1 h.2 h.3 mid h.4
 
-    pub load_long : (last : Told) (status : Status) → ReadsAll mid i limit (Err refusals.Long) new → Says Rejected new refusal status last → Loads base now limit refusal old models (Err status) last
-    load_long last status h r =
-        let l = all_loaded base now limit old mid new models i (Err refusals.Long) ie be ne o h (omega (arith, h.answered)) in
-        let within = l.read.within in
-        ends_said base now limit (λ text. ⊥) (IsTooLong limit refusal (bytes_of old models)) old models new last h.k h.more refusal status l (omega (arith, within, h.answered))
-        (omega (arith, within, h.answered), refl) r
+  pub load_wanting : ReadsWhole base now limit old models (Err refusals.Memory) mid → Loads base now limit refusal old models (Err Memory) mid
+  load_wanting h = ends_wanting base now limit (λ text. ⊥) (IsTooLong limit refusal (bytes_of old models)) old models h.0 h.1 h.2 h.3 mid h.4 h.5
+
+  pub load_long : (last : Told) (status : Status) → ReadsWhole base now limit old models (Err refusals.Long) mid → Says Rejected mid refusal status last → Loads base now limit refusal old models (Err status) last
+  load_long last status h r =
+      let q = h.5 in
+      let one = rw q.0 at h.4 in
+      let l = rw q.1 at one in
+      let within = l.read.within in
+      ends_said base now limit (λ text. ⊥) (IsTooLong limit refusal (bytes_of old models)) old models mid last h.2 h.3 refusal status l (omega (arith, within, q.2))
+      (omega (arith, within, q.2), refl) r
+
+-- a log or an output that was read whole, or not
+pub checked_failed : (base now : ℕ) (old new : Told) (name : List ℕ) → ReadsWhole base now most_checked old name (Err refusals.Failed) new → LoadsChecked base now old name (Err ReadFault) new
+checked_failed base now old new name h = h
+
+pub checked_wanting : (base now : ℕ) (old new : Told) (name : List ℕ) → ReadsWhole base now most_checked old name (Err refusals.Memory) new → LoadsChecked base now old name (Err Memory) new
+checked_wanting base now old new name h = h
+
+pub checked_long : (base now : ℕ) (old new : Told) (name : List ℕ) → ReadsWhole base now most_checked old name (Err refusals.Long) new → LoadsChecked base now old name (Err TooLong) new
+checked_long base now old new name h = h
 
 -- what was read whole
 pub all_taken : (limit : ℕ) (bytes : List ℕ) (k : ℕ) → k ≡ length bytes → k ≤ limit → AreTaken limit bytes k

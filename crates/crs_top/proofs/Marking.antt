@@ -33,7 +33,7 @@ use Rattle.crs_top.proofs.Counting.{passed, counted_mark, peak_after}
 use Rattle.crs_top.proofs.Living.{held_by, held_live}
 use Rattle.crs_top.proofs.States.{mark_seen, answer_filled, models_then, entries_then, marked}
 
-fine_by : {A : Type 0} (stopped early : Bool) (full back : Refused) (answer : A) → stopped ≡ false
+pub fine_by : {A : Type 0} (stopped early : Bool) (full back : Refused) (answer : A) → stopped ≡ false
     → IsRefusedAs (if stopped then Some full else (if early then Some back else None)) (Ok answer) → early ≡ false
 fine_by true early full back answer e h = absurd (true≢false e)
 fine_by false true full back answer e h = cc
@@ -51,7 +51,7 @@ back_by true early t last a b e h = absurd (true≢false e)
 back_by false true t last a b e h = (refl, cc, cc)
 back_by false false t last a b e h = let k = h (Back a b) refl in absurd cc
 
-same_by : (stopped early : Bool) (back : Refused) (P : Type 0) → early ≡ true
+pub same_by : (stopped early : Bool) (back : Refused) (P : Type 0) → early ≡ true
     → (IsSome (if stopped then Some Stopped else (if early then Some back else None)) → P) → P
 same_by true early back P e h = h refl
 same_by false true back P e h = h refl

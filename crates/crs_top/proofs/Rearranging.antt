@@ -15,7 +15,8 @@ use Rattle.crs_model.specs.Open.{pool_among}
 use Rattle.crs_log.specs.Recognitions.{scope_in}
 use Rattle.crs_model.proofs.Ties.{ties}
 use Rattle.crs_model.proofs.Twins.{Twins}
-use Rattle.crs_model.proofs.TwinLists.{Paired, Reads, new_paired}
+use Rattle.crs_model.proofs.PairedLists.{Paired}
+use Rattle.crs_model.proofs.TwinLists.{Reads, new_paired}
 use Rattle.crs_model.proofs.TwinPools.{AreAlike, pairing}
 use Rattle.crs_log.specs.Items.{Event}
 use Rattle.crs_log.specs.Run.{Setting, at_start, end_date, horizon_at}

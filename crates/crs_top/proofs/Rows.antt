@@ -36,11 +36,12 @@ model = record {
   sets = [];
   differs = [];
   windows = [];
+  emits = [];
 }
 
 abbrev frame : Frame
 frame = record {
-  models = record { names = record { name = codes "a"; arity = 0; kind = Message } ∷ record { name = codes "b"; arity = 0; kind = Message } ∷ []; chronicles = model ∷ [] };
+  models = record { names = record { name = codes "a"; arity = 0; kind = Message } ∷ record { name = codes "b"; arity = 0; kind = Message } ∷ []; derived = []; chronicles = model ∷ [] };
   texts = codes "a" ∷ codes "b" ∷ codes "c" ∷ codes "t1" ∷ codes "t2" ∷ [];
   symbols = 100;
   entries = 100;

@@ -166,7 +166,7 @@ at_place (r ∷ rs) zero = refl
 at_place (r ∷ rs) (suc k) = at_place rs k
 
 -- the chronicles stand by their numbers, from 0
-stand_from : (plans : Plans) (k : ℕ) → chronicle_at plans (0 + k) ≡ option_map chronicle (slice_get (plans_of plans) k)
+pub stand_from : (plans : Plans) (k : ℕ) → chronicle_at plans (0 + k) ≡ option_map chronicle (slice_get (plans_of plans) k)
 stand_from plans k = ap (chronicle_at plans) (zero-add k) ∙ at_place plans.plans k
 
 module _ (f : Frame) (x : Session) (s : State) (r : Represents f x s) (new : EngineState) (mark : Mark) (answer : List Recognition) (h : ℕ)

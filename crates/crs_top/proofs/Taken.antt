@@ -180,7 +180,7 @@ pub takes_append : (f : Frame) (focus : Bool) (start : Counts) (x new : Session)
 takes_append f focus start x new s xs ys a more t u =
     takes_both f focus start x new s xs ys unwritten a (joined a more) t (takes_onto f x.engine.focus x.counts new t.last ys a more u)
 
-no_rest : (b : Bool) (rest : List ℕ) → b ≡ true → (if b then [] else rest) ≡ rest → rest ≡ []
+pub no_rest : (b : Bool) (rest : List ℕ) → b ≡ true → (if b then [] else rest) ≡ rest → rest ≡ []
 no_rest true rest e h = sym h
 no_rest false rest e h = cc
 

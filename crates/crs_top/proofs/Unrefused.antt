@@ -14,7 +14,7 @@ use Rattle.crs_top.specs.Drills.{SumsUp, Drills, RefusesNothing}
 use Rattle.crs_top.specs.Logs.{ended_as, Says}
 use Rattle.crs_top.specs.RunOutcomes.{standard}
 use Rattle.crs_top.specs.Texts.{Frame, some_refused}
-use Rattle.crs_words.specs.Commands.{Command, Run, Print, Drill, Import, command_of}
+use Rattle.crs_words.specs.Commands.{Command, Run, Print, Drill, Import, Audit, Feeds, command_of}
 use Rattle.crs_words.proofs.Bounds.{drill_bounds}
 use Rattle.crs_top.proofs.MadeLogs.{none_refused}
 use Rattle.crs_top.proofs.Summing.{refused_by}
@@ -68,3 +68,5 @@ unrefused base now members old new words status d = by (command_of words) refl d
     by (Some (Print listing models)) e d = tt
     by (Some (Drill focus seed lines)) e d = let b = drill_bounds words focus seed lines e in drill_clean focus seed lines old new status b.few d.0
     by (Some (Import table)) e d = tt
+    by (Some (Audit models log output)) e d = tt
+    by (Some (Feeds focus models logs)) e d = tt

@@ -1,10 +1,10 @@
 -- A call that does nothing for want of memory.
-use Rattle.std.proofs.Common.{refl, sym, inr, ℕ, ◌+◌, ◌<◌, ◌^◌, List, [], arith, append-nil}
+use Rattle.std.proofs.Common.{refl, sym, inl, inr, ℕ, ◌+◌, ◌<◌, ◌^◌, List, [], map, length, arith, append-nil}
 use Rattle.std.specs.Prelude.{Option, Some, None}
 use Rattle.crs_desk.specs.Desk.{Told}
 use Rattle.crs_report.specs.Listeners.{Member, keep_members}
 use Rattle.crs_words.specs.Kinds.{kinds_of}
-use Rattle.crs_words.specs.Commands.{Command, Run, Print, Drill, Import}
+use Rattle.crs_words.specs.Commands.{Command, Run, Print, Drill, Import, Audit, Feeds}
 use Rattle.crs_top.specs.declared.status.Status.TheVariants.{Memory}
 use Rattle.crs_top.specs.CommandOutcomes.{Does}
 use Rattle.crs_top.specs.Imports.{IsTableLog, IsTableLine}
@@ -12,9 +12,12 @@ use Rattle.crs_top.specs.Inputs.{bytes_of}
 use Rattle.crs_top.specs.Listings.{IsListed}
 use Rattle.crs_top.specs.Loads.{Loaded, IsModelLine}
 use Rattle.crs_top.specs.Logs.{tail_of}
-use Rattle.crs_top.specs.ModelTexts.{IsFaulty}
+use Rattle.crs_top.specs.ModelTexts.{BreaksRule, IsFaulty}
+use Rattle.crs_top.specs.Opening.{none_taken}
 use Rattle.crs_top.specs.RunOutcomes.{Most}
+use Rattle.crs_top.proofs.AuditRuns.{audit_ended}
 use Rattle.crs_top.proofs.Loads.{nothing_read_of, ends_wanting}
+use Rattle.crs_top.proofs.RoundEnds.{nothing_read}
 use Rattle.crs_top.proofs.Runs.{run_ended}
 
 none_loaded : (base limit : ℕ) (old : Told) (name : List ℕ) → Loaded base base limit old name 0 0 0 [] old
@@ -40,10 +43,39 @@ wants base most members old (Some (Run focus summary cite tally models log)) =
     run_ended base base cite (tail_of focus summary (keep_members (kinds_of tally) members)) most old old models log Memory
     (ends_wanting base base (2 ^ 20) (λ text. ⊥) (IsModelLine (IsFaulty most.symbols (bytes_of old models))) old models
     0 0 0 [] old (none_loaded base (2 ^ 20) old models) (omega arith))
+wants base most members old (Some (Feeds focus models logs)) = (
+  0,
+  0,
+  0,
+  none_taken (map (bytes_of old) logs),
+  [],
+  [],
+  record {
+    did = record {
+      files = refl;
+      few = omega arith;
+      opened = sym (append-nil old.opened);
+      least = omega arith;
+      most = omega arith;
+      counted = omega arith;
+      left = sym (append-nil old.left);
+      turns = sym (append-nil old.turns);
+    };
+    models_read = nothing_read_of base (2 ^ 20 + 1) (0 < 1) (bytes_of old models);
+    logs_read = nothing_read (base + 1) most.bytes (map (bytes_of old) logs) (0 < length logs + 1);
+    failed = λ l. absurd (omega (arith, l));
+    prompt = λ e. absurd (omega (arith, e));
+    outcome = inl (inr refl, refl);
+  },
+)
 wants base most members old (Some (Drill focus seed lines)) = (inr (inr (refl, refl)), refl)
 wants base most members old (Some (Import table)) =
     ends_wanting base base (2 ^ 26) (IsTableLog (bytes_of old table)) (IsTableLine (bytes_of old table)) old table
     0 0 0 [] old (none_loaded base (2 ^ 26) old table) (omega arith)
+wants base most members old (Some (Audit models log output)) =
+    audit_ended base base most old old models log output Memory
+    (ends_wanting base base (2 ^ 20) (λ text. ⊥) (IsModelLine (IsFaulty most.symbols (bytes_of old models))) old models
+    0 0 0 [] old (none_loaded base (2 ^ 20) old models) (omega arith))
 wants base most members old (Some (Print listing models)) =
-    ends_wanting base base (2 ^ 20) (IsListed most.symbols listing (bytes_of old models)) (IsModelLine (IsFaulty most.symbols (bytes_of old models))) old models
+    ends_wanting base base (2 ^ 20) (IsListed most.symbols listing (bytes_of old models)) (IsModelLine (BreaksRule most.symbols (bytes_of old models))) old models
     0 0 0 [] old (none_loaded base (2 ^ 20) old models) (omega arith)

@@ -13,7 +13,16 @@ pub mod Prepared
 pub mod RunOutcomes
 pub mod Listings
 pub mod Imports
+pub mod AuditOutcomes
 pub mod Drills
+pub mod FeedRounds
+pub mod PairTexts
+pub mod MergedSession
+pub mod FeedOutcomes
+pub mod Sources
+pub mod Opening
+pub mod PreparedMerged
 pub mod Summing
 pub mod CommandOutcomes
 pub mod Rearranged
+pub mod CitedTexts

@@ -13,7 +13,7 @@ use Rattle.crs_words.specs.declared.command.Listing.{Listing}
 use Rattle.crs_words.specs.declared.command.Listing.TheVariants.{Canonical, Minimal}
 use Rattle.crs_top.specs.Inputs.{bytes_of}
 use Rattle.crs_top.specs.Loads.{EndsWithInput, IsModelLine}
-use Rattle.crs_top.specs.ModelTexts.{AreModelsIn, IsFaulty}
+use Rattle.crs_top.specs.ModelTexts.{AreModelsIn, BreaksRule, IsFaulty}
 
 -- what is printed of models
 abbrev pub IsListing : Listing → Models (List ℕ) → List ℕ → Type 0
@@ -24,7 +24,12 @@ IsListing Minimal m text = IsMinimalText (λ s. s) m.chronicles text
 abbrev pub IsListed : ℕ → Listing → List ℕ → List ℕ → Type 0
 IsListed symbols listing models text = (m : Models (List ℕ)) × AreModelsIn symbols models m × IsListing listing m text
 
--- the text is refused at the line with the word; want of memory has no cause
+-- the text is refused at the line with the word by the rules of models; want of memory has no cause
+abbrev pub BreaksRuleText : ℕ → List ℕ → ModelRefused → Type 0
+BreaksRuleText symbols text (At line word) = BreaksRule symbols text line word
+BreaksRuleText symbols text NoMemory = Unit {0}
+
+-- so it is where it is to be run
 abbrev pub IsFaultyText : ℕ → List ℕ → ModelRefused → Type 0
 IsFaultyText symbols text (At line word) = IsFaulty symbols text line word
 IsFaultyText symbols text NoMemory = Unit {0}
@@ -32,10 +37,10 @@ IsFaultyText symbols text NoMemory = Unit {0}
 -- a call that opened the models alone printed this listing, or refused them
 abbrev pub Prints : ℕ → ℕ → ℕ → Listing → Told → List ℕ → Status → Told → Type 0
 Prints base now symbols listing old models status new =
-    EndsWithInput base now (2 ^ 20) (IsListed symbols listing (bytes_of old models)) (IsModelLine (IsFaulty symbols (bytes_of old models))) old models status new
+    EndsWithInput base now (2 ^ 20) (IsListed symbols listing (bytes_of old models)) (IsModelLine (BreaksRule symbols (bytes_of old models))) old models status new
 
 -- Where no fault rose, models that are accepted are printed and others are refused, unless memory is wanting.
 pub record CompletesPrint (symbols : ℕ) (old : Told) (models : List ℕ) (fault : Type 0) (status : Status) : Type 0 where
   pub accepted : (m : Models (List ℕ)) → AreModelsIn symbols (bytes_of old models) m → (fault → ⊥) → (status ≡ Done) ⊎ (status ≡ Memory)
-  pub refused : (line : ℕ) (word : ModelWord) → IsFaulty symbols (bytes_of old models) line word → (fault → ⊥) → (status ≡ Rejected)
+  pub refused : (line : ℕ) (word : ModelWord) → BreaksRule symbols (bytes_of old models) line word → (fault → ⊥) → (status ≡ Rejected)
       ⊎ (status ≡ Memory)

@@ -3,6 +3,8 @@ use Rattle.std.specs.Prelude.{◌≡◌, ◌⊎◌, ℕ, ◌+◌, ◌<◌, ◌�
 use Rattle.std.specs.declared.alloc.Global.{Global}
 use Rattle.crs_desk.specs.Desk.{Told}
 use Rattle.crs_desk.specs.declared.turn.Turn.{Turn}
+use Rattle.crs_desk.specs.declared.whole.ReadAllError.{ReadAllError}
+use Rattle.crs_desk.specs.declared.whole.ReadAllError.TheVariants as unread
 use Rattle.crs_model.specs.declared.models.ModelWord.{ModelWord}
 use Rattle.crs_model.specs.declared.models.ModelRefused.{ModelRefused}
 use Rattle.crs_model.specs.declared.models.ModelRefused.TheVariants.{At, Memory as NoMemory}
@@ -50,6 +52,18 @@ pub record Loaded (base now limit : ℕ) (old : Told) (name : List ℕ) (n i k :
   pub did : Opened base now old (name ∷ []) (after (bytes_of old name) k ∷ []) n i more new
   pub read : IsRead base (limit + 1) (i < 1) (bytes_of old name) k more
   pub written : new.written ≡ old.written
+
+-- how much of the input was taken: all its bytes; fewer, since reading failed or memory was wanting; or one more than it may have
+abbrev pub IsReadUpTo : ℕ → List ℕ → ℕ → ℕ → ℕ → Result (Vec ℕ Global) ReadAllError → Type 0
+IsReadUpTo limit bytes n i k (Ok v) = (n ≡ 1) × (i ≡ 1) × (k ≡ length v.items) × (v.items ≡ bytes) × (k ≤ limit)
+IsReadUpTo limit bytes n i k (Err unread.Failed) = (n ≡ 1) × (k ≤ limit)
+IsReadUpTo limit bytes n i k (Err unread.Memory) = n ≤ i
+IsReadUpTo limit bytes n i k (Err unread.Long) = (n ≡ 1) × (i ≡ 1) × (k ≡ limit + 1)
+
+-- the input was opened and read whole, or not
+abbrev pub ReadsWhole : ℕ → ℕ → ℕ → Told → List ℕ → Result (Vec ℕ Global) ReadAllError → Told → Type 0
+ReadsWhole base now limit old name result new =
+    (n : ℕ) × (i : ℕ) × (k : ℕ) × (more : List Turn) × Loaded base now limit old name n i k more new × IsReadUpTo limit (bytes_of old name) n i k result
 
 -- the input has more bytes than it may have, and this is its refusal
 abbrev pub IsTooLong : ℕ → List ℕ → List ℕ → List ℕ → Type 0

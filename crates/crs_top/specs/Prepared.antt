@@ -1,11 +1,19 @@
 -- What a models text prepares.
-use Rattle.std.specs.Prelude.{◌≡◌, ℕ, Bool, List, [], Ok}
+use Rattle.std.specs.Prelude.{◌≡◌, ◌≤◌, ℕ, Bool, List, [], length, Ok}
+use Rattle.std.specs.List.{AllByRecursion}
+use Rattle.crs_base.specs.declared.symbols.Sym.{Sym}
 use Rattle.crs_base.specs.Symbols.{Table, AreDistinct}
+use Rattle.crs_compile.specs.Compiled.{chronicles_in}
+use Rattle.crs_engine.specs.Engines.{plans_of, reaches_of}
 use Rattle.crs_log.specs.Run.{at_start}
 use Rattle.crs_model.specs.declared.models.Models.{Models as CodeModels}
+use Rattle.crs_model.specs.declared.plan.Plans.{Plans}
+use Rattle.crs_model.specs.Plans.{IsProper}
 use Rattle.crs_model.specs.ProperModels.{AreProper}
+use Rattle.crs_model.specs.Reach.{IsReachOfAll}
 use Rattle.crs_model.specs.Renaming.{text_in, renamed_models, AreModelsOf}
 use Rattle.crs_model.specs.SeenModels.{models_of}
+use Rattle.crs_model.specs.ShortLags.{AreInTime}
 use Rattle.crs_parse.specs.Meant.{models_read}
 use Rattle.crs_top.specs.declared.session.Session.{Session}
 use Rattle.crs_top.specs.Session.{HasText, Represents, IsUncounted}
@@ -19,6 +27,18 @@ pub record AreReadIn (symbols : ℕ) (text : List ℕ) (m : CodeModels) (table :
   pub proper : AreProper (models_of m)
   pub distinct : AreDistinct table.texts
   pub limit : table.limit ≡ symbols
+
+-- the plans are those of the models that the text means, with the symbols of this table, and none of their chronicles gives entries
+pub record ArePlansIn (symbols : ℕ) (text : List ℕ) (plans : Plans) (table : Table) : Type 0 where
+  pub models : CodeModels
+  pub read : AreReadIn symbols text models table
+  pub names : plans.names ≡ models.names
+  pub chronicles : chronicles_in plans.plans ≡ models.chronicles
+  pub proper : AllByRecursion IsProper (plans_of plans)
+  pub few : length plans.plans ≤ 64
+  pub in_time : AreInTime Sym (models_of models).chronicles
+  pub none_emits : AllByRecursion (λ c. c.emits ≡ []) (models_of models).chronicles
+  pub reach : IsReachOfAll (reaches_of plans) plans.reach
 
 -- the session stands for the start of a run with the models that the text means, and reads the levels of events and cites entries, or not
 pub record IsPrepared (focus cite : Bool) (symbols entries : ℕ) (text : List ℕ) (x : Session) : Type 0 where

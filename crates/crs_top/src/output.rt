@@ -74,7 +74,7 @@ impl Output {
 }
 
 /// Writes the lines of recognitions, in order, in which their entries are cited or not.
-fn push_lines(
+pub fn push_lines(
     out: &mut Vec<u8>,
     plans: &Plans,
     symbols: &Symbols,

@@ -10,7 +10,9 @@ ghost use Rattle.crs_top.specs.RunOutcomes.{Runs, Follows, most_of, standard};
 ghost use Rattle.crs_top.specs.Status.{HasCauses};
 ghost use Rattle.crs_top.specs.CommandOutcomes.{Does, CompletesCommand, IsUnrefused};
 
+use crate::auditing::audit_output;
 use crate::drilling::drill;
+use crate::feeds::recognise_feeds;
 use crate::limits::{Limits, STANDARD};
 use crate::loading::{MODELS_LIMIT, MODELS_TOO_LONG, load, refuse, write_text};
 use crate::log::read_log;
@@ -39,7 +41,7 @@ pub fn run_program<D: Desk>(
     ensures no_command { command_of (map string_bytes words.now) ≡ None → (result ≡ Status.Words) ⊎ (result ≡ Status.WriteFault) ⊎ (result ≡ Status.Memory) }
     ensures causes { HasCauses (D.in_faults desk.old) (D.in_faults desk.new) (D.out_faults desk.old) (D.out_faults desk.new) result }
     ensures least { D.inputs desk.old ≤ D.inputs desk.new }
-    ensures most { D.inputs desk.new ≤ D.inputs desk.old + 2 }
+    ensures most { D.inputs desk.new ≤ D.inputs desk.old + 9 }
     ensures told { D.tells ≡ true → Does (D.inputs desk.old) (D.inputs desk.new) standard (map (λ b. (kind b, figures b)) listeners.items) (D.told desk.old) (command_of (map string_bytes words.now)) result (D.told desk.new) }
     ensures complete { D.tells ≡ true → CompletesCommand standard (D.told desk.old) (command_of (map string_bytes words.now))
         (Rose (D.in_faults desk.old) (D.in_faults desk.new) ⊎ Rose (D.out_faults desk.old) (D.out_faults desk.new)) result }
@@ -61,7 +63,7 @@ pub fn run_with<D: Desk>(
     ensures no_command { command_of (map string_bytes words.now) ≡ None → (result ≡ Status.Words) ⊎ (result ≡ Status.WriteFault) ⊎ (result ≡ Status.Memory) }
     ensures causes { HasCauses (D.in_faults desk.old) (D.in_faults desk.new) (D.out_faults desk.old) (D.out_faults desk.new) result }
     ensures least { D.inputs desk.old ≤ D.inputs desk.new }
-    ensures most { D.inputs desk.new ≤ D.inputs desk.old + 2 }
+    ensures most { D.inputs desk.new ≤ D.inputs desk.old + 9 }
     ensures told { D.tells ≡ true → Does (D.inputs desk.old) (D.inputs desk.new) (most_of limits) (map (λ b. (kind b, figures b)) listeners.items) (D.told desk.old) (command_of (map string_bytes words.now)) result (D.told desk.new) }
     ensures complete { D.tells ≡ true → CompletesCommand (most_of limits) (D.told desk.old) (command_of (map string_bytes words.now))
         (Rose (D.in_faults desk.old) (D.in_faults desk.new) ⊎ Rose (D.out_faults desk.old) (D.out_faults desk.new)) result }
@@ -100,7 +102,25 @@ pub fn run_with<D: Desk>(
         Ok(Some(Command::Drill { focus, seed, lines })) => {
             drill(alloc, desk, focus, seed, lines, limits)
         }
+        Ok(
+            Some(
+                Command::Feeds {
+                    focus,
+                    models,
+                    logs,
+                },
+            ),
+        ) => recognise_feeds(alloc, desk, models, logs.as_slice(), limits, focus),
         Ok(Some(Command::Import { table })) => import_table(alloc, desk, table),
+        Ok(
+            Some(
+                Command::Audit {
+                    models,
+                    log,
+                    output,
+                },
+            ),
+        ) => audit_output(alloc, desk, models, log, output, limits),
     }
 }
 

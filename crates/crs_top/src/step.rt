@@ -167,7 +167,7 @@ fn take_event(
 }
 
 /// Whether the line is blank or a comment.
-fn is_blank(item: &Item) -> bool
+pub fn is_blank(item: &Item) -> bool
     ensures { (line : Items ℕ) → result ≡ is_blank_what (what_seen line item.now) }
 {
     matches!(item, Item::Blank)

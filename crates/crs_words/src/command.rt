@@ -29,7 +29,7 @@ impl Tally {
 }
 
 /// What the program was asked for. Names are those of files.
-#[derive(Clone, Copy, Debug)]
+#[derive(Debug, Drop)]
 pub enum Command<'a> {
     /// To recognise the models in the log, with the levels of events read or not and with the entries
     /// of each recognition cited or not, and to write the numbers of the run behind it where a summary
@@ -58,5 +58,17 @@ pub enum Command<'a> {
     /// To write the table as a log.
     Import {
         table: &'a str,
+    },
+    /// To check that each recognition that the output cites is one of the models in the log.
+    Audit {
+        models: &'a str,
+        log: &'a str,
+        output: &'a str,
+    },
+    /// To recognise the models in one to eight logs at once, with the levels of events read or not.
+    Feeds {
+        focus: bool,
+        models: &'a str,
+        logs: Vec<&'a str>,
     },
 }

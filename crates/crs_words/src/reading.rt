@@ -1,11 +1,13 @@
 // What words ask for.
 ghost use Rattle.std.specs.Prelude.{◌≡◌, IfOk, true, map, option_map, option_and_then, string_bytes, codes};
-ghost use Rattle.clap.specs.Words.{app_of, found_of, rows_of, first_of, is_simple_and_free};
-ghost use Rattle.crs_words.specs.Apps.{run_app, model_app, drill_app, import_app};
+ghost use Rattle.clap.specs.Words.{app_of, found_of, rows_of, first_of, all_of, is_simple_and_free};
+ghost use Rattle.crs_words.specs.Apps.{run_app, model_app, drill_app, import_app, audit_app, feeds_app};
 ghost use Rattle.crs_words.specs.Kinds.{tally_of};
-ghost use Rattle.crs_words.specs.Commands.{command_of, command_seen, rows_in, read_by, run_in, model_in, drill_in, import_in, is_given, number_within};
+ghost use Rattle.crs_words.specs.Commands.{command_of, command_seen, rows_in, read_by, run_in, model_in, drill_in, import_in, audit_in, feeds_in, is_given, is_one_to_eight, number_within};
 
-use crate::apps::{drill_command, import_command, model_command, run_command};
+use crate::apps::{
+    audit_command, drill_command, feeds_command, import_command, model_command, run_command,
+};
 use crate::command::{Command, Listing, Tally};
 use crate::kinds::tally_of;
 use crate::numbers::number_within;
@@ -28,6 +30,10 @@ pub fn read_words<'a>(alloc: Global, words: &'a [String]) -> Result<Option<Comma
         read_drill(alloc, words)
     } else if name.as_str() == "import" {
         read_import(alloc, words)
+    } else if name.as_str() == "audit" {
+        read_audit(alloc, words)
+    } else if name.as_str() == "feeds" {
+        read_feeds(alloc, words)
     } else {
         Ok(None)
     }
@@ -168,4 +174,87 @@ fn import_of<'a>(matches: &ArgMatches<'a>) -> Option<Command<'a>>
 {
     let table = word_of(matches, "table")?;
     Some(Command::Import { table })
+}
+
+/// Reads the words of `audit`, the first of which is its name.
+fn read_audit<'a>(alloc: Global, words: &'a [String]) -> Result<Option<Command<'a>>, AllocError>
+    ensures { IfOk result (λ r. option_map command_seen r ≡ read_by audit_app audit_in (map string_bytes words.entry.now)) }
+{
+    let command = audit_command(alloc)?;
+    let Some(matches) = matches_of(command, words)? else {
+        return Ok(None);
+    };
+    Ok(audit_of(&matches))
+}
+
+/// What is asked of `audit`.
+fn audit_of<'a>(matches: &ArgMatches<'a>) -> Option<Command<'a>>
+    ensures { option_map command_seen result ≡ audit_in (rows_of (found_of matches.now)) }
+{
+    let models = word_of(matches, "models")?;
+    let log = word_of(matches, "log")?;
+    let output = word_of(matches, "output")?;
+    Some(Command::Audit {
+        models,
+        log,
+        output,
+    })
+}
+
+/// Reads the words of `feeds`, the first of which is its name.
+fn read_feeds<'a>(alloc: Global, words: &'a [String]) -> Result<Option<Command<'a>>, AllocError>
+    ensures { IfOk result (λ r. option_map command_seen r ≡ read_by feeds_app feeds_in (map string_bytes words.entry.now)) }
+{
+    let command = feeds_command(alloc)?;
+    let Some(matches) = matches_of(command, words)? else {
+        return Ok(None);
+    };
+    feeds_of(alloc, &matches)
+}
+
+/// The words at a position that may be there several times.
+fn words_of<'m, 'a>(matches: &'m ArgMatches<'a>, id: &str) -> Option<&'m [&'a str]>
+    ensures { option_map (λ s. map (λ v. v.now) s.now) result ≡ all_of id.now (rows_of (found_of matches.now)) }
+{
+    matches.get_strs(id)
+}
+
+/// What is asked of `feeds`.
+fn feeds_of<'a>(alloc: Global, matches: &ArgMatches<'a>) -> Result<Option<Command<'a>>, AllocError>
+    ensures { IfOk result (λ r. option_map command_seen r ≡ feeds_in (rows_of (found_of matches.now))) }
+{
+    let focus = is_given(matches, "focus");
+    let Some(models) = word_of(matches, "models") else {
+        return Ok(None);
+    };
+    let Some(names) = words_of(matches, "log") else {
+        return Ok(None);
+    };
+    if !is_one_to_eight(names.len()) {
+        return Ok(None);
+    }
+    let logs = copied(alloc, names)?;
+    Ok(Some(Command::Feeds {
+        focus,
+        models,
+        logs,
+    }))
+}
+
+/// Whether so many logs are as many as may be read at once.
+fn is_one_to_eight(count: usize) -> bool
+    ensures { result ≡ is_one_to_eight count }
+{
+    1 <= count && count <= 8
+}
+
+/// The same words, in a list of their own.
+fn copied<'a>(alloc: Global, words: &[&'a str]) -> Result<Vec<&'a str>, AllocError>
+    ensures { IfOk result (λ v. v.items ≡ words.now) }
+{
+    let mut list = Vec::new(alloc);
+    for word in words {
+        list.push(*word)?;
+    }
+    Ok(list)
 }

@@ -17,13 +17,13 @@ accept_event-requires-clause-arity c =
     let few = (named_fits c.args.symbols.now.texts (event_seen c.args.line.now c.args.raw.now) c.args.names.now 0 c.in-Ok-Name.field-0-0 r.names_in r.arities says).1 in
     omega (arith, few, length-map c.args.raw.now.args (text_of c.args.line.now))
 
-pub returns-then-raw-run : goal.returns-then-raw-run
-returns-then-raw-run c = λ s fits sound.
+pub returns-then-raw-run-clause-taken : goal.returns-then-raw-run-clause-taken
+returns-then-raw-run-clause-taken c = λ s fits sound.
     stays s c.args.names.now c.args.limit c.args.symbols.now c.args.run.now fits sound _ _ _
     (late_is s c.args.names.now c.args.limit c.args.symbols.now c.args.run.now fits sound (event_seen c.args.line.now c.args.raw.now) c.if-raw-run.true) refl refl
 
-pub returns-in-Ok-Name : goal.returns-in-Ok-Name
-returns-in-Ok-Name c =
+pub returns-in-Ok-Name-clause-taken : goal.returns-in-Ok-Name-clause-taken
+returns-in-Ok-Name-clause-taken c =
     let e = event_seen c.args.line.now c.args.raw.now in
     let texts = c.args.symbols.now.texts in
     let says = rw c.in-Ok-Name.field-0-is at c.in-Ok-Name.ensures.says in
@@ -31,10 +31,10 @@ returns-in-Ok-Name c =
     (λ _. TakesAll c.args.names.now c.args.limit c.args.symbols.now c.accept_event.new.symbols c.args.run.now c.accept_event.new.run (λ s st. after_ordered s st (Happens e)))
     (λ _ h s fits sound. subst (λ (a : State × Outcome). Takes s c.args.names.now c.args.limit c.args.symbols.now c.accept_event.new.symbols c.args.run.now c.accept_event.new.run a)
     (sym (verdict_is s c.args.names.now c.args.limit c.args.symbols.now c.args.run.now fits sound e (Named c.in-Ok-Name.field-0-0) c.if-raw-run.false says)) (h s fits sound))
-    c.accept_event.ensures
+    c.accept_event.ensures.taken
 
-pub returns-in-Ok-Other : goal.returns-in-Ok-Other
-returns-in-Ok-Other c = λ s fits sound.
+pub returns-in-Ok-Other-clause-taken : goal.returns-in-Ok-Other-clause-taken
+returns-in-Ok-Other-clause-taken c = λ s fits sound.
     let e = event_seen c.args.line.now c.args.raw.now in
     stays s c.args.names.now c.args.limit c.args.symbols.now c.args.run.now fits sound _ _ _
     (verdict_is s c.args.names.now c.args.limit c.args.symbols.now c.args.run.now fits sound e Other c.if-raw-run.false (rw c.in-Ok-Other.field-0-is at c.in-Ok-Other.ensures.says)) refl refl

@@ -7,19 +7,19 @@ use Rattle.crs_audit.proofs.Items.{in_order, out_of_order, blank_passes, not_fau
 use Rattle.crs_audit.proofs.Reading.{stays}
 use Rattle.crs_audit.proofs.taking.take_item.Goals as goal
 
-pub returns-then-is_blank : goal.returns-then-is_blank
-returns-then-is_blank c = λ s fits sound.
+pub returns-then-is_blank-clause-taken : goal.returns-then-is_blank-clause-taken
+returns-then-is_blank-clause-taken c = λ s fits sound.
     stays s c.args.names.now c.args.limit c.args.symbols.now c.args.run.now fits sound _ _ _
     (blank_passes s (state_seen c.args.symbols.now.texts c.args.run.now) (what_seen c.args.line.now c.args.item) (sym (c.is_blank.ensures c.args.line.now) ∙ c.if-is_blank.true)) refl refl
 
-pub returns-then-run : goal.returns-then-run
-returns-then-run c = λ s fits sound.
+pub returns-then-run-clause-taken : goal.returns-then-run-clause-taken
+returns-then-run-clause-taken c = λ s fits sound.
     let x = c.args.run.now in
     stays s c.args.names.now c.args.limit c.args.symbols.now x fits sound _ _ _
     (out_of_order s (state_seen c.args.symbols.now.texts x) (what_seen c.args.line.now c.args.item) (sym (c.is_blank.ensures c.args.line.now) ∙ c.if-is_blank.false) c.if-run.true (not_faulty c.args.line.now c.args.item)) refl refl
 
-pub returns : goal.returns
-returns c =
+pub returns-clause-taken : goal.returns-clause-taken
+returns-clause-taken c =
     let x = c.args.run.now in
     let w = what_seen c.args.line.now c.args.item in
     IfOk-weaker c.take_ordered.result _
@@ -27,4 +27,4 @@ returns c =
     (λ _ h s fits sound. subst (λ (a : State × Outcome). Takes s c.args.names.now c.args.limit c.args.symbols.now c.take_ordered.new.symbols x c.take_ordered.new.run a)
     (in_order s (state_seen c.args.symbols.now.texts x) w (sym (c.is_blank.ensures c.args.line.now) ∙ c.if-is_blank.false) c.if-run.false (not_faulty c.args.line.now c.args.item))
     (h s fits sound))
-    c.take_ordered.ensures
+    c.take_ordered.ensures.taken

@@ -14,6 +14,7 @@ returns-clause-proper c = near_proper c.args.names.now _ (record {
   variables = c.new.ensures;
   sets = c.new-2.ensures;
   differs = c.new-3.ensures;
+  emits = c.new-4.ensures;
   few = rw (c.in_ok-listed.ensures {u = tt}) c.requires.few;
   bounds = rw (c.in_ok-listed.ensures {u = tt}) c.requires.bounds;
   windows_few = c.requires.windows_few;
@@ -32,6 +33,7 @@ returns-clause-printable c = near_printable c.args.names.now _ (record {
   variables = c.new.ensures;
   sets = c.new-2.ensures;
   differs = c.new-3.ensures;
+  emits = c.new-4.ensures;
   few = rw (c.in_ok-listed.ensures {u = tt}) c.requires.few;
   bounds = rw (c.in_ok-listed.ensures {u = tt}) c.requires.bounds;
   windows_few = c.requires.windows_few;

@@ -4,6 +4,7 @@ use Rattle.crs_model.specs.SeenModels as view
 use Rattle.crs_parse.specs.HeldStatements.{IsHeldReading}
 use Rattle.crs_model.specs.ProperModels.{AreProper}
 use Rattle.crs_parse.specs.SeenReading as see
+use Rattle.crs_parse.proofs.Apart.{read_apart}
 use Rattle.crs_parse.proofs.HeldReading.{lines_read}
 use Rattle.crs_parse.proofs.Numbered.{numbered_in}
 use Rattle.crs_parse.proofs.ProperBack.{proper_in}
@@ -27,4 +28,5 @@ returns-clause-proper c =
     (numbered_in c.read_all.new.symbols.texts (see.reading_of c.read_all.new.symbols.texts c.in_ok-reading.reading) (view.models_of c.in_ok-models.models) held c.in_ok-models.ensures)
     (subst AreProper (sym c.in_ok-models.ensures)
     (reading_proper c.read_all.new.symbols.texts (see.reading_of c.read_all.new.symbols.texts c.in_ok-reading.reading) held
-    (read_sound c.args.symbols.now.limit 1 c.args.symbols.now.texts (see.reading_of c.read_all.new.symbols.texts c.in_ok-reading.reading) (lines_of c.args.text.now) c.in_ok-reading.ensures.read)))
+    (read_sound c.args.symbols.now.limit 1 c.args.symbols.now.texts (see.reading_of c.read_all.new.symbols.texts c.in_ok-reading.reading) (lines_of c.args.text.now) c.in_ok-reading.ensures.read)
+    (read_apart c.args.symbols.now.limit 1 c.args.symbols.now.texts (see.reading_of c.read_all.new.symbols.texts c.in_ok-reading.reading) (lines_of c.args.text.now) c.in_ok-reading.ensures.read)))

@@ -15,4 +15,5 @@ returns c = λ i. record {
   sets = c.in_ok-sets.ensures.sets i;
   differs = c.in_ok-sets.ensures.differs i;
   windows = c.in_ok-bounds.ensures.windows i;
+  emits = c.in_ok-bounds.ensures.emits i;
 }

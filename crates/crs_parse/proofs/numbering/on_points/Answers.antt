@@ -19,3 +19,10 @@ returns-clause-bounds c = c.in_ok-bounds.ensures ∙ (λ j. flat_map (meant.boun
 pub returns-clause-windows : goal.returns-clause-windows
 returns-clause-windows c = c.in_ok-windows.ensures ∙ (λ j. map (meant.window_of (map (λ t. t.now) (c.deref-3.ensures.value j)) (map (λ t. t.now) (c.deref-4.ensures.value j))) (map seen.window_of (c.deref-5.ensures.value j)))
     ∙ (λ j. map (meant.window_of (map (λ t. t.now) c.args.c.now.variables.items) (c.in_ok-points.ensures j)) (map seen.window_of c.args.c.now.windows.items))
+
+pub emits-requires-clause-few_points : goal.emits-requires-clause-few_points
+emits-requires-clause-few_points c = points_few (λ t. t.now) c.in_ok-points.points.items c.deref-7.result.now (see.written_of c.args.c.now) c.deref-7.ensures.value c.in_ok-points.ensures c.requires.few_points
+
+pub returns-clause-emits : goal.returns-clause-emits
+returns-clause-emits c = c.in_ok-emits.ensures ∙ (λ j. map (meant.emit_of (map (λ t. t.now) (c.deref-6.ensures.value j)) (map (λ t. t.now) (c.deref-7.ensures.value j))) (map seen.emission_of (c.deref-8.ensures.value j)))
+    ∙ (λ j. map (meant.emit_of (map (λ t. t.now) c.args.c.now.variables.items) (c.in_ok-points.ensures j)) (map seen.emission_of c.args.c.now.emits.items))

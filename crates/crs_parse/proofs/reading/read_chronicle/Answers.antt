@@ -20,7 +20,7 @@ returns-in-Err-Memory-clause-grows c = grows_line (line_seen c.first_line.result
 
 pub loop-rest-preserved : goal.loop-rest-preserved
 loop-rest-preserved c = record {
-  told = until_step c.loop-rest.symbols.limit c.chronicle_line.new.symbols.limit (map see.name_of c.args.names.now) c.loop-rest.number (see.written_of c.loop-rest.c) (see.written_of c.chronicle_line.new.c) c.loop-rest.symbols.texts c.chronicle_line.new.symbols.texts
+  told = until_step c.loop-rest.symbols.limit c.chronicle_line.new.symbols.limit (map see.name_of c.args.names.now) (map see.closed_of c.args.done.now) c.loop-rest.number (see.written_of c.loop-rest.c) (see.written_of c.chronicle_line.new.c) c.loop-rest.symbols.texts c.chronicle_line.new.symbols.texts
       (line_seen c.first_line.result.0) (lines_of c.first_line.result.1.now) (lines_of c.loop-rest.rest.now) c.in-Ok-false.field-0 c.in-Ok-false.ensures.limit c.first_line.ensures.line c.in-Ok-false.ensures.step c.in-Ok-false.field-0-test
       ∙ c.loop-rest.invariant.told;
   grows = grows_line (line_seen c.first_line.result.0) (lines_of c.first_line.result.1.now) (lines_of c.loop-rest.rest.now) (lines_of c.args.text.now) c.args.symbols.now.texts c.loop-rest.symbols.texts c.chronicle_line.new.symbols.texts c.first_line.ensures.line c.loop-rest.invariant.among c.loop-rest.invariant.grows c.in-Ok-false.ensures.grows;

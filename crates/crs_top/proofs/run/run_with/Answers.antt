@@ -1,11 +1,14 @@
 use Rattle.std.proofs.Common.{◌⊎◌, ◌∙◌, ap, sym, subst, inl, inr, Bool, List, map, string_bytes}
 use Rattle.crs_desk.specs.Desk.{Rose}
-use Rattle.crs_words.proofs.Bounds.{drill_bounds}
+use Rattle.crs_words.proofs.Bounds.{drill_bounds, logs_bounds}
+use Rattle.std.proofs.Common.{arith}
+use Rattle.std.proofs.lemmas.List.{length-map}
+use Rattle.crs_top.proofs.FeedRuns.{completes_feeds}
 use Rattle.crs_words.specs.Commands.{command_of}
 use Rattle.crs_report.specs.Listeners.{Member, keep_members}
 use Rattle.crs_top.specs.Logs.{tail_of}
 use Rattle.crs_top.specs.RunOutcomes.{most_of, Runs}
-use Rattle.crs_top.proofs.Completes.{completes, completes_print, completes_import}
+use Rattle.crs_top.proofs.Completes.{completes, completes_print, completes_import, completes_audit}
 use Rattle.crs_top.proofs.Drilled.{completes_drill}
 use Rattle.crs_top.proofs.Wanting.{wants}
 use Rattle.crs_top.proofs.run.run_with.Goals as goal
@@ -68,11 +71,53 @@ returns-in-Ok-Some-Drill-clause-complete g c = λ t.
     ⊎ Rose (g.D.Desk.out_faults c.args.desk.now) (g.D.Desk.out_faults c.drill.new.desk)) c.drill.result
     (λ e. inr (c.drill.ensures.causes.write_fault e)) (c.drill.ensures.told t))
 
-pub returns-clause-complete : goal.returns-clause-complete
-returns-clause-complete g c = λ t.
+pub returns-in-Ok-Some-Import-clause-complete : goal.returns-in-Ok-Some-Import-clause-complete
+returns-in-Ok-Some-Import-clause-complete g c = λ t.
     let asked = rw (c.in-Ok-Some-Import.field-0-is, c.in-Ok-Some-Import.field-0-0-is) at c.in-Ok-Some-Import.ensures in
     rw (sym asked) (completes_import (g.D.Desk.inputs c.args.desk.now) (g.D.Desk.inputs c.import_table.new.desk)
     (g.D.Desk.told c.args.desk.now) (g.D.Desk.told c.import_table.new.desk) c.in-Ok-Some-Import.table.now
     (Rose (g.D.Desk.in_faults c.args.desk.now) (g.D.Desk.in_faults c.import_table.new.desk)
     ⊎ Rose (g.D.Desk.out_faults c.args.desk.now) (g.D.Desk.out_faults c.import_table.new.desk)) c.import_table.result
     (c.import_table.ensures.told t) (λ e. inl (c.import_table.ensures.causes.read_fault e)) (λ e. inr (c.import_table.ensures.causes.write_fault e)))
+
+pub returns-clause-told : goal.returns-clause-told
+returns-clause-told g c = λ t.
+    let asked = rw (c.in-Ok-Some-Audit.field-0-is, c.in-Ok-Some-Audit.field-0-0-is) at c.in-Ok-Some-Audit.ensures in
+    rw (sym asked) (c.audit_output.ensures.told t)
+
+pub returns-clause-complete : goal.returns-clause-complete
+returns-clause-complete g c = λ t.
+    let asked = rw (c.in-Ok-Some-Audit.field-0-is, c.in-Ok-Some-Audit.field-0-0-is) at c.in-Ok-Some-Audit.ensures in
+    rw (sym asked) (completes_audit (g.D.Desk.inputs c.args.desk.now) (g.D.Desk.inputs c.audit_output.new.desk) (most_of c.args.limits)
+    (g.D.Desk.told c.args.desk.now) (g.D.Desk.told c.audit_output.new.desk) c.in-Ok-Some-Audit.models.now c.in-Ok-Some-Audit.log.now c.in-Ok-Some-Audit.output.now
+    (Rose (g.D.Desk.in_faults c.args.desk.now) (g.D.Desk.in_faults c.audit_output.new.desk)
+    ⊎ Rose (g.D.Desk.out_faults c.args.desk.now) (g.D.Desk.out_faults c.audit_output.new.desk)) c.audit_output.result
+    (c.audit_output.ensures.told t) (λ e. inl (c.audit_output.ensures.causes.read_fault e)) (λ e. inr (c.audit_output.ensures.causes.write_fault e)))
+
+pub recognise_feeds-requires-clause-least : goal.recognise_feeds-requires-clause-least
+recognise_feeds-requires-clause-least g c =
+    let asked = rw (c.in-Ok-Some-Feeds.field-0-is, c.in-Ok-Some-Feeds.field-0-0-is) at c.in-Ok-Some-Feeds.ensures in
+    let logs = c.in-Ok-Some-Feeds.logs.items in
+    let b = logs_bounds (map string_bytes c.args.words.now) c.in-Ok-Some-Feeds.focus c.in-Ok-Some-Feeds.models.now (map (λ l. l.now) logs) (sym asked) in
+    rw (c.as_slice.ensures.value) (omega (arith, b.0, length-map logs (λ l. l.now)))
+
+pub recognise_feeds-requires-clause-most : goal.recognise_feeds-requires-clause-most
+recognise_feeds-requires-clause-most g c =
+    let asked = rw (c.in-Ok-Some-Feeds.field-0-is, c.in-Ok-Some-Feeds.field-0-0-is) at c.in-Ok-Some-Feeds.ensures in
+    let logs = c.in-Ok-Some-Feeds.logs.items in
+    let b = logs_bounds (map string_bytes c.args.words.now) c.in-Ok-Some-Feeds.focus c.in-Ok-Some-Feeds.models.now (map (λ l. l.now) logs) (sym asked) in
+    rw (c.as_slice.ensures.value) (omega (arith, b.1, length-map logs (λ l. l.now)))
+
+pub returns-in-Ok-Some-Feeds-clause-told : goal.returns-in-Ok-Some-Feeds-clause-told
+returns-in-Ok-Some-Feeds-clause-told g c = λ t.
+    let asked = rw (c.in-Ok-Some-Feeds.field-0-is, c.in-Ok-Some-Feeds.field-0-0-is) at c.in-Ok-Some-Feeds.ensures in
+    rw (sym asked) (rw c.as_slice.ensures.value at (c.recognise_feeds.ensures.told t))
+
+pub returns-in-Ok-Some-Feeds-clause-complete : goal.returns-in-Ok-Some-Feeds-clause-complete
+returns-in-Ok-Some-Feeds-clause-complete g c = λ t.
+    let asked = rw (c.in-Ok-Some-Feeds.field-0-is, c.in-Ok-Some-Feeds.field-0-0-is) at c.in-Ok-Some-Feeds.ensures in
+    rw (sym asked) (completes_feeds (g.D.Desk.inputs c.args.desk.now) (g.D.Desk.inputs c.recognise_feeds.new.desk) (most_of c.args.limits)
+    (g.D.Desk.told c.args.desk.now) (g.D.Desk.told c.recognise_feeds.new.desk) c.in-Ok-Some-Feeds.models.now (map (λ l. l.now) c.in-Ok-Some-Feeds.logs.items)
+    (Rose (g.D.Desk.in_faults c.args.desk.now) (g.D.Desk.in_faults c.recognise_feeds.new.desk)
+    ⊎ Rose (g.D.Desk.out_faults c.args.desk.now) (g.D.Desk.out_faults c.recognise_feeds.new.desk)) c.recognise_feeds.result
+    (rw c.as_slice.ensures.value at (c.recognise_feeds.ensures.told t)) (λ e. inl (c.recognise_feeds.ensures.causes.read_fault e)) (λ e. inr (c.recognise_feeds.ensures.causes.write_fault e)))

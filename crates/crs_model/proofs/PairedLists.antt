@@ -10,10 +10,17 @@ use Rattle.crs_base.proofs.Words.{in_from_each}
 use Rattle.crs_model.specs.Matching.{Assignment}
 use Rattle.crs_model.specs.Order.{Lists, assignment_cmp}
 use Rattle.crs_model.proofs.Unique.{same_members}
-use Rattle.crs_model.proofs.Twins.{Twins, one_row, rows_cmp}
-use Rattle.crs_model.proofs.TwinLists.{Paired}
+use Rattle.crs_model.proofs.Twins.{Twins, flip, zip_turned, one_row, rows_cmp}
 
 module _ {S : Type 0} where
+  -- the same values, for entries that are twins
+  pub record Paired (T : Entry S → Entry S → Type 0) (a b : Assignment S) : Type 0 where
+    pub entries : AllZip T a.entries b.entries
+    pub values : a.values ≡ b.values
+
+  pub paired_turned : (T : Entry S → Entry S → Type 0) (a b : Assignment S) → Paired T a b → Paired (flip T) b a
+  paired_turned T a b p = record { entries = zip_turned T a.entries b.entries p.entries; values = sym p.values }
+
   assignments_total : IsTotalOrder (assignment_cmp {S = S})
   assignments_total = on_total (λ a. a.entries) (lists_total entry_total)
 
