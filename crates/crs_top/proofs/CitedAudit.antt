@@ -129,10 +129,11 @@ module _ (c : Setting) where
           ≡ option_or (option_or o (if number_of m == number_of m then Some (view_of next) else None)) (last_view before (number_of m))
           → (v : View) × (last_view (before ++ (number_of m, view_of next) ∷ notes_of c next gs) (number_of m) ≡ Some v) × Stays (view_of next) v
       by (Some v) rest e = (v, e, rest v refl)
-      by None rest e =
-          (view_of next,
-          e ∙ (λ i. option_or (option_or None (if eq-eqb (number_of m) (number_of m) refl i then Some (view_of next) else None)) (last_view before (number_of m))),
-          stays_itself (view_of next))
+      by None rest e = (
+        view_of next,
+        e ∙ (λ i. option_or (option_or None (if eq-eqb (number_of m) (number_of m) refl i then Some (view_of next) else None)) (last_view before (number_of m))),
+        stays_itself (view_of next),
+      )
 
 -- ---- answers
 
@@ -214,10 +215,10 @@ module _ (cs : List (Chronicle (List ℕ))) (own : HaveOwnNames cs) (citable : A
         each [] h l = tt
         each (a ∷ news) n l = (
           λ e.
-            let same : b.entries ≡ a.entries = entries_told d d b a h.0.0 n.0.0 (same_numbers (key_of (answer_of k d b)) (key_of (answer_of k d a)) e) in
-            let equal : assignment_cmp b a ≡ Equal = ap (λ (es : List (Entry (List ℕ))). entries_cmp es a.entries) same ∙ same_entries a.entries in
-            let never : Less ≡ Equal = sym l.0 ∙ equal in
-            cc,
+              let same : b.entries ≡ a.entries = entries_told d d b a h.0.0 n.0.0 (same_numbers (key_of (answer_of k d b)) (key_of (answer_of k d a)) e) in
+              let equal : assignment_cmp b a ≡ Equal = ap (λ (es : List (Entry (List ℕ))). entries_cmp es a.entries) same ∙ same_entries a.entries in
+              let never : Less ≡ Equal = sym l.0 ∙ equal in
+              cc,
           each news n.1 l.1,
         )
 
@@ -226,11 +227,11 @@ module _ (cs : List (Chronicle (List ℕ))) (own : HaveOwnNames cs) (citable : A
     answers_apart was k (d ∷ ds) own news h =
         subst (Ordered (λ a b. key_of a ≢ key_of b)) (sym h.4)
         (ordered_append (λ a b. key_of a ≢ key_of b) (map (answer_of k d) h.0) h.1 (keys_apart was k d h.0 h.2.each h.2.ascending) (answers_apart was (suc k) ds own.1 h.1 h.3)
-          (λ a b i j e.
-          let x = in_map_back (answer_of k d) h.0 a i in
-          let of_d : a.chronicle ≡ d = ap (λ (y : Answer). y.chronicle) x.2 in
-          let other : IsIn b.chronicle ds = named (suc k) ds h.1 h.3 b j in
-          in_from_each (λ c. d.name ≢ c.name) ds own.0 b.chronicle other (ap (λ (c : Chronicle (List ℕ)). c.name) (sym of_d) ∙ same_name (key_of a) (key_of b) e)))
+        (λ a b i j e.
+        let x = in_map_back (answer_of k d) h.0 a i in
+        let of_d : a.chronicle ≡ d = ap (λ (y : Answer). y.chronicle) x.2 in
+        let other : IsIn b.chronicle ds = named (suc k) ds h.1 h.3 b j in
+        in_from_each (λ c. d.name ≢ c.name) ds own.0 b.chronicle other (ap (λ (c : Chronicle (List ℕ)). c.name) (sym of_d) ∙ same_name (key_of a) (key_of b) e)))
       where
         -- an answer is of one of the chronicles
         named : (k : ℕ) (ds : List (Chronicle (List ℕ))) (news : List Answer) → AreNew k ds was now news → (b : Answer) → IsIn b news → IsIn b.chronicle ds
@@ -289,7 +290,7 @@ module _ (cs : List (Chronicle (List ℕ))) (own : HaveOwnNames cs) (citable : A
                     then_recognised.windows,
                     inr (
                       ap (λ (w : List ℕ). w ++ 10 ∷ []) (plain_whole (cited_line a.chronicle m a.assignment) (line_plain a.chronicle citable_here m early a.assignment line))
-                      ∙ sym (line_is a.chronicle m a.assignment),
+                          ∙ sym (line_is a.chronicle m a.assignment),
                       inr (unheard, refl),
                     ),
                   ),
@@ -309,7 +310,7 @@ module _ (cs : List (Chronicle (List ℕ))) (own : HaveOwnNames cs) (citable : A
             ∙ split_line (cited_line a.chronicle m a.assignment) rest (line_some a.chronicle citable_here m early a.assignment line) (line_plain a.chronicle citable_here m early a.assignment line) in
             subst (λ (ls : List Line). IsAuditFrom g n earlier ls answer) (sym first)
             (subst (λ (x : Said). IsLineAudit g n earlier (bytes_of l) x answer (λ claims. IsAuditFrom g (n + 1) claims (lines_of rest) answer))
-              (sym (line_said a.chronicle citable_here m early a.assignment line)) (inr (no_fault earlier unheard, more)))
+            (sym (line_said a.chronicle citable_here m early a.assignment line)) (inr (no_fault earlier unheard, more)))
 
       -- and so do all lines of the mark
       pub all_pass : (was : View) (news : List Answer) → AllByRecursion (IsFresh was now) news → Ordered (λ a b. key_of a ≢ key_of b) news → (n : ℕ) (earlier : List Earlier)
@@ -320,9 +321,9 @@ module _ (cs : List (Chronicle (List ℕ))) (own : HaveOwnNames cs) (citable : A
       all_pass was (a ∷ news) fresh apart n earlier unheard rest answer more =
           subst (λ (t : List ℕ). IsAuditFrom g n earlier (lines_of t) answer) (sym (append_assoc (answer_line true m a) (flat_map (answer_line true m) news) rest))
           (passes was a fresh.0 n earlier unheard.0 (flat_map (answer_line true m) news ++ rest) answer
-            (all_pass was news fresh.1 apart.1 (n + 1) (key_of a ∷ earlier)
-              (all_each news (λ b u i. elim i [ inl e ↦ u.0 (sym e) | inr old ↦ u.1 old ]) (all_both (λ b. key_of a ≢ key_of b) (λ b. IsIn (key_of b) earlier → ⊥) news apart.0 unheard.1))
-              rest answer more))
+          (all_pass was news fresh.1 apart.1 (n + 1) (key_of a ∷ earlier)
+          (all_each news (λ b u i. elim i [ inl e ↦ u.0 (sym e) | inr old ↦ u.1 old ]) (all_both (λ b. key_of a ≢ key_of b) (λ b. IsIn (key_of b) earlier → ⊥) news apart.0 unheard.1))
+          rest answer more))
 
     -- no claim before the mark cites what is new at it
     unheard : (s : State) → Stays (view_of s) now → (earlier : List Earlier) → AreRecorded (view_of s) earlier → (a : Answer) → IsFresh (view_of s) now a → IsIn (key_of a) earlier → ⊥
@@ -340,9 +341,9 @@ module _ (cs : List (Chronicle (List ℕ))) (own : HaveOwnNames cs) (citable : A
     recorded_then was earlier recorded news fresh k i = elim (in_keys earlier news k i) [
       | inl old ↦ recorded k old
       | inr new ↦ (
-        let f = in_from_each (IsFresh was now) news fresh new.0 new.1 in
-        (new.0.chronicle, new.0.assignment, f.among, f.new.0, new.2)
-      )
+          let f = in_from_each (IsFresh was now) news fresh new.0 new.1 in
+          (new.0.chronicle, new.0.assignment, f.among, f.new.0, new.2)
+          )
     ]
 
 -- ---- the text
@@ -372,7 +373,7 @@ module _ (f : Frame) (log : List ℕ) (own : HaveOwnNames f.models.chronicles) (
       ap (λ (t : List ℕ). lines_of (t ++ rest)) (refusal_is number (fault_of fault)) ∙ split_line body rest (omega arith) (refusal_plain number (fault_of fault)) in
       subst (λ (ls : List Line). IsAuditFrom (ground_of f log) n earlier ls answer) (sym first)
       (subst (λ (x : Said). IsLineAudit (ground_of f log) n earlier (bytes_of (whole body)) x answer (λ claims. IsAuditFrom (ground_of f log) (n + 1) claims (lines_of rest) answer))
-        (sym (refusal_said number (fault_of fault))) more)
+      (sym (refusal_said number (fault_of fault))) more)
 
   passes_from : (s : State) → IsSound s → AreSmallEntries f.entries s.accepted → (before : List Note) (gs : List Given) → all_notes ≡ before ++ notes_of (setting_of f) s gs
       → (es : List Effect) (last : State) → IsTrace (setting_of f) cs s gs es last → Passes s gs es last
@@ -428,7 +429,7 @@ module _ (f : Frame) (log : List ℕ) (own : HaveOwnNames f.models.chronicles) (
           (all_each news (λ a fr. unheard cs own citable f.entries small next leads.0 s on earlier recorded a fr) fresh)
           (text_of true es) (Ok (length earlier + length (news ++ answers_in es)))
           (λ k. subst (λ (x : ℕ). IsAuditFrom (ground_of f log) k (with_keys earlier news) (lines_of (text_of true es)) (Ok x)) sum
-            (on_with further (Marked m) becomes k (with_keys earlier news) (recorded_then cs own citable f.entries small next leads.0 (view_of s) earlier recorded_next news fresh)))
+          (on_with further (Marked m) becomes k (with_keys earlier news) (recorded_then cs own citable f.entries small next leads.0 (view_of s) earlier recorded_next news fresh)))
 
 pub cited_texts_have_no_fault : CitedTextsHaveNoFault
 cited_texts_have_no_fault symbols entries models log f effects last few reads trace =

@@ -173,7 +173,7 @@ line_is c m b =
     ∙ (λ i. (sym (points_spaced ps) i ++ sym (values_spaced vs) i) ++ (codes " cites" ++ sym (numbers_spaced b.entries) i)) in
     ap (λ (t : List ℕ). t ++ 10 ∷ [])
     (regrouped c.name (codes " at ") (mark_text m) (flat_map point_text ps) (flat_map value_text vs) (cites_text true b.entries)
-      ∙ ap (λ (t : List ℕ). c.name ++ (codes " at " ++ (mark_text m ++ t))) (sym inside))
+    ∙ ap (λ (t : List ℕ). c.name ++ (codes " at " ++ (mark_text m ++ t))) (sym inside))
 
 -- ---- what stands in it
 
@@ -219,11 +219,11 @@ pub has_line : (c : Chronicle (List ℕ)) → IsCitable c → (limit : ℕ) → 
     → AllByRecursion (IsEntryOf IsText) b.entries → AllByRecursion (λ e. e.date < 2 ^ 40) b.entries → AllByRecursion (λ e. e.arrival < limit) b.entries → HasLine c b
 has_line c citable limit small pool b a known dates numbers = record {
   values = texts_at b.values (λ v l.
-    let k : v < length c.variables = (let e = a.bound in omega arith) in
-    let s = citable.named.stands v k in
-    let g = of_events (λ (y : List ℕ). y) IsText (renamed_look (λ (y : List ℕ). y) (slice_get b.values)) v c.events b.entries known
-        (patterns_on (λ (y : List ℕ). y) (slice_get b.values) c.events b.entries a.equal) s.0 s.1 s.2 s.3 in
-    (g.0, g.1, unrenamed (slice_get b.values v) g.0 g.2));
+      let k : v < length c.variables = (let e = a.bound in omega arith) in
+      let s = citable.named.stands v k in
+      let g = of_events (λ (y : List ℕ). y) IsText (renamed_look (λ (y : List ℕ). y) (slice_get b.values)) v c.events b.entries known
+      (patterns_on (λ (y : List ℕ). y) (slice_get b.values) c.events b.entries a.equal) s.0 s.1 s.2 s.3 in
+      (g.0, g.1, unrenamed (slice_get b.values v) g.0 g.2));
   dates = dates;
   numbers = numbers_small limit b.entries small numbers;
   many = zip_long _ c.events b.entries a.equal;
@@ -275,11 +275,11 @@ module _ (c : Chronicle (List ℕ)) (citable : IsCitable c) (m : Mark) (early : 
         words = words_both _ _ (words_of_some 78 _ points).0 (words_of_some 130 _ values).0;
         numbers = h.numbers;
         some = (
-          let long : length (arrivals b.entries) ≡ length b.entries = length-map b.entries (λ (e : Entry (List ℕ)). e.arrival) in
-          let many = h.many in
-          let some = citable.some in
-          omega (arith, long)
-        );
+            let long : length (arrivals b.entries) ≡ length b.entries = length-map b.entries (λ (e : Entry (List ℕ)). e.arrival) in
+            let many = h.many in
+            let some = citable.some in
+            omega (arith, long)
+            );
         short = short;
       }
 

@@ -56,16 +56,15 @@ begun_apart before [] h = (tt, tt)
 begun_apart before (t ∷ ts) h =
     let rest = begun_apart (before ++ t ∷ []) ts h.2 in
     let parts : (u : List ℕ) → is_of (before ++ t ∷ []) u ≡ false → (is_of before u ≡ false) × (is_of (t ∷ []) u ≡ false) =
-    (λ u e. or_parts (is_of before u) (is_of (t ∷ []) u) (sym (list_any-append (bytes_eq u) before (t ∷ [])) ∙ e)) in
-    (
+    (λ u e. or_parts (is_of before u) (is_of (t ∷ []) u) (sym (list_any-append (bytes_eq u) before (t ∷ [])) ∙ e)) in (
       (h.0, all_each ts (λ u e. (parts u e).0) rest.0),
       (
         all_each ts
-        (λ u e same.
-          let own : bytes_eq u t ≡ true = ap (bytes_eq u) same ∙ same_bytes u in
-          let none = or_parts (bytes_eq u t) false (parts u e).1 in
-          true≢false (sym own ∙ none.0))
-        rest.0,
+            (λ u e same.
+            let own : bytes_eq u t ≡ true = ap (bytes_eq u) same ∙ same_bytes u in
+            let none = or_parts (bytes_eq u t) false (parts u e).1 in
+            true≢false (sym own ∙ none.0))
+            rest.0,
         rest.1,
       ),
     )
@@ -87,10 +86,9 @@ models_citable symbols text m texts read =
     let held = lines_read symbols 1 [] r (lines_of text) e in
     let sound = read_sound symbols 1 [] r (lines_of text) e in
     let good = read_good symbols 1 [] r (lines_of text) e in
-    subst (λ (n : Models (List ℕ)). AllByRecursion IsCitable n.chronicles × HaveOwnNames n.chronicles) b.2
-    (
+    subst (λ (n : Models (List ℕ)). AllByRecursion IsCitable n.chronicles × HaveOwnNames n.chronicles) b.2 (
       each_made _ _ chronicle_of r.done (λ d q. citable r.texts r.names d q.0 q.1)
-        (all_both (λ d. IsHeldChronicle r.texts d.1) (λ d. IsWhole r.names d.1) r.done held.done sound.done),
+          (all_both (λ d. IsHeldChronicle r.texts d.1) (λ d. IsWhole r.names d.1) r.done held.done sound.done),
       names_apart r.done (begun_apart [] (called r.done) good.begins).1,
     )
 

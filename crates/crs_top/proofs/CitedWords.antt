@@ -205,11 +205,10 @@ numbers_of_some (n ∷ ns) some h = numbers_back (n ∷ ns) h
 
 module _ (name : List ℕ) (m : Mark) (middle : List (List ℕ)) (ns : List ℕ) (h : IsClaimLine name m middle ns) where
   all_words : AreWords (claim_words m middle ns)
-  all_words =
-      (
-        (omega arith, refl),
-        (mark_word m h.early, words_both middle (codes "cites" ∷ number_words ns) h.words ((omega arith, refl), numbers_words ns h.numbers)),
-      )
+  all_words = (
+    (omega arith, refl),
+    (mark_word m h.early, words_both middle (codes "cites" ∷ number_words ns) h.words ((omega arith, refl), numbers_words ns h.numbers)),
+  )
 
   -- neither a line feed nor a carriage return stands in it
   pub claim_plain : is_plain (claim_line name m middle ns) ≡ true
@@ -218,18 +217,18 @@ module _ (name : List ℕ) (m : Mark) (middle : List (List ℕ)) (ns : List ℕ)
   claim_is : claim_in (name ∷ claim_words m middle ns) ≡ Some (record { name = name; mark = m; numbers = ns })
   claim_is =
       (λ i. if h.symbol i && not (none_empty (name ∷ claim_words m middle ns) (h.named, all_words) i)
-          then claim_with name (mark_back m h.early i) (option_and_then some_numbers (cites_last middle ns h.numbers i))
-          else None)
+      then claim_with name (mark_back m h.early i) (option_and_then some_numbers (cites_last middle ns h.numbers i))
+      else None)
       ∙ ap (λ (o : Option (List ℕ)). claim_with name (Some m) o) (numbers_of_some ns h.some h.numbers)
 
   -- it says the name, the mark and the numbers
   pub claim_said : said_of (whole (claim_line name m middle ns)) ≡ Claims (record { name = name; mark = m; numbers = ns })
   claim_said =
       (λ i. if is_claim (words_of_line name (claim_words m middle ns) h.named all_words i)
-          then (if fit (claim_line name m middle ns) claim_plain h.short i
-              then Formless
-              else said_as (claim_in (words_of_line name (claim_words m middle ns) h.named all_words i)))
-          else Other)
+      then (if fit (claim_line name m middle ns) claim_plain h.short i
+      then Formless
+      else said_as (claim_in (words_of_line name (claim_words m middle ns) h.named all_words i)))
+      else Other)
       ∙ (λ i. if same_bytes (codes "at") i then said_as (claim_in (name ∷ claim_words m middle ns)) else Other)
       ∙ ap said_as claim_is
 
@@ -247,5 +246,5 @@ digits_said w v rest h some digits plain =
     let unclaimed : is_claim (words_of (bytes_of (whole (w ++ 32 ∷ (v ++ 32 ∷ rest))))) ≡ false =
     ap is_claim words ∙ other v (codes "at") digits refl in
     λ i. if unclaimed i
-        then (if is_unfit (whole (w ++ 32 ∷ (v ++ 32 ∷ rest))) then Formless else said_as (claim_in (words_of (bytes_of (whole (w ++ 32 ∷ (v ++ 32 ∷ rest)))))))
-        else Other
+    then (if is_unfit (whole (w ++ 32 ∷ (v ++ 32 ∷ rest))) then Formless else said_as (claim_in (words_of (bytes_of (whole (w ++ 32 ∷ (v ++ 32 ∷ rest)))))))
+    else Other

@@ -39,7 +39,12 @@ pub fn audit_output<D: Desk>(
         Ok(text) => text,
         Err(status) => return status,
     };
-    let (plans, symbols) = match plans_for_audit(alloc, text.as_slice(), limits.symbols, desk.seed()) {
+    let (plans, symbols) = match plans_for_audit(
+        alloc,
+        text.as_slice(),
+        limits.symbols,
+        desk.seed(),
+    ) {
         Ok(read) => read,
         Err(refused) => return refuse(alloc, desk, refused),
     };

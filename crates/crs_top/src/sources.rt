@@ -26,11 +26,7 @@ fn push_source(alloc: Global, sources: &mut Vec<Source>, input: u32) -> Result<(
 }
 
 /// Opens the logs in the order of their names. An error is the status with which the call ends.
-pub fn open_all<D: Desk>(
-    alloc: Global,
-    desk: &mut D,
-    names: &[&str],
-) -> Result<Vec<Source>, Status>
+pub fn open_all<D: Desk>(alloc: Global, desk: &mut D, names: &[&str]) -> Result<Vec<Source>, Status>
     requires { D.inputs desk.old + length names.now < 2 ^ 32 - 1 }
     ensures least { D.inputs desk.old ≤ D.inputs desk.new }
     ensures most { D.inputs desk.new ≤ D.inputs desk.old + length names.now }

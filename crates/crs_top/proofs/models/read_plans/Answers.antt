@@ -11,7 +11,7 @@ pub returns-in_err-plans-clause-refused : goal.returns-in_err-plans-clause-refus
 returns-in_err-plans-clause-refused c =
     let p = err_from_is_err_and c.from_residual-in_err-plans.result c.from_residual-in_err-plans.ensures.1 in
     rw (p.1, p.2) (broken_faulty c.args.symbols c.args.text.now c.in_err-plans.field-0.0
-      (compile_faulty c.args.symbols c.args.text.now c.in_ok-models.models c.in_ok-models.symbols c.in_ok-models.ensures.ok c.in_err-plans.field-0.0 c.in_err-plans.ensures.refused))
+    (compile_faulty c.args.symbols c.args.text.now c.in_ok-models.models c.in_ok-models.symbols c.in_ok-models.ensures.ok c.in_err-plans.field-0.0 c.in_err-plans.ensures.refused))
 
 pub returns-in-Some-clause-refused : goal.returns-in-Some-clause-refused
 returns-in-Some-clause-refused c =
