@@ -1,0 +1,10 @@
+pub mod Strata
+pub mod Runs
+pub mod Laws
+pub mod LayerPlans
+pub mod Accepting
+pub mod Standing
+pub mod Halts
+pub mod Giving
+pub mod Marks
+pub mod Passing
