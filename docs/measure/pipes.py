@@ -89,39 +89,40 @@ def try_eight(program, folder, models):
     check(b"\n" in wanted and output == wanted and run.returncode == of_files.returncode, "eight pipes give other lines than eight files")
 
 
+def start_on_two(program, folder, models, names):
+    """A run over two named pipes, and the ends to write to."""
+    pipes = [folder + "/" + name for name in names]
+    for pipe in pipes:
+        os.mkfifo(pipe)
+    run = start(program, models, pipes)
+    return [run] + [open(pipe, "wb", buffering=0) for pipe in pipes]
+
+
+def end(run, *writers):
+    for writer in writers:
+        writer.close()
+    run.communicate(timeout=PATIENCE)
+    check(run.returncode == 0, "pipes that end give another status than 0")
+
+
 def try_silent(program, folder, models):
-    names = [folder + "/talks", folder + "/silent"]
-    for name in names:
-        os.mkfifo(name)
-    run = start(program, models, names)
-    talks = open(names[0], "wb", buffering=0)
-    silent = open(names[1], "wb", buffering=0)
+    run, talks, silent = start_on_two(program, folder, models, ["talks", "silent"])
     talks.write(b"1 a[x]\n3 b[x]\nclock 9\n")
     check(told(run, SILENCE) == b"", "a feed that has told nothing yet was not waited for")
     silent.write(b"clock 4\n")
     check(told(run, SILENCE) == b"", "a feed in its turn was not waited for")
     silent.write(b"clock 5\n")
     check(told(run, PATIENCE) == b"c at 5 t1=1 t2=3 ?u=x\n", "no line comes once the silent feed has sent its clocks")
-    talks.close()
-    silent.close()
-    run.communicate(timeout=PATIENCE)
-    check(run.returncode == 0, "two pipes that end have another status than 0")
+    end(run, talks, silent)
 
 
 def try_ended(program, folder, models):
-    names = [folder + "/goes_on", folder + "/ends"]
-    for name in names:
-        os.mkfifo(name)
-    run = start(program, models, names)
-    goes_on = open(names[0], "wb", buffering=0)
-    ends = open(names[1], "wb", buffering=0)
+    run, goes_on, ends = start_on_two(program, folder, models, ["goes_on", "ends"])
     ends.write(b"end\n")
     ends.close()
     goes_on.write(b"1 a[x]\n3 b[x]\nclock 9\n")
     check(told(run, PATIENCE) == b"c at 9 t1=1 t2=3 ?u=x\n", "a feed that has ended holds the others back")
-    goes_on.close()
-    run.communicate(timeout=PATIENCE)
-    check(run.returncode == 0, "a feed that ends at once gives another status than 0")
+    end(run, goes_on)
 
 
 def try_twice(program, folder, models):
