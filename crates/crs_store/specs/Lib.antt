@@ -8,6 +8,7 @@ pub mod Slots
 pub mod Links
 pub mod Sweeps
 pub mod Answers
+pub mod Charts
 pub mod Dues
 pub mod Ripenings
 pub mod Tidy

@@ -1,15 +1,15 @@
 ghost use Rattle.std.specs.Prelude.{◌≡◌, ◌≤◌, ◌<◌, ◌^◌, pos, ◌+ℤ◌, length, OnOk, All};
-ghost use Rattle.crs_model.specs.Plans.{IsProper};
 ghost use Rattle.crs_model.specs.SeenModels.{body_of};
 ghost use Rattle.crs_instance.specs.Instances.{IsOf};
 ghost use Rattle.crs_store.specs.PlanLevels.{IsLastDate};
 ghost use Rattle.crs_store.specs.Dues.{IsStart, IsDueFor, IsFirstOf, StandsAtEach, AreDue, AreKept, AreCollected, HasPlaces};
 
+use crate::chart::Chart;
 use crate::levels::{is_awaited, last_date};
 use crate::places::note;
 use crs_agenda::{Calendar, Handle};
 use crs_instance::Instance;
-use crs_model::{Body, Plan, Stretch};
+use crs_model::{Body, Stretch};
 use std::alloc::AllocError;
 
 /// A date at or after it is never waited for.
@@ -74,21 +74,21 @@ fn put_start(
 /// Puts the handle in at the due dates of the window of this number, from `since` on.
 fn put_window_dues(
     calendar: &mut Calendar,
-    plan: &Plan,
+    chart: &Chart<'_>,
     instance: &Instance,
     k: u8,
     handle: Handle,
     since: u64,
 ) -> Result<(), AllocError>
-    requires proper { IsProper plan.now }
-    requires of { IsOf plan.now instance.now }
-    requires window { k < length plan.now.chronicle.windows }
+    requires of { IsOf chart.now.plan instance.now }
+    requires window { k < length chart.now.plan.chronicle.windows }
     requires since { calendar.old.date ≤ since }
     requires small { since ≤ 2 ^ 42 }
-    ensures put { OnOk result (StandsAtEach (IsDueFor plan.now instance.now k) handle since calendar.new.pairs) }
+    ensures put { OnOk result (StandsAtEach (IsDueFor chart.now.plan instance.now k) handle since calendar.new.pairs) }
     ensures kept { AreKept calendar.old.pairs calendar.new.pairs }
     ensures stood { calendar.new.date ≡ calendar.old.date }
 {
+    let plan = chart.plan();
     let Some(stretch) = instance.stretch(plan, k) else {
         return Ok(());
     };
@@ -100,21 +100,19 @@ fn put_window_dues(
 /// Puts the handle in at the deadline of the instance, from `since` on.
 fn put_deadline(
     calendar: &mut Calendar,
-    plan: &Plan,
-    focus: bool,
+    chart: &Chart<'_>,
     instance: &Instance,
     handle: Handle,
     since: u64,
 ) -> Result<(), AllocError>
-    requires proper { IsProper plan.now }
-    requires of { IsOf plan.now instance.now }
+    requires of { IsOf chart.now.plan instance.now }
     requires since { calendar.old.date ≤ since }
     requires small { since ≤ 2 ^ 42 }
-    ensures put { OnOk result (StandsAtEach (IsLastDate plan.now focus instance.now) handle since calendar.new.pairs) }
+    ensures put { OnOk result (StandsAtEach (IsLastDate chart.now.plan chart.now.focus instance.now) handle since calendar.new.pairs) }
     ensures kept { AreKept calendar.old.pairs calendar.new.pairs }
     ensures stood { calendar.new.date ≡ calendar.old.date }
 {
-    let Some(deadline) = last_date(plan, focus, instance) else {
+    let Some(deadline) = last_date(chart.plan(), chart.focus(), instance) else {
         return Ok(());
     };
     put_due(calendar, deadline, handle, since)
@@ -123,29 +121,28 @@ fn put_deadline(
 /// Puts the handle in at the date before the first at which the event can come, where it is awaited.
 fn put_first(
     calendar: &mut Calendar,
-    plan: &Plan,
-    focus: bool,
+    chart: &Chart<'_>,
     instance: &Instance,
     event: u8,
     handle: Handle,
     since: u64,
 ) -> Result<(), AllocError>
-    requires proper { IsProper plan.now }
-    requires of { IsOf plan.now instance.now }
-    requires event { event < length plan.now.chronicle.events }
+    requires of { IsOf chart.now.plan instance.now }
+    requires event { event < length chart.now.plan.chronicle.events }
     requires since { calendar.old.date ≤ since }
     requires small { since ≤ 2 ^ 42 }
-    ensures put { OnOk result (StandsAtEach (IsFirstOf plan.now focus instance.now event) handle since calendar.new.pairs) }
+    ensures put { OnOk result (StandsAtEach (IsFirstOf chart.now.plan chart.now.focus instance.now event) handle since calendar.new.pairs) }
     ensures kept { AreKept calendar.old.pairs calendar.new.pairs }
     ensures stood { calendar.new.date ≡ calendar.old.date }
 {
+    let plan = chart.plan();
     let Some(least) = instance.date_window(event).least else {
         return Ok(());
     };
     if least <= since as i64 {
         return Ok(());
     }
-    if !is_awaited(plan, focus, instance, event) {
+    if !is_awaited(plan, chart.focus(), instance, event) {
         return Ok(());
     }
     put_due(calendar, least - 1, handle, since)?;
@@ -156,25 +153,23 @@ fn put_first(
 /// events from the start, so no date of theirs changes anything: it takes a fifth off a prompt drill.
 fn put_firsts(
     calendar: &mut Calendar,
-    plan: &Plan,
-    focus: bool,
+    chart: &Chart<'_>,
     instance: &Instance,
     handle: Handle,
     since: u64,
 ) -> Result<(), AllocError>
-    requires proper { IsProper plan.now }
-    requires of { IsOf plan.now instance.now }
+    requires of { IsOf chart.now.plan instance.now }
     requires since { calendar.old.date ≤ since }
     requires small { since ≤ 2 ^ 42 }
-    ensures put { OnOk result ((e : _) → StandsAtEach (IsFirstOf plan.now focus instance.now e) handle since calendar.new.pairs) }
+    ensures put { OnOk result ((e : _) → StandsAtEach (IsFirstOf chart.now.plan chart.now.focus instance.now e) handle since calendar.new.pairs) }
     ensures kept { AreKept calendar.old.pairs calendar.new.pairs }
     ensures stood { calendar.new.date ≡ calendar.old.date }
 {
-    if plan.chronicle.prompt {
+    if chart.plan().chronicle.prompt {
         return Ok(());
     }
-    for event in 0..plan.chronicle.events.len() as u8 {
-        put_first(calendar, plan, focus, instance, event, handle, since)?;
+    for event in 0..chart.events() {
+        put_first(calendar, chart, instance, event, handle, since)?;
     }
     Ok(())
 }
@@ -183,24 +178,22 @@ fn put_firsts(
 /// refusal some of them may be in.
 pub(crate) fn put_dues(
     calendar: &mut Calendar,
-    plan: &Plan,
-    focus: bool,
+    chart: &Chart<'_>,
     instance: &Instance,
     handle: Handle,
     date: u64,
 ) -> Result<(), AllocError>
-    requires proper { IsProper plan.now }
-    requires of { IsOf plan.now instance.now }
+    requires of { IsOf chart.now.plan instance.now }
     requires since { calendar.old.date ≤ date }
     requires small { date ≤ 2 ^ 42 }
-    ensures put { OnOk result (AreDue plan.now focus instance.now handle date calendar.new.pairs) }
+    ensures put { OnOk result (AreDue chart.now.plan chart.now.focus instance.now handle date calendar.new.pairs) }
     ensures kept { AreKept calendar.old.pairs calendar.new.pairs }
     ensures stood { calendar.new.date ≡ calendar.old.date }
 {
-    put_deadline(calendar, plan, focus, instance, handle, date)?;
-    put_firsts(calendar, plan, focus, instance, handle, date)?;
-    for k in 0..plan.chronicle.windows.len() as u8 {
-        put_window_dues(calendar, plan, instance, k, handle, date)?;
+    put_deadline(calendar, chart, instance, handle, date)?;
+    put_firsts(calendar, chart, instance, handle, date)?;
+    for k in 0..chart.windows() {
+        put_window_dues(calendar, chart, instance, k, handle, date)?;
     }
     Ok(())
 }

@@ -13,10 +13,11 @@ ghost use Rattle.crs_store.specs.Stores.{AllOf};
 ghost use Rattle.crs_store.specs.Tidy.{IsTidyHolding, Registers, SettlesPlaces};
 ghost use Rattle.crs_store.specs.Windows.{IsAble, IsFollowed, IsPassed};
 
+use crate::chart::Chart;
 use crate::dues::{collect_due, put_dues};
 use crate::hooks::Hooks;
 use crate::hope::is_hopeful;
-use crate::linking::{arm_windows, link_events, link_places, linked_by};
+use crate::linking::{arm_windows, link_events, link_places};
 use crate::links::note_touched;
 use crate::places::sort_places;
 use crate::slots::Slots;
@@ -111,20 +112,17 @@ fn register(
         return Ok(());
     };
     let handle = holding.slots.handle(place);
-    let events = hooks.events.as_slice();
+    let chart = Chart { plan, hooks, focus };
     link_events(
         &mut holding.waiting,
-        plan,
-        focus,
-        events,
+        &chart,
         instance,
         handle,
         None,
-        linked_by(plan, h),
+        chart.linked_by(h),
     )?;
-    let windows = hooks.windows.as_slice();
-    arm_windows(&mut holding.waiting, plan, windows, instance, handle, h)?;
-    put_dues(&mut holding.dues, plan, focus, instance, handle, h)?;
+    arm_windows(&mut holding.waiting, &chart, instance, handle, h)?;
+    put_dues(&mut holding.dues, &chart, instance, handle, h)?;
     Ok(())
 }
 
@@ -230,16 +228,14 @@ fn settle_places(
     requires small { h ≤ 2 ^ 42 }
     ensures { OnOk result (SettlesPlaces plan.now focus hooks.now places.now since h holding.old holding.new) }
 {
-    let events = hooks.events.as_slice();
+    let chart = Chart { plan, hooks, focus };
     link_places(
         &mut holding.waiting,
-        plan,
-        focus,
-        events,
+        &chart,
         &holding.slots,
         places,
-        linked_by(plan, since),
-        linked_by(plan, h),
+        chart.linked_by(since),
+        chart.linked_by(h),
     )?;
     note_ripe(plan, &holding.slots, places, h, &mut holding.ripe)?;
     Ok(())

@@ -2,6 +2,7 @@
 #![tactic(auto)]
 
 mod candidates;
+mod chart;
 mod dues;
 mod holding;
 mod hooks;

@@ -1,19 +1,19 @@
 //! Instances wait for what may come to them.
 ghost use Rattle.std.specs.Prelude.{◌≡◌, ◌<◌, ◌≤◌, ◌^◌, ◌+◌, ◌↔◌, ◌≤ℤ◌, IsTrue, Some, length, OnOk, pos};
 ghost use Rattle.crs_instance.specs.Instances.{IsOf};
-ghost use Rattle.crs_model.specs.Plans.{IsProper};
 ghost use Rattle.crs_store.specs.Hooks.{Waits};
-ghost use Rattle.crs_store.specs.Links.{linked_by, Grows, IsLinkedAnew, IsArmed};
+ghost use Rattle.crs_store.specs.Links.{hook_at, Grows, IsLinkedAnew, IsArmed};
 ghost use Rattle.crs_store.specs.Linkings.{StartsBetween, IsLinkedAt, IsArmedAt, AreLinkedAnew};
 ghost use Rattle.crs_store.specs.Slots.{slot_at, handle_at};
 
-use crate::hooks::{Hook, key_of_binding};
+use crate::chart::Chart;
+use crate::hooks::key_of_binding;
 use crate::levels::is_awaited;
 use crate::slots::Slots;
 use crs_agenda::Handle;
 use crs_index::{Index, Key};
 use crs_instance::Instance;
-use crs_model::{DateWindow, Plan};
+use crs_model::DateWindow;
 use std::alloc::AllocError;
 
 /// Has the handle wait under the key.
@@ -47,43 +47,29 @@ fn starts_between(window: DateWindow, since: Option<u64>, h: u64) -> bool
     }
 }
 
-/// It is after each date of an entry.
-const END: u64 = 1 << 42;
-
-/// By which date an event can come that an instance waits for, where it was judged at `h`: those of
-/// a prompt chronicle may take an entry of any date.
-pub(crate) fn linked_by(plan: &Plan, h: u64) -> u64
-    ensures { result ≡ linked_by plan.now h }
-{
-    if plan.chronicle.prompt { END } else { h }
-}
-
 /// Has the handle wait for the event, where it is awaited and can come by `h`, and couldn't by
 /// `since`.
 fn link_event(
     waiting: &mut Index,
-    plan: &Plan,
-    focus: bool,
-    hook: Hook,
+    chart: &Chart<'_>,
     instance: &Instance,
     event: u8,
     handle: Handle,
     since: Option<u64>,
     h: u64,
 ) -> Result<(), AllocError>
-    requires proper { IsProper plan.now }
-    requires of { IsOf plan.now instance.now }
-    requires event { event < length plan.now.chronicle.events }
+    requires of { IsOf chart.now.plan instance.now }
+    requires event { event < length chart.now.plan.chronicle.events }
     ensures grown { Grows waiting.old waiting.new }
-    ensures linked { OnOk result (IsLinkedAt plan.now focus hook waiting.new handle since h instance.now event) }
+    ensures linked { OnOk result (IsLinkedAt chart.now.plan chart.now.focus (hook_at chart.now.hooks.events.items event) waiting.new handle since h instance.now event) }
 {
-    if !is_awaited(plan, focus, instance, event) {
+    if !is_awaited(chart.plan(), chart.focus(), instance, event) {
         return Ok(());
     }
     if !starts_between(instance.date_window(event), since, h) {
         return Ok(());
     }
-    let key = key_of_binding(event as u32, hook, instance.binding());
+    let key = key_of_binding(event as u32, chart.event_hook(event), instance.binding());
     wait(waiting, key, handle)
 }
 
@@ -91,32 +77,18 @@ fn link_event(
 /// `since`, couldn't by that. After a refusal it may wait for some of them.
 pub(crate) fn link_events(
     waiting: &mut Index,
-    plan: &Plan,
-    focus: bool,
-    hooks: &[Hook],
+    chart: &Chart<'_>,
     instance: &Instance,
     handle: Handle,
     since: Option<u64>,
     h: u64,
 ) -> Result<(), AllocError>
-    requires proper { IsProper plan.now }
-    requires of { IsOf plan.now instance.now }
-    requires hooks { length hooks.now ≡ length plan.now.chronicle.events }
+    requires of { IsOf chart.now.plan instance.now }
     ensures grown { Grows waiting.old waiting.new }
-    ensures linked { OnOk result (IsLinkedAnew plan.now focus hooks.now waiting.new handle since h instance.now) }
+    ensures linked { OnOk result (IsLinkedAnew chart.now.plan chart.now.focus chart.now.hooks.events.items waiting.new handle since h instance.now) }
 {
-    for event in 0..plan.chronicle.events.len() as u8 {
-        link_event(
-            waiting,
-            plan,
-            focus,
-            hooks[event as usize],
-            instance,
-            event,
-            handle,
-            since,
-            h,
-        )?;
+    for event in 0..chart.events() {
+        link_event(waiting, chart, instance, event, handle, since, h)?;
     }
     Ok(())
 }
@@ -124,25 +96,23 @@ pub(crate) fn link_events(
 /// Has the handle wait for what may touch the window, where it has begun and doesn't end by `h`.
 fn arm_window(
     waiting: &mut Index,
-    plan: &Plan,
-    hook: Hook,
+    chart: &Chart<'_>,
     instance: &Instance,
     k: u8,
     handle: Handle,
     h: u64,
 ) -> Result<(), AllocError>
-    requires proper { IsProper plan.now }
-    requires window { k < length plan.now.chronicle.windows }
+    requires window { k < length chart.now.plan.chronicle.windows }
     ensures grown { Grows waiting.old waiting.new }
-    ensures armed { OnOk result (IsArmedAt plan.now hook waiting.new handle h instance.now k) }
+    ensures armed { OnOk result (IsArmedAt chart.now.plan (hook_at chart.now.hooks.windows.items k) waiting.new handle h instance.now k) }
 {
-    let Some(stretch) = instance.stretch(plan, k) else {
+    let Some(stretch) = instance.stretch(chart.plan(), k) else {
         return Ok(());
     };
     if is_by(stretch.to, h) {
         return Ok(());
     }
-    let key = key_of_binding(16 + k as u32, hook, instance.binding());
+    let key = key_of_binding(16 + k as u32, chart.window_hook(k), instance.binding());
     wait(waiting, key, handle)
 }
 
@@ -150,19 +120,16 @@ fn arm_window(
 /// refusal it may wait for some of it.
 pub(crate) fn arm_windows(
     waiting: &mut Index,
-    plan: &Plan,
-    hooks: &[Hook],
+    chart: &Chart<'_>,
     instance: &Instance,
     handle: Handle,
     h: u64,
 ) -> Result<(), AllocError>
-    requires proper { IsProper plan.now }
-    requires hooks { length hooks.now ≡ length plan.now.chronicle.windows }
     ensures grown { Grows waiting.old waiting.new }
-    ensures armed { OnOk result (IsArmed plan.now hooks.now waiting.new handle h instance.now) }
+    ensures armed { OnOk result (IsArmed chart.now.plan chart.now.hooks.windows.items waiting.new handle h instance.now) }
 {
-    for k in 0..plan.chronicle.windows.len() as u8 {
-        arm_window(waiting, plan, hooks[k as usize], instance, k, handle, h)?;
+    for k in 0..chart.windows() {
+        arm_window(waiting, chart, instance, k, handle, h)?;
     }
     Ok(())
 }
@@ -171,27 +138,21 @@ pub(crate) fn arm_windows(
 /// `since`, where an instance stands there.
 fn link_place(
     waiting: &mut Index,
-    plan: &Plan,
-    focus: bool,
-    hooks: &[Hook],
+    chart: &Chart<'_>,
     slots: &Slots,
     place: u32,
     since: u64,
     h: u64,
 ) -> Result<(), AllocError>
-    requires proper { IsProper plan.now }
-    requires of { (i : _) → slot_at slots.now place ≡ Some i → IsOf plan.now i }
-    requires hooks { length hooks.now ≡ length plan.now.chronicle.events }
+    requires of { (i : _) → slot_at slots.now place ≡ Some i → IsOf chart.now.plan i }
     ensures grown { Grows waiting.old waiting.new }
-    ensures linked { OnOk result ((i : _) → slot_at slots.now place ≡ Some i → IsLinkedAnew plan.now focus hooks.now waiting.new (handle_at slots.now place) (Some since) h i) }
+    ensures linked { OnOk result ((i : _) → slot_at slots.now place ≡ Some i → IsLinkedAnew chart.now.plan chart.now.focus chart.now.hooks.events.items waiting.new (handle_at slots.now place) (Some since) h i) }
 {
     match slots.get(place) {
         None => Ok(()),
         Some(instance) => link_events(
             waiting,
-            plan,
-            focus,
-            hooks,
+            chart,
             instance,
             slots.handle(place),
             Some(since),
@@ -204,22 +165,18 @@ fn link_place(
 /// `h` and couldn't by `since`. After a refusal they may wait for some of them.
 pub(crate) fn link_places(
     waiting: &mut Index,
-    plan: &Plan,
-    focus: bool,
-    hooks: &[Hook],
+    chart: &Chart<'_>,
     slots: &Slots,
     places: &[u32],
     since: u64,
     h: u64,
 ) -> Result<(), AllocError>
-    requires proper { IsProper plan.now }
-    requires of { (p : _) (i : _) → slot_at slots.now p ≡ Some i → IsOf plan.now i }
-    requires hooks { length hooks.now ≡ length plan.now.chronicle.events }
+    requires of { (p : _) (i : _) → slot_at slots.now p ≡ Some i → IsOf chart.now.plan i }
     ensures grown { Grows waiting.old waiting.new }
-    ensures linked { OnOk result (AreLinkedAnew plan.now focus hooks.now slots.now waiting.new since h places.now) }
+    ensures linked { OnOk result (AreLinkedAnew chart.now.plan chart.now.focus chart.now.hooks.events.items slots.now waiting.new since h places.now) }
 {
     for place in places {
-        link_place(waiting, plan, focus, hooks, slots, *place, since, h)?;
+        link_place(waiting, chart, slots, *place, since, h)?;
     }
     Ok(())
 }

@@ -1,26 +1,14 @@
-use Rattle.std.proofs.Common.{rules, ◌≡◌, ℕ, List, length, ap, subst, ◌∙◌}
+use Rattle.std.proofs.Common.{rules, ◌≡◌, ℕ, subst}
 use Rattle.std.specs.Prelude.{Some, None}
-use Rattle.std.proofs.lemmas.List.{length-map}
 use Rattle.crs_agenda.specs.declared.timed.Handle.{Handle}
-use Rattle.crs_model.specs.Plans.{chronicle}
-use Rattle.crs_model.specs.SeenModels.{event_of, window_of}
-use Rattle.crs_store.specs.declared.hooks.Hook.{Hook}
-use Rattle.crs_store.specs.Hooks.{IsHookOfEvent, IsHookOfWindow}
 use Rattle.crs_store.specs.Links.{IsLinkedAnew, IsArmed}
 use Rattle.crs_store.specs.Dues.{AreDue}
 use Rattle.crs_store.specs.Slots.{slot_at, handle_at}
-use Rattle.crs_store.proofs.Hooking.{zip_long}
 use Rattle.crs_store.proofs.Registering.{registered}
 use Rattle.crs_store.proofs.holding.register.Goals as goal
 
-pub link_events-requires-clause-of : goal.link_events-requires-clause-of
-link_events-requires-clause-of c = c.requires.of c.in-Some.instance.now (search rules)
-
-pub link_events-requires-clause-hooks : goal.link_events-requires-clause-hooks
-link_events-requires-clause-hooks c = ap length c.as_slice-events.ensures.value ∙ zip_long IsHookOfEvent (chronicle c.args.plan.now).events c.args.hooks.now.events.items c.requires.hooks.of_events ∙ length-map c.args.plan.now.chronicle.events event_of
-
-pub arm_windows-requires-clause-hooks : goal.arm_windows-requires-clause-hooks
-arm_windows-requires-clause-hooks c = ap length c.as_slice-windows.ensures.value ∙ zip_long IsHookOfWindow (chronicle c.args.plan.now).windows c.args.hooks.now.windows.items c.requires.hooks.of_windows ∙ length-map c.args.plan.now.chronicle.windows window_of
+pub link_events-requires : goal.link_events-requires
+link_events-requires c = record { of = c.requires.of c.in-Some.instance.now (search rules) }
 
 pub put_dues-requires-clause-of : goal.put_dues-requires-clause-of
 put_dues-requires-clause-of c = c.requires.of c.in-Some.instance.now (search rules)
@@ -30,6 +18,6 @@ returns c =
     let is : slot_at c.args.holding.now.slots c.args.place ≡ Some c.in-Some.instance.now = search rules in
     let handle : c.handle-handle.result ≡ handle_at c.args.holding.now.slots c.args.place = c.handle-handle.ensures in
     registered c.args.plan.now c.args.focus c.args.hooks.now c.args.h c.args.place c.args.holding.now c.link_events.new.waiting c.arm_windows.new.waiting c.put_dues.new.calendar c.in-Some.instance.now is c.link_events.ensures.grown c.arm_windows.ensures.grown c.put_dues.ensures.kept c.put_dues.ensures.stood
-    (subst (λ (n : ℕ). IsLinkedAnew c.args.plan.now c.args.focus c.args.hooks.now.events.items c.link_events.new.waiting (handle_at c.args.holding.now.slots c.args.place) None n c.in-Some.instance.now) c.linked_by.ensures (subst (λ (g : Handle). IsLinkedAnew c.args.plan.now c.args.focus c.args.hooks.now.events.items c.link_events.new.waiting g None c.linked_by.result c.in-Some.instance.now) handle (subst (λ (hs : List Hook). IsLinkedAnew c.args.plan.now c.args.focus hs c.link_events.new.waiting c.handle-handle.result None c.linked_by.result c.in-Some.instance.now) c.as_slice-events.ensures.value ((c.in_ok-link_events.ensures {u = tt}).linked))))
-    (subst (λ (g : Handle). IsArmed c.args.plan.now c.args.hooks.now.windows.items c.arm_windows.new.waiting g c.args.h c.in-Some.instance.now) handle (subst (λ (hs : List Hook). IsArmed c.args.plan.now hs c.arm_windows.new.waiting c.handle-handle.result c.args.h c.in-Some.instance.now) c.as_slice-windows.ensures.value ((c.in_ok-arm_windows.ensures {u = tt}).armed)))
+    (subst (λ (n : ℕ). IsLinkedAnew c.args.plan.now c.args.focus c.args.hooks.now.events.items c.link_events.new.waiting (handle_at c.args.holding.now.slots c.args.place) None n c.in-Some.instance.now) c.linked_by.ensures (subst (λ (g : Handle). IsLinkedAnew c.args.plan.now c.args.focus c.args.hooks.now.events.items c.link_events.new.waiting g None c.linked_by.result c.in-Some.instance.now) handle ((c.in_ok-link_events.ensures {u = tt}).linked)))
+    (subst (λ (g : Handle). IsArmed c.args.plan.now c.args.hooks.now.windows.items c.arm_windows.new.waiting g c.args.h c.in-Some.instance.now) handle ((c.in_ok-arm_windows.ensures {u = tt}).armed))
     (subst (λ (g : Handle). AreDue c.args.plan.now c.args.focus c.in-Some.instance.now g c.args.h c.put_dues.new.calendar.pairs) handle ((c.in_ok-put_dues.ensures {u = tt}).put))

@@ -6,4 +6,4 @@ returns-in_err-link_event-clause-grown c = λ k h w. c.link_event.ensures.grown 
 
 pub loop-event-preserved : goal.loop-event-preserved
 loop-event-preserved c =
-    linked_next c.args.plan.now c.args.focus c.args.hooks.now c.args.handle c.args.since c.args.h c.args.instance.now c.loop-event.event c.args.waiting.now c.loop-event.waiting c.link_event.new.waiting c.loop-event.invariant c.link_event.ensures.grown ((c.in_ok-link_event.ensures {u = tt}).linked)
+    linked_next c.args.chart.now.plan c.args.chart.now.focus c.args.chart.now.hooks.events.items c.args.handle c.args.since c.args.h c.args.instance.now c.loop-event.event c.args.waiting.now c.loop-event.waiting c.link_event.new.waiting c.loop-event.invariant c.link_event.ensures.grown ((c.in_ok-link_event.ensures {u = tt}).linked)

@@ -5,4 +5,4 @@ use Rattle.crs_store.proofs.Walked.{IsEachBut}
 use Rattle.crs_store.proofs.linking.link_places.Given as goal
 
 abbrev pub invariant-loop-place : goal.invariant-loop-place
-invariant-loop-place l = IsEachBut (IsPlaceLinked l.plan l.focus l.hooks l.slots l.waiting l.since l.h) l.places (drop l.place-index l.places) × Grows l.fn.waiting l.waiting
+invariant-loop-place l = IsEachBut (IsPlaceLinked l.chart.plan l.chart.focus l.chart.hooks.events.items l.slots l.waiting l.since l.h) l.places (drop l.place-index l.places) × Grows l.fn.waiting l.waiting

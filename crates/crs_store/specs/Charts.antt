@@ -1,0 +1,17 @@
+-- Charts: what hangs on the plan alone.
+use Rattle.std.specs.Prelude.{Bool}
+use Rattle.crs_model.specs.declared.plan.Plan.{Plan}
+use Rattle.crs_model.specs.Plans.{IsProper}
+use Rattle.crs_store.specs.declared.hooks.Hooks.{Hooks}
+use Rattle.crs_store.specs.Hooks.{AreHooks}
+
+-- a chart, as contracts see it
+pub record ChartState : Type 0 where
+  pub plan : Plan
+  pub hooks : Hooks
+  pub focus : Bool
+
+-- the plan is proper, and the hooks are its own
+pub record IsChart (c : ChartState) : Type 0 where
+  pub proper : IsProper c.plan
+  pub hooks : AreHooks c.plan c.hooks.events.items c.hooks.windows.items
