@@ -66,6 +66,13 @@ impl<'a> Chart<'a> {
         if self.plan.chronicle.prompt { END } else { h }
     }
 
+    /// What the windows look for.
+    pub(crate) fn window_hooks(&self) -> &'a [Hook]
+        ensures { result.now ≡ self.now.hooks.windows.items }
+    {
+        self.hooks.windows.as_slice()
+    }
+
     /// What an event looks for.
     pub(crate) fn event_hook(&self, event: u8) -> Hook
         requires { event < length self.now.plan.chronicle.events }

@@ -3,9 +3,8 @@ ghost use Rattle.std.specs.Prelude.{◌≡◌, ◌≤◌, ◌<◌, ◌^◌, [], 
 ghost use Rattle.std.specs.List.{AllByRecursion};
 ghost use Rattle.crs_base.specs.Seen.{entry_of};
 ghost use Rattle.crs_instance.specs.Instances.{IsOf};
-ghost use Rattle.crs_model.specs.Plans.{IsProper};
 ghost use Rattle.crs_store.specs.Ahead.{MayGo};
-ghost use Rattle.crs_store.specs.Hooks.{AreHooks, KeepsFresh};
+ghost use Rattle.crs_store.specs.Hooks.{KeepsFresh};
 ghost use Rattle.crs_store.specs.Dues.{KeepsFreshPairs};
 ghost use Rattle.crs_store.specs.Joins.{ComesTo, ComesOrGoes, JoinsSome, Renews};
 ghost use Rattle.crs_store.specs.Slots.{members, slot_at};
@@ -15,7 +14,6 @@ ghost use Rattle.crs_store.specs.Windows.{IsAble, IsFollowed, IsPassed};
 
 use crate::chart::Chart;
 use crate::dues::{collect_due, put_dues};
-use crate::hooks::Hooks;
 use crate::hope::is_hopeful;
 use crate::linking::{arm_windows, link_events, link_places};
 use crate::links::note_touched;
@@ -28,7 +26,6 @@ use crs_base::Entry;
 use crs_history::History;
 use crs_index::Index;
 use crs_instance::Instance;
-use crs_model::Plan;
 use std::alloc::{AllocError, Global};
 use std::rc::Rc;
 
@@ -93,64 +90,50 @@ fn sweep(holding: &mut Holding)
 }
 
 /// Has what stands in the place be found again, from the date `h` on.
-fn register(
-    holding: &mut Holding,
-    plan: &Plan,
-    focus: bool,
-    hooks: &Hooks,
-    place: u32,
-    h: u64,
-) -> Result<(), AllocError>
-    requires proper { IsProper plan.now }
-    requires hooks { AreHooks plan.now hooks.now.events.items hooks.now.windows.items }
-    requires of { (i : _) → slot_at holding.old.slots place ≡ Some i → IsOf plan.now i }
+fn register(holding: &mut Holding, chart: &Chart<'_>, place: u32, h: u64) -> Result<(), AllocError>
+    requires of { (i : _) → slot_at holding.old.slots place ≡ Some i → IsOf chart.now.plan i }
     requires stood { holding.old.dues.date ≤ h }
     requires small { h ≤ 2 ^ 42 }
-    ensures { OnOk result (Registers plan.now focus hooks.now h place holding.old holding.new) }
+    ensures { OnOk result (Registers chart.now.plan chart.now.focus chart.now.hooks h place holding.old holding.new) }
 {
     let Some(instance) = holding.slots.get(place) else {
         return Ok(());
     };
     let handle = holding.slots.handle(place);
-    let chart = Chart { plan, hooks, focus };
     link_events(
         &mut holding.waiting,
-        &chart,
+        chart,
         instance,
         handle,
         None,
         chart.linked_by(h),
     )?;
-    arm_windows(&mut holding.waiting, &chart, instance, handle, h)?;
-    put_dues(&mut holding.dues, &chart, instance, handle, h)?;
+    arm_windows(&mut holding.waiting, chart, instance, handle, h)?;
+    put_dues(&mut holding.dues, chart, instance, handle, h)?;
     Ok(())
 }
 
 /// Adds an instance, which was judged at `h`.
 pub(crate) fn hold(
     holding: &mut Holding,
-    plan: &Plan,
-    focus: bool,
-    hooks: &Hooks,
+    chart: &Chart<'_>,
     instance: Instance,
     h: u64,
 ) -> Result<(), AllocError>
-    requires proper { IsProper plan.now }
-    requires hooks { AreHooks plan.now hooks.now.events.items hooks.now.windows.items }
-    requires of { IsOf plan.now instance }
-    requires able { IsAble plan.now focus h instance }
-    requires tidy { IsTidyHolding plan.now focus hooks.now holding.old h }
+    requires of { IsOf chart.now.plan instance }
+    requires able { IsAble chart.now.plan chart.now.focus h instance }
+    requires tidy { IsTidyHolding chart.now.plan chart.now.focus chart.now.hooks holding.old h }
     requires small { h ≤ 2 ^ 42 }
-    ensures tidy { OnOk result (IsTidyHolding plan.now focus hooks.now holding.new h) }
+    ensures tidy { OnOk result (IsTidyHolding chart.now.plan chart.now.focus chart.now.hooks holding.new h) }
     ensures comes { OnOk result (ComesTo instance (members holding.old.slots.slots) (members holding.new.slots.slots)) }
 {
-    let done = is_done(plan, &instance, h);
+    let done = is_done(chart.plan(), &instance, h);
     let place = holding.slots.put(instance)?;
     if done {
         holding.ripe.push(place)?;
         return Ok(());
     }
-    register(holding, plan, focus, hooks, place, h)?;
+    register(holding, chart, place, h)?;
     Ok(())
 }
 
@@ -158,28 +141,24 @@ pub(crate) fn hold(
 /// it no hope.
 fn hold_hopeful(
     holding: &mut Holding,
-    plan: &Plan,
-    focus: bool,
-    hooks: &Hooks,
+    chart: &Chart<'_>,
     instance: Instance,
     ahead: &[Rc<Entry>],
     beyond: u64,
     h: u64,
 ) -> Result<(), AllocError>
-    requires proper { IsProper plan.now }
-    requires hooks { AreHooks plan.now hooks.now.events.items hooks.now.windows.items }
-    requires of { IsOf plan.now instance }
-    requires able { IsAble plan.now focus h instance }
-    requires tidy { IsTidyHolding plan.now focus hooks.now holding.old h }
+    requires of { IsOf chart.now.plan instance }
+    requires able { IsAble chart.now.plan chart.now.focus h instance }
+    requires tidy { IsTidyHolding chart.now.plan chart.now.focus chart.now.hooks holding.old h }
     requires near { beyond ≤ 2 ^ 42 }
     requires small { h ≤ 2 ^ 42 }
-    ensures tidy { OnOk result (IsTidyHolding plan.now focus hooks.now holding.new h) }
-    ensures comes { OnOk result (ComesOrGoes (MayGo plan.now focus (map (λ r. entry_of r.value) ahead.now) beyond) instance (members holding.old.slots.slots) (members holding.new.slots.slots)) }
+    ensures tidy { OnOk result (IsTidyHolding chart.now.plan chart.now.focus chart.now.hooks holding.new h) }
+    ensures comes { OnOk result (ComesOrGoes (MayGo chart.now.plan chart.now.focus (map (λ r. entry_of r.value) ahead.now) beyond) instance (members holding.old.slots.slots) (members holding.new.slots.slots)) }
 {
-    if !focus && !is_hopeful(plan, &instance, ahead, beyond) {
+    if !chart.focus() && !is_hopeful(chart.plan(), &instance, ahead, beyond) {
         return Ok(());
     }
-    hold(holding, plan, focus, hooks, instance, h)
+    hold(holding, chart, instance, h)
 }
 
 /// Adds the instances, which were judged at `h`, but for those that the entries ahead leave no hope
@@ -187,26 +166,22 @@ fn hold_hopeful(
 #[inline(always)]
 pub(crate) fn hold_all(
     holding: &mut Holding,
-    plan: &Plan,
-    focus: bool,
-    hooks: &Hooks,
+    chart: &Chart<'_>,
     born: &mut Vec<Instance>,
     ahead: &[Rc<Entry>],
     beyond: u64,
     h: u64,
 ) -> Result<(), AllocError>
-    requires proper { IsProper plan.now }
-    requires hooks { AreHooks plan.now hooks.now.events.items hooks.now.windows.items }
-    requires of { AllOf plan.now born.old.items }
-    requires able { AllByRecursion (IsAble plan.now focus h) born.old.items }
-    requires tidy { IsTidyHolding plan.now focus hooks.now holding.old h }
+    requires of { AllOf chart.now.plan born.old.items }
+    requires able { AllByRecursion (IsAble chart.now.plan chart.now.focus h) born.old.items }
+    requires tidy { IsTidyHolding chart.now.plan chart.now.focus chart.now.hooks holding.old h }
     requires near { beyond ≤ 2 ^ 42 }
     requires small { h ≤ 2 ^ 42 }
-    ensures tidy { OnOk result (IsTidyHolding plan.now focus hooks.now holding.new h) }
-    ensures joins { OnOk result (JoinsSome (MayGo plan.now focus (map (λ r. entry_of r.value) ahead.now) beyond) (members holding.old.slots.slots) born.old.items (members holding.new.slots.slots)) }
+    ensures tidy { OnOk result (IsTidyHolding chart.now.plan chart.now.focus chart.now.hooks holding.new h) }
+    ensures joins { OnOk result (JoinsSome (MayGo chart.now.plan chart.now.focus (map (λ r. entry_of r.value) ahead.now) beyond) (members holding.old.slots.slots) born.old.items (members holding.new.slots.slots)) }
 {
     while let Some(instance) = born.pop() {
-        hold_hopeful(holding, plan, focus, hooks, instance, ahead, beyond, h)?;
+        hold_hopeful(holding, chart, instance, ahead, beyond, h)?;
     }
     Ok(())
 }
@@ -215,29 +190,24 @@ pub(crate) fn hold_all(
 /// by then and couldn't by `since`, and what is done.
 fn settle_places(
     holding: &mut Holding,
-    plan: &Plan,
-    focus: bool,
-    hooks: &Hooks,
+    chart: &Chart<'_>,
     places: &[u32],
     since: u64,
     h: u64,
 ) -> Result<(), AllocError>
-    requires proper { IsProper plan.now }
-    requires hooks { AreHooks plan.now hooks.now.events.items hooks.now.windows.items }
-    requires of { (p : _) (i : _) → slot_at holding.old.slots p ≡ Some i → IsOf plan.now i }
+    requires of { (p : _) (i : _) → slot_at holding.old.slots p ≡ Some i → IsOf chart.now.plan i }
     requires small { h ≤ 2 ^ 42 }
-    ensures { OnOk result (SettlesPlaces plan.now focus hooks.now places.now since h holding.old holding.new) }
+    ensures { OnOk result (SettlesPlaces chart.now.plan chart.now.focus chart.now.hooks places.now since h holding.old holding.new) }
 {
-    let chart = Chart { plan, hooks, focus };
     link_places(
         &mut holding.waiting,
-        &chart,
+        chart,
         &holding.slots,
         places,
         chart.linked_by(since),
         chart.linked_by(h),
     )?;
-    note_ripe(plan, &holding.slots, places, h, &mut holding.ripe)?;
+    note_ripe(chart.plan(), &holding.slots, places, h, &mut holding.ripe)?;
     Ok(())
 }
 
@@ -246,26 +216,23 @@ fn settle_places(
 #[inline(always)]
 pub(crate) fn follow(
     holding: &mut Holding,
-    plan: &Plan,
-    focus: bool,
-    hooks: &Hooks,
+    chart: &Chart<'_>,
     history: &History,
     entry: &Entry,
     since: u64,
     places: &mut Vec<u32>,
 ) -> Result<(), AllocError>
-    requires proper { IsProper plan.now }
-    requires hooks { AreHooks plan.now hooks.now.events.items hooks.now.windows.items }
-    requires tidy { IsTidyHolding plan.now focus hooks.now holding.old since }
+    requires tidy { IsTidyHolding chart.now.plan chart.now.focus chart.now.hooks holding.old since }
     requires later { since ≤ entry.now.date }
     requires date { entry.now.date < 2 ^ 40 }
-    ensures tidy { OnOk result (IsTidyHolding plan.now focus hooks.now holding.new entry.now.date) }
-    ensures renews { OnOk result (Renews (IsFollowed plan.now history.now (entry_of entry.now) since) (IsAble plan.now focus entry.now.date) (members holding.old.slots.slots) (members holding.new.slots.slots)) }
+    ensures tidy { OnOk result (IsTidyHolding chart.now.plan chart.now.focus chart.now.hooks holding.new entry.now.date) }
+    ensures renews { OnOk result (Renews (IsFollowed chart.now.plan history.now (entry_of entry.now) since) (IsAble chart.now.plan chart.now.focus entry.now.date) (members holding.old.slots.slots) (members holding.new.slots.slots)) }
 {
+    let plan = chart.plan();
     sweep(holding);
     places.clear();
     collect_due(&mut holding.dues, entry.date, places)?;
-    let windows = hooks.windows.as_slice();
+    let windows = chart.window_hooks();
     note_touched(&mut holding.waiting, &holding.slots, windows, entry, places)?;
     if places.is_empty() {
         return Ok(());
@@ -274,14 +241,14 @@ pub(crate) fn follow(
     let places = places.as_slice();
     follow_places(
         plan,
-        focus,
+        chart.focus(),
         &mut holding.slots,
         places,
         entry,
         history,
         since,
     );
-    settle_places(holding, plan, focus, hooks, places, since, entry.date)?;
+    settle_places(holding, chart, places, since, entry.date)?;
     Ok(())
 }
 
@@ -289,22 +256,19 @@ pub(crate) fn follow(
 /// recognised any more goes.
 pub(crate) fn pass(
     holding: &mut Holding,
-    plan: &Plan,
-    focus: bool,
-    hooks: &Hooks,
+    chart: &Chart<'_>,
     history: &History,
     since: u64,
     h: u64,
     places: &mut Vec<u32>,
 ) -> Result<(), AllocError>
-    requires proper { IsProper plan.now }
-    requires hooks { AreHooks plan.now hooks.now.events.items hooks.now.windows.items }
-    requires tidy { IsTidyHolding plan.now focus hooks.now holding.old since }
+    requires tidy { IsTidyHolding chart.now.plan chart.now.focus chart.now.hooks holding.old since }
     requires later { since ≤ h }
     requires small { h ≤ 2 ^ 42 }
-    ensures tidy { OnOk result (IsTidyHolding plan.now focus hooks.now holding.new h) }
-    ensures renews { OnOk result (Renews (IsPassed plan.now history.now since h) (IsAble plan.now focus h) (members holding.old.slots.slots) (members holding.new.slots.slots)) }
+    ensures tidy { OnOk result (IsTidyHolding chart.now.plan chart.now.focus chart.now.hooks holding.new h) }
+    ensures renews { OnOk result (Renews (IsPassed chart.now.plan history.now since h) (IsAble chart.now.plan chart.now.focus h) (members holding.old.slots.slots) (members holding.new.slots.slots)) }
 {
+    let plan = chart.plan();
     sweep(holding);
     places.clear();
     collect_due(&mut holding.dues, h, places)?;
@@ -313,7 +277,15 @@ pub(crate) fn pass(
     }
     sort_places(places);
     let places = places.as_slice();
-    pass_places(plan, focus, &mut holding.slots, places, history, since, h);
-    settle_places(holding, plan, focus, hooks, places, since, h)?;
+    pass_places(
+        plan,
+        chart.focus(),
+        &mut holding.slots,
+        places,
+        history,
+        since,
+        h,
+    );
+    settle_places(holding, chart, places, since, h)?;
     Ok(())
 }

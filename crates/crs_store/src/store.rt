@@ -14,6 +14,7 @@ ghost use Rattle.crs_store.specs.Tidy.{IsTidyHolding};
 ghost use Rattle.crs_store.specs.declared.refused.StoreRefused.TheVariants.{Stopped, Memory};
 
 use crate::candidates::forks;
+use crate::chart::Chart;
 use crate::holding::{Holding, follow, hold, hold_all, no_holding, pass};
 use crate::hooks::Hooks;
 use crate::order::put_in_order;
@@ -90,7 +91,8 @@ fn take_in<L: Ledger>(
     ensures taken { OnOk result (TakesInSome plan.now focus history.now (entry_of entry.now.value) until since (map (λ r. entry_of r.value) ahead.now) beyond (members holding.old.slots.slots) (members holding.new.slots.slots)) }
     ensures cost { focus ≡ false → steps.new ≤ steps.old + 2 * length plan.now.chronicle.events * length (members holding.old.slots.slots) }
 {
-    follow(holding, plan, focus, hooks, history, entry, since, places)?;
+    let chart = Chart { plan, hooks, focus };
+    follow(holding, &chart, history, entry, since, places)?;
     forks(
         alloc,
         plan,
@@ -106,10 +108,8 @@ fn take_in<L: Ledger>(
         places,
         born,
     )?;
-    pass(
-        holding, plan, focus, hooks, history, entry.date, until, places,
-    )?;
-    hold_all(holding, plan, focus, hooks, born, ahead, beyond, until)?;
+    pass(holding, &chart, history, entry.date, until, places)?;
+    hold_all(holding, &chart, born, ahead, beyond, until)?;
     Ok(())
 }
 
@@ -154,7 +154,8 @@ fn take_prompt<L: Ledger>(
         places,
         born,
     )?;
-    hold_all(holding, plan, focus, hooks, born, &[], 0, g)?;
+    let chart = Chart { plan, hooks, focus };
+    hold_all(holding, &chart, born, &[], 0, g)?;
     Ok(())
 }
 
@@ -180,7 +181,8 @@ fn move_on(
     ensures tidy { IfOk result (λ _. IsTidyHolding plan.now focus hooks.now holding.new h) }
     ensures moved { IfOk result (MovesOn plan.now focus history.now since h number mark (members holding.old.slots.slots) (members holding.new.slots.slots)) }
 {
-    pass(holding, plan, focus, hooks, history, since, h, places)?;
+    let chart = Chart { plan, hooks, focus };
+    pass(holding, &chart, history, since, h, places)?;
     let mut found = take_ripe(
         alloc,
         plan,
@@ -208,7 +210,8 @@ fn first_holding(
 {
     let mut holding = no_holding(alloc);
     let root = Instance::root(alloc, plan)?;
-    hold(&mut holding, plan, focus, hooks, root, 0)?;
+    let chart = Chart { plan, hooks, focus };
+    hold(&mut holding, &chart, root, 0)?;
     Ok(holding)
 }
 
@@ -414,11 +417,14 @@ impl Store {
         if entry.date < self.date {
             return Ok(());
         }
+        let chart = Chart {
+            plan: &self.plan,
+            hooks: &self.hooks,
+            focus: self.focus,
+        };
         match follow(
             &mut self.holding,
-            &self.plan,
-            self.focus,
-            &self.hooks,
+            &chart,
             history,
             entry,
             self.date,

@@ -2,7 +2,11 @@ use Rattle.std.proofs.Common.{rules, vec_len, ◌∙◌, arith, ◌≡◌, List,
 use Rattle.std.proofs.lemmas.Bool.{eqb-true}
 use Rattle.std.proofs.lemmas.List.{nil_from_length}
 use Rattle.crs_base.specs.Seen.{entry_of}
+use Rattle.std.specs.Prelude.{Bool}
 use Rattle.crs_base.specs.Words.{IsIn}
+use Rattle.crs_instance.specs.Instances.{IsOf}
+use Rattle.crs_model.specs.declared.plan.Plan.{Plan}
+use Rattle.crs_store.specs.PlaceWalks.{Walks}
 use Rattle.crs_store.specs.Links.{HasTouched}
 use Rattle.crs_store.proofs.Renewing.{fresh_place}
 use Rattle.crs_store.proofs.Touching.{untouched}
@@ -15,54 +19,54 @@ use Rattle.crs_store.proofs.Held.{settles_none, walks_none, few_windows, walked_
 use Rattle.crs_store.proofs.holding.follow.Goals as goal
 
 pub collect_due-requires : goal.collect_due-requires
-collect_due-requires c = let t = (c.sweep.ensures.tidy c.args.plan.now c.args.focus c.args.hooks.now c.args.since c.requires.tidy).stood in let l = c.requires.later in omega arith
+collect_due-requires c = let t = (c.sweep.ensures.tidy c.args.chart.now.plan c.args.chart.now.focus c.args.chart.now.hooks c.args.since c.requires.tidy).stood in let l = c.requires.later in omega arith
 
 pub note_touched-requires : goal.note_touched-requires
-note_touched-requires c = few_windows c.args.plan.now c.requires.proper c.args.hooks.now.windows.items c.as_slice-windows.result.now c.as_slice-windows.ensures.value c.requires.hooks.of_windows
+note_touched-requires c = few_windows c.args.chart.now.plan c.plan-plan.ensures.is.proper c.args.chart.now.hooks.windows.items c.window_hooks-windows.result.now c.window_hooks-windows.ensures c.plan-plan.ensures.is.hooks.of_windows
 
 pub follow_places-requires-clause-of : goal.follow_places-requires-clause-of
-follow_places-requires-clause-of c = λ p i is. ((c.sweep.ensures.tidy c.args.plan.now c.args.focus c.args.hooks.now c.args.since c.requires.tidy).known p i is).of
+follow_places-requires-clause-of c = λ p i is. subst (λ (q : Plan). IsOf q i) (sym c.plan-plan.ensures.same) ((c.sweep.ensures.tidy c.args.chart.now.plan c.args.chart.now.focus c.args.chart.now.hooks c.args.since c.requires.tidy).known p i is).of
 
 pub settle_places-requires-clause-of : goal.settle_places-requires-clause-of
 settle_places-requires-clause-of c =
-    let tidy = c.sweep.ensures.tidy c.args.plan.now c.args.focus c.args.hooks.now c.args.since c.requires.tidy in
-    walked_of c.args.plan.now (IsFollowed c.args.plan.now c.args.history.now (entry_of c.args.entry.now) c.args.since) (IsAble c.args.plan.now c.args.focus c.args.entry.now.date) (λ i j r. r.same) c.as_slice-places.result.now c.sweep.new.holding.slots c.follow_places.new.slots c.follow_places.ensures (λ p i is. (tidy.known p i is).of)
+    let tidy = c.sweep.ensures.tidy c.args.chart.now.plan c.args.chart.now.focus c.args.chart.now.hooks c.args.since c.requires.tidy in
+    walked_of c.args.chart.now.plan (IsFollowed c.args.chart.now.plan c.args.history.now (entry_of c.args.entry.now) c.args.since) (IsAble c.args.chart.now.plan c.args.chart.now.focus c.args.entry.now.date) (λ i j r. r.same) c.as_slice-places.result.now c.sweep.new.holding.slots c.follow_places.new.slots (subst (λ (p : Plan). Walks (IsFollowed p c.args.history.now (entry_of c.args.entry.now) c.args.since) (IsAble p c.args.chart.now.focus c.args.entry.now.date) c.as_slice-places.result.now c.sweep.new.holding.slots c.follow_places.new.slots) c.plan-plan.ensures.same (subst (λ (f : Bool). Walks (IsFollowed c.plan-plan.result.now c.args.history.now (entry_of c.args.entry.now) c.args.since) (IsAble c.plan-plan.result.now f c.args.entry.now.date) c.as_slice-places.result.now c.sweep.new.holding.slots c.follow_places.new.slots) c.focus.ensures c.follow_places.ensures)) (λ p i is. (tidy.known p i is).of)
 
 pub returns-clause-tidy : goal.returns-clause-tidy
 returns-clause-tidy c =
-    let tidy = c.sweep.ensures.tidy c.args.plan.now c.args.focus c.args.hooks.now c.args.since c.requires.tidy in
-    all_tidy c.args.plan.now c.args.focus c.requires.proper c.args.hooks.now c.args.since c.args.entry.now.date c.requires.later (let l = c.requires.date in omega arith) c.sweep.new.holding c.sweep.ensures.len tidy c.collect_due.new.calendar c.note_touched.new.waiting c.note_touched.ensures.fresh c.collect_due.new.places.items c.as_slice-places.result.now
-    ((c.in_ok-collect_due.ensures {u = tt}).collected) (λ p i. subst (λ (ps : List ℕ). IsIn p ps) (sym c.as_slice-places.ensures.value) (c.sort_places.ensures.kept p (c.note_touched.ensures.kept p i))) ((c.in_ok-collect_due.ensures {u = tt}).later) c.collect_due.ensures.within c.follow_places.new.slots c.settle_places.new.holding (c.in_ok-settle_places.ensures {u = tt}) (IsFollowed c.args.plan.now c.args.history.now (entry_of c.args.entry.now) c.args.since) (λ i j r. r.same) c.follow_places.ensures
+    let tidy = c.sweep.ensures.tidy c.args.chart.now.plan c.args.chart.now.focus c.args.chart.now.hooks c.args.since c.requires.tidy in
+    all_tidy c.args.chart.now.plan c.args.chart.now.focus c.plan-plan.ensures.is.proper c.args.chart.now.hooks c.args.since c.args.entry.now.date c.requires.later (let l = c.requires.date in omega arith) c.sweep.new.holding c.sweep.ensures.len tidy c.collect_due.new.calendar c.note_touched.new.waiting c.note_touched.ensures.fresh c.collect_due.new.places.items c.as_slice-places.result.now
+    ((c.in_ok-collect_due.ensures {u = tt}).collected) (λ p i. subst (λ (ps : List ℕ). IsIn p ps) (sym c.as_slice-places.ensures.value) (c.sort_places.ensures.kept p (c.note_touched.ensures.kept p i))) ((c.in_ok-collect_due.ensures {u = tt}).later) c.collect_due.ensures.within c.follow_places.new.slots c.settle_places.new.holding (c.in_ok-settle_places.ensures {u = tt}) (IsFollowed c.args.chart.now.plan c.args.history.now (entry_of c.args.entry.now) c.args.since) (λ i j r. r.same) (subst (λ (p : Plan). Walks (IsFollowed p c.args.history.now (entry_of c.args.entry.now) c.args.since) (IsAble p c.args.chart.now.focus c.args.entry.now.date) c.as_slice-places.result.now c.sweep.new.holding.slots c.follow_places.new.slots) c.plan-plan.ensures.same (subst (λ (f : Bool). Walks (IsFollowed c.plan-plan.result.now c.args.history.now (entry_of c.args.entry.now) c.args.since) (IsAble c.plan-plan.result.now f c.args.entry.now.date) c.as_slice-places.result.now c.sweep.new.holding.slots c.follow_places.new.slots) c.focus.ensures c.follow_places.ensures))
 
 pub returns-clause-renews : goal.returns-clause-renews
 returns-clause-renews c =
-    let tidy = c.sweep.ensures.tidy c.args.plan.now c.args.focus c.args.hooks.now c.args.since c.requires.tidy in
-    subst (λ (s : SlotsState). Renews (IsFollowed c.args.plan.now c.args.history.now (entry_of c.args.entry.now) c.args.since) (IsAble c.args.plan.now c.args.focus c.args.entry.now.date) (members s.slots) (members c.settle_places.new.holding.slots.slots)) c.sweep.ensures.slots
-    (all_renew c.args.plan.now c.args.focus c.requires.proper c.args.hooks.now c.args.since c.args.entry.now.date c.requires.later (let l = c.requires.date in omega arith) c.sweep.new.holding c.sweep.ensures.len tidy c.collect_due.new.calendar c.note_touched.new.waiting c.note_touched.ensures.fresh c.collect_due.new.places.items c.as_slice-places.result.now
-    ((c.in_ok-collect_due.ensures {u = tt}).collected) (λ p i. subst (λ (ps : List ℕ). IsIn p ps) (sym c.as_slice-places.ensures.value) (c.sort_places.ensures.kept p (c.note_touched.ensures.kept p i))) ((c.in_ok-collect_due.ensures {u = tt}).later) c.collect_due.ensures.within c.follow_places.new.slots c.settle_places.new.holding (c.in_ok-settle_places.ensures {u = tt}) (IsFollowed c.args.plan.now c.args.history.now (entry_of c.args.entry.now) c.args.since) (λ i j r. r.same) c.follow_places.ensures
-    (λ p i apart is. stays_followed c.args.plan.now c.args.focus c.args.history.now (entry_of c.args.entry.now) c.args.since c.requires.later i (undue_there c.args.plan.now c.args.focus c.requires.proper c.args.hooks.now c.args.since c.args.entry.now.date c.requires.later (let l = c.requires.date in omega arith) c.sweep.new.holding c.sweep.ensures.len tidy c.collect_due.new.calendar c.note_touched.new.waiting c.note_touched.ensures.fresh c.collect_due.new.places.items c.as_slice-places.result.now ((c.in_ok-collect_due.ensures {u = tt}).collected) (λ p i. subst (λ (ps : List ℕ). IsIn p ps) (sym c.as_slice-places.ensures.value) (c.sort_places.ensures.kept p (c.note_touched.ensures.kept p i))) ((c.in_ok-collect_due.ensures {u = tt}).later) c.collect_due.ensures.within c.follow_places.new.slots c.settle_places.new.holding (c.in_ok-settle_places.ensures {u = tt}) p i apart is)
-    (untouched c.args.plan.now c.args.hooks.now.windows.items c.requires.hooks.of_windows c.sweep.new.holding.slots c.sweep.new.holding.waiting (entry_of c.args.entry.now) c.args.since c.requires.later c.as_slice-places.result.now
-    (subst (λ (hs : List Hook). HasTouched hs c.sweep.new.holding.slots c.sweep.new.holding.waiting (entry_of c.args.entry.now) (length hs) c.as_slice-places.result.now) c.as_slice-windows.ensures.value (λ k l p fresh named w. subst (λ (ps : List ℕ). IsIn p ps) (sym c.as_slice-places.ensures.value) (c.sort_places.ensures.kept p ((c.in_ok-note_touched.ensures {u = tt}).noted k l p fresh named w)))) p (fresh_place c.sweep.new.holding.slots p i c.sweep.ensures.len is) i (tidy.known p i is).armed apart)))
+    let tidy = c.sweep.ensures.tidy c.args.chart.now.plan c.args.chart.now.focus c.args.chart.now.hooks c.args.since c.requires.tidy in
+    subst (λ (s : SlotsState). Renews (IsFollowed c.args.chart.now.plan c.args.history.now (entry_of c.args.entry.now) c.args.since) (IsAble c.args.chart.now.plan c.args.chart.now.focus c.args.entry.now.date) (members s.slots) (members c.settle_places.new.holding.slots.slots)) c.sweep.ensures.slots
+    (all_renew c.args.chart.now.plan c.args.chart.now.focus c.plan-plan.ensures.is.proper c.args.chart.now.hooks c.args.since c.args.entry.now.date c.requires.later (let l = c.requires.date in omega arith) c.sweep.new.holding c.sweep.ensures.len tidy c.collect_due.new.calendar c.note_touched.new.waiting c.note_touched.ensures.fresh c.collect_due.new.places.items c.as_slice-places.result.now
+    ((c.in_ok-collect_due.ensures {u = tt}).collected) (λ p i. subst (λ (ps : List ℕ). IsIn p ps) (sym c.as_slice-places.ensures.value) (c.sort_places.ensures.kept p (c.note_touched.ensures.kept p i))) ((c.in_ok-collect_due.ensures {u = tt}).later) c.collect_due.ensures.within c.follow_places.new.slots c.settle_places.new.holding (c.in_ok-settle_places.ensures {u = tt}) (IsFollowed c.args.chart.now.plan c.args.history.now (entry_of c.args.entry.now) c.args.since) (λ i j r. r.same) (subst (λ (p : Plan). Walks (IsFollowed p c.args.history.now (entry_of c.args.entry.now) c.args.since) (IsAble p c.args.chart.now.focus c.args.entry.now.date) c.as_slice-places.result.now c.sweep.new.holding.slots c.follow_places.new.slots) c.plan-plan.ensures.same (subst (λ (f : Bool). Walks (IsFollowed c.plan-plan.result.now c.args.history.now (entry_of c.args.entry.now) c.args.since) (IsAble c.plan-plan.result.now f c.args.entry.now.date) c.as_slice-places.result.now c.sweep.new.holding.slots c.follow_places.new.slots) c.focus.ensures c.follow_places.ensures))
+    (λ p i apart is. stays_followed c.args.chart.now.plan c.args.chart.now.focus c.args.history.now (entry_of c.args.entry.now) c.args.since c.requires.later i (undue_there c.args.chart.now.plan c.args.chart.now.focus c.plan-plan.ensures.is.proper c.args.chart.now.hooks c.args.since c.args.entry.now.date c.requires.later (let l = c.requires.date in omega arith) c.sweep.new.holding c.sweep.ensures.len tidy c.collect_due.new.calendar c.note_touched.new.waiting c.note_touched.ensures.fresh c.collect_due.new.places.items c.as_slice-places.result.now ((c.in_ok-collect_due.ensures {u = tt}).collected) (λ p i. subst (λ (ps : List ℕ). IsIn p ps) (sym c.as_slice-places.ensures.value) (c.sort_places.ensures.kept p (c.note_touched.ensures.kept p i))) ((c.in_ok-collect_due.ensures {u = tt}).later) c.collect_due.ensures.within c.follow_places.new.slots c.settle_places.new.holding (c.in_ok-settle_places.ensures {u = tt}) p i apart is)
+    (untouched c.args.chart.now.plan c.args.chart.now.hooks.windows.items c.plan-plan.ensures.is.hooks.of_windows c.sweep.new.holding.slots c.sweep.new.holding.waiting (entry_of c.args.entry.now) c.args.since c.requires.later c.as_slice-places.result.now
+    (subst (λ (hs : List Hook). HasTouched hs c.sweep.new.holding.slots c.sweep.new.holding.waiting (entry_of c.args.entry.now) (length hs) c.as_slice-places.result.now) c.window_hooks-windows.ensures (λ k l p fresh named w. subst (λ (ps : List ℕ). IsIn p ps) (sym c.as_slice-places.ensures.value) (c.sort_places.ensures.kept p ((c.in_ok-note_touched.ensures {u = tt}).noted k l p fresh named w)))) p (fresh_place c.sweep.new.holding.slots p i c.sweep.ensures.len is) i (tidy.known p i is).armed apart)))
 
 pub returns-then-is_empty-clause-tidy : goal.returns-then-is_empty-clause-tidy
 returns-then-is_empty-clause-tidy c =
-    let tidy = c.sweep.ensures.tidy c.args.plan.now c.args.focus c.args.hooks.now c.args.since c.requires.tidy in
+    let tidy = c.sweep.ensures.tidy c.args.chart.now.plan c.args.chart.now.focus c.args.chart.now.hooks c.args.since c.requires.tidy in
     let long : length c.note_touched.new.places.items ≡ vec_len c.note_touched.new.places = search rules in
     let none : c.note_touched.new.places.items ≡ [] = nil_from_length c.note_touched.new.places.items (long ∙ eqb-true (vec_len c.note_touched.new.places) 0 (sym c.is_empty.ensures ∙ c.if-is_empty.true)) in
     let held : Holding = record { slots = c.sweep.new.holding.slots; waiting = c.note_touched.new.waiting; dues = c.collect_due.new.calendar; ripe = c.sweep.new.holding.ripe; room = c.sweep.new.holding.room } in
-    all_tidy c.args.plan.now c.args.focus c.requires.proper c.args.hooks.now c.args.since c.args.entry.now.date c.requires.later (let l = c.requires.date in omega arith) c.sweep.new.holding c.sweep.ensures.len tidy c.collect_due.new.calendar c.note_touched.new.waiting c.note_touched.ensures.fresh c.collect_due.new.places.items []
-    ((c.in_ok-collect_due.ensures {u = tt}).collected) (λ p i. subst (λ (ps : List ℕ). IsIn p ps) none (c.note_touched.ensures.kept p i)) ((c.in_ok-collect_due.ensures {u = tt}).later) c.collect_due.ensures.within c.sweep.new.holding.slots held (settles_none c.args.plan.now c.args.focus c.args.hooks.now c.args.since c.args.entry.now.date held) (IsFollowed c.args.plan.now c.args.history.now (entry_of c.args.entry.now) c.args.since) (λ i j r. r.same) (walks_none (IsFollowed c.args.plan.now c.args.history.now (entry_of c.args.entry.now) c.args.since) (IsAble c.args.plan.now c.args.focus c.args.entry.now.date) c.sweep.new.holding.slots)
+    all_tidy c.args.chart.now.plan c.args.chart.now.focus c.plan-plan.ensures.is.proper c.args.chart.now.hooks c.args.since c.args.entry.now.date c.requires.later (let l = c.requires.date in omega arith) c.sweep.new.holding c.sweep.ensures.len tidy c.collect_due.new.calendar c.note_touched.new.waiting c.note_touched.ensures.fresh c.collect_due.new.places.items []
+    ((c.in_ok-collect_due.ensures {u = tt}).collected) (λ p i. subst (λ (ps : List ℕ). IsIn p ps) none (c.note_touched.ensures.kept p i)) ((c.in_ok-collect_due.ensures {u = tt}).later) c.collect_due.ensures.within c.sweep.new.holding.slots held (settles_none c.args.chart.now.plan c.args.chart.now.focus c.args.chart.now.hooks c.args.since c.args.entry.now.date held) (IsFollowed c.args.chart.now.plan c.args.history.now (entry_of c.args.entry.now) c.args.since) (λ i j r. r.same) (walks_none (IsFollowed c.args.chart.now.plan c.args.history.now (entry_of c.args.entry.now) c.args.since) (IsAble c.args.chart.now.plan c.args.chart.now.focus c.args.entry.now.date) c.sweep.new.holding.slots)
 
 pub returns-then-is_empty-clause-renews : goal.returns-then-is_empty-clause-renews
 returns-then-is_empty-clause-renews c =
-    let tidy = c.sweep.ensures.tidy c.args.plan.now c.args.focus c.args.hooks.now c.args.since c.requires.tidy in
+    let tidy = c.sweep.ensures.tidy c.args.chart.now.plan c.args.chart.now.focus c.args.chart.now.hooks c.args.since c.requires.tidy in
     let long : length c.note_touched.new.places.items ≡ vec_len c.note_touched.new.places = search rules in
     let none : c.note_touched.new.places.items ≡ [] = nil_from_length c.note_touched.new.places.items (long ∙ eqb-true (vec_len c.note_touched.new.places) 0 (sym c.is_empty.ensures ∙ c.if-is_empty.true)) in
     let held : Holding = record { slots = c.sweep.new.holding.slots; waiting = c.note_touched.new.waiting; dues = c.collect_due.new.calendar; ripe = c.sweep.new.holding.ripe; room = c.sweep.new.holding.room } in
-    subst (λ (s : SlotsState). Renews (IsFollowed c.args.plan.now c.args.history.now (entry_of c.args.entry.now) c.args.since) (IsAble c.args.plan.now c.args.focus c.args.entry.now.date) (members s.slots) (members c.sweep.new.holding.slots.slots)) c.sweep.ensures.slots
-    (all_renew c.args.plan.now c.args.focus c.requires.proper c.args.hooks.now c.args.since c.args.entry.now.date c.requires.later (let l = c.requires.date in omega arith) c.sweep.new.holding c.sweep.ensures.len tidy c.collect_due.new.calendar c.note_touched.new.waiting c.note_touched.ensures.fresh c.collect_due.new.places.items []
-    ((c.in_ok-collect_due.ensures {u = tt}).collected) (λ p i. subst (λ (ps : List ℕ). IsIn p ps) none (c.note_touched.ensures.kept p i)) ((c.in_ok-collect_due.ensures {u = tt}).later) c.collect_due.ensures.within c.sweep.new.holding.slots held (settles_none c.args.plan.now c.args.focus c.args.hooks.now c.args.since c.args.entry.now.date held) (IsFollowed c.args.plan.now c.args.history.now (entry_of c.args.entry.now) c.args.since) (λ i j r. r.same) (walks_none (IsFollowed c.args.plan.now c.args.history.now (entry_of c.args.entry.now) c.args.since) (IsAble c.args.plan.now c.args.focus c.args.entry.now.date) c.sweep.new.holding.slots)
-    (λ p i apart is. stays_followed c.args.plan.now c.args.focus c.args.history.now (entry_of c.args.entry.now) c.args.since c.requires.later i (undue_there c.args.plan.now c.args.focus c.requires.proper c.args.hooks.now c.args.since c.args.entry.now.date c.requires.later (let l = c.requires.date in omega arith) c.sweep.new.holding c.sweep.ensures.len tidy c.collect_due.new.calendar c.note_touched.new.waiting c.note_touched.ensures.fresh c.collect_due.new.places.items []
-    ((c.in_ok-collect_due.ensures {u = tt}).collected) (λ p i. subst (λ (ps : List ℕ). IsIn p ps) none (c.note_touched.ensures.kept p i)) ((c.in_ok-collect_due.ensures {u = tt}).later) c.collect_due.ensures.within c.sweep.new.holding.slots held (settles_none c.args.plan.now c.args.focus c.args.hooks.now c.args.since c.args.entry.now.date held) p i apart is)
-    (untouched c.args.plan.now c.args.hooks.now.windows.items c.requires.hooks.of_windows c.sweep.new.holding.slots c.sweep.new.holding.waiting (entry_of c.args.entry.now) c.args.since c.requires.later []
-    (subst (λ (hs : List Hook). HasTouched hs c.sweep.new.holding.slots c.sweep.new.holding.waiting (entry_of c.args.entry.now) (length hs) []) c.as_slice-windows.ensures.value (λ k l p fresh named w. subst (λ (ps : List ℕ). IsIn p ps) none ((c.in_ok-note_touched.ensures {u = tt}).noted k l p fresh named w))) p (fresh_place c.sweep.new.holding.slots p i c.sweep.ensures.len is) i (tidy.known p i is).armed apart)))
+    subst (λ (s : SlotsState). Renews (IsFollowed c.args.chart.now.plan c.args.history.now (entry_of c.args.entry.now) c.args.since) (IsAble c.args.chart.now.plan c.args.chart.now.focus c.args.entry.now.date) (members s.slots) (members c.sweep.new.holding.slots.slots)) c.sweep.ensures.slots
+    (all_renew c.args.chart.now.plan c.args.chart.now.focus c.plan-plan.ensures.is.proper c.args.chart.now.hooks c.args.since c.args.entry.now.date c.requires.later (let l = c.requires.date in omega arith) c.sweep.new.holding c.sweep.ensures.len tidy c.collect_due.new.calendar c.note_touched.new.waiting c.note_touched.ensures.fresh c.collect_due.new.places.items []
+    ((c.in_ok-collect_due.ensures {u = tt}).collected) (λ p i. subst (λ (ps : List ℕ). IsIn p ps) none (c.note_touched.ensures.kept p i)) ((c.in_ok-collect_due.ensures {u = tt}).later) c.collect_due.ensures.within c.sweep.new.holding.slots held (settles_none c.args.chart.now.plan c.args.chart.now.focus c.args.chart.now.hooks c.args.since c.args.entry.now.date held) (IsFollowed c.args.chart.now.plan c.args.history.now (entry_of c.args.entry.now) c.args.since) (λ i j r. r.same) (walks_none (IsFollowed c.args.chart.now.plan c.args.history.now (entry_of c.args.entry.now) c.args.since) (IsAble c.args.chart.now.plan c.args.chart.now.focus c.args.entry.now.date) c.sweep.new.holding.slots)
+    (λ p i apart is. stays_followed c.args.chart.now.plan c.args.chart.now.focus c.args.history.now (entry_of c.args.entry.now) c.args.since c.requires.later i (undue_there c.args.chart.now.plan c.args.chart.now.focus c.plan-plan.ensures.is.proper c.args.chart.now.hooks c.args.since c.args.entry.now.date c.requires.later (let l = c.requires.date in omega arith) c.sweep.new.holding c.sweep.ensures.len tidy c.collect_due.new.calendar c.note_touched.new.waiting c.note_touched.ensures.fresh c.collect_due.new.places.items []
+    ((c.in_ok-collect_due.ensures {u = tt}).collected) (λ p i. subst (λ (ps : List ℕ). IsIn p ps) none (c.note_touched.ensures.kept p i)) ((c.in_ok-collect_due.ensures {u = tt}).later) c.collect_due.ensures.within c.sweep.new.holding.slots held (settles_none c.args.chart.now.plan c.args.chart.now.focus c.args.chart.now.hooks c.args.since c.args.entry.now.date held) p i apart is)
+    (untouched c.args.chart.now.plan c.args.chart.now.hooks.windows.items c.plan-plan.ensures.is.hooks.of_windows c.sweep.new.holding.slots c.sweep.new.holding.waiting (entry_of c.args.entry.now) c.args.since c.requires.later []
+    (subst (λ (hs : List Hook). HasTouched hs c.sweep.new.holding.slots c.sweep.new.holding.waiting (entry_of c.args.entry.now) (length hs) []) c.window_hooks-windows.ensures (λ k l p fresh named w. subst (λ (ps : List ℕ). IsIn p ps) none ((c.in_ok-note_touched.ensures {u = tt}).noted k l p fresh named w))) p (fresh_place c.sweep.new.holding.slots p i c.sweep.ensures.len is) i (tidy.known p i is).armed apart)))
