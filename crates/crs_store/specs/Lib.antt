@@ -15,5 +15,6 @@ pub mod Tidy
 pub mod Joins
 pub mod Forkings
 pub mod Scannings
+pub mod Scans
 pub mod PlaceWalks
 pub mod Linkings

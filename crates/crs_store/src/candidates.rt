@@ -19,7 +19,7 @@ ghost use Rattle.crs_store.specs.Windows.{IsAble};
 use crate::hooks::{Hook, key_of_entry, key_of_symbol};
 use crate::levels::is_awaited;
 use crate::places::{note, sort_places};
-use crate::scanning::decide;
+use crate::scanning::{Scan, decide};
 use crate::slots::Slots;
 use crs_base::{Entry, Steps};
 use crs_focus::level_of;
@@ -69,9 +69,17 @@ fn push_forks<L: Ledger>(
     };
     let level = level_of(plan, event, focus);
     let todo = Vec::new(alloc);
-    decide(
-        alloc, plan, focus, instance, next, level, todo, history, entry, since, until, steps, out,
-    )
+    let scan = Scan {
+        alloc,
+        plan,
+        focus,
+        parent: instance,
+        history,
+        entry,
+        since,
+        until,
+    };
+    decide(&scan, next, level, todo, steps, out)
 }
 
 /// Notes the place, if an instance stands there to whose event the date is left.

@@ -17,4 +17,4 @@ abbrev pub decreases-decide_with : goal.decreases-decide_with
 decreases-decide_with g l = 4 * ((256 - l.level) * 17 + length l.rest.now.items) + 2
 
 abbrev pub invariant-decide_at-loop-candidate : goal.invariant-decide_at-loop-candidate
-invariant-decide_at-loop-candidate g l = IsGoneThrough l.plan l.focus l.history (entry_of l.entry) l.since l.until l.parent l.next l.level l.rest.items l.event l.initial.out.items l.initial.candidate-iterator l.candidate-iterator l.out.items
+invariant-decide_at-loop-candidate g l = IsGoneThrough l.scan.plan.now l.scan.focus l.scan.history.now (entry_of l.scan.entry.now) l.scan.since l.scan.until l.scan.parent.now l.next l.level l.rest.items l.event l.initial.out.items l.initial.candidate-iterator l.candidate-iterator l.out.items
