@@ -16,5 +16,6 @@ pub mod Joins
 pub mod Forkings
 pub mod Scannings
 pub mod Scans
+pub mod Moments
 pub mod PlaceWalks
 pub mod Linkings

@@ -5,12 +5,12 @@ ghost use Rattle.std.specs.List.Sorted.{IsStrictlySortedBy};
 ghost use Rattle.std.specs.Ordering.{nat_cmp};
 ghost use Rattle.crs_base.specs.Seen.{entry_of};
 ghost use Rattle.crs_base.specs.Words.{IsIn};
-ghost use Rattle.crs_history.specs.Histories.{EndsWith};
 ghost use Rattle.crs_instance.specs.Instances.{IsOf};
-ghost use Rattle.crs_model.specs.Plans.{chronicle, IsProper};
+ghost use Rattle.crs_model.specs.Plans.{chronicle};
 ghost use Rattle.crs_store.specs.Forkings.{HaveWindow, IsNoted, AreCandidates, KeepsStanding, IsHookAt, AreLinkedAt, AreForksOfPlaces, AreForksOfEvent, AreForksOfAll};
 ghost use Rattle.crs_store.specs.Hooks.{IsHookOfEvent, KeepsFresh, key_with, picked_argument};
 ghost use Rattle.crs_store.specs.Links.{AreLinked};
+ghost use Rattle.crs_store.specs.Moments.{IsArrival};
 ghost use Rattle.crs_store.specs.Slots.{members};
 ghost use Rattle.crs_store.specs.Stores.{AllOf};
 ghost use Rattle.crs_store.specs.Scannings.{Adds, AreForksAt};
@@ -18,17 +18,15 @@ ghost use Rattle.crs_store.specs.Windows.{IsAble};
 
 use crate::hooks::{Hook, key_of_entry, key_of_symbol};
 use crate::levels::is_awaited;
+use crate::moment::Arrival;
 use crate::places::{note, sort_places};
 use crate::scanning::{Scan, decide};
 use crate::slots::Slots;
 use crs_base::{Entry, Steps};
 use crs_focus::level_of;
-use crs_history::History;
 use crs_index::{Index, Key};
 use crs_instance::Instance;
-use crs_model::Plan;
-use std::alloc::{AllocError, Global};
-use std::rc::Rc;
+use std::alloc::AllocError;
 use std::sync::ledger::Ledger;
 
 /// Adds what comes of the instance where the event is bound to the entry: a copy with the event bound
@@ -36,48 +34,44 @@ use std::sync::ledger::Ledger;
 /// them can be and can go on at the date `until`, and no window of theirs is lost then.
 /// It takes memory only where the event's pattern fits the entry.
 fn push_forks<L: Ledger>(
-    alloc: Global,
-    plan: &Plan,
-    focus: bool,
+    arrival: &Arrival<'_>,
     instance: &Instance,
     event: u8,
-    history: &History,
-    entry: &Rc<Entry>,
-    since: u64,
-    until: u64,
     steps: &mut Steps<L>,
     out: &mut Vec<Instance>,
 ) -> Result<(), AllocError>
-    requires proper { IsProper plan.now }
-    requires of { IsOf plan.now instance.now }
-    requires event { event < length plan.now.chronicle.events }
-    requires last { focus ≡ true → EndsWith (entry_of entry.now.value) history.now.entries }
-    requires date { entry.now.value.date < 2 ^ 40 }
-    requires begun { since ≤ 2 ^ 42 }
-    requires small { until ≤ 2 ^ 42 }
-    ensures forks { OnOk result (Adds plan.now focus until (AreForksAt plan.now focus history.now (entry_of entry.now.value) since until instance.now event) out.old.items out.new.items) }
-    ensures cost { focus ≡ false → steps.new ≤ steps.old + 1 }
+    requires arrival { IsArrival arrival.now }
+    requires of { IsOf arrival.now.plan.now instance.now }
+    requires event { event < length arrival.now.plan.now.chronicle.events }
+    ensures forks { OnOk result (Adds arrival.now.plan.now arrival.now.focus arrival.now.until (AreForksAt arrival.now.plan.now arrival.now.focus arrival.now.history.now (entry_of arrival.now.entry.now.value) arrival.now.since arrival.now.until instance.now event) out.old.items out.new.items) }
+    ensures cost { arrival.now.focus ≡ false → steps.new ≤ steps.old + 1 }
 {
-    if !is_awaited(plan, focus, instance, event) {
+    if !is_awaited(arrival.plan, arrival.focus, instance, event) {
         return Ok(());
     }
-    if !instance.can_wait_with(plan, event, entry.date, focus, until) {
+    if !instance.can_wait_with(
+        arrival.plan,
+        event,
+        arrival.entry.date,
+        arrival.focus,
+        arrival.until,
+    ) {
         return Ok(());
     }
-    let Some(next) = instance.fork(plan, event, entry, steps)? else {
+    let Some(next) = instance.fork(arrival.plan, event, arrival.entry, steps)? else {
         return Ok(());
     };
-    let level = level_of(plan, event, focus);
-    let todo = Vec::new(alloc);
+    let level = level_of(arrival.plan, event, arrival.focus);
+    let todo = Vec::new(arrival.alloc);
     let scan = Scan {
-        alloc,
-        plan,
-        focus,
+        alloc: arrival.alloc,
+        plan: arrival.plan,
+        focus: arrival.focus,
         parent: instance,
-        history,
-        entry,
-        since,
-        until,
+        history: arrival.history,
+        entry: arrival.entry,
+        since: arrival.since,
+        until: arrival.until,
     };
     decide(&scan, next, level, todo, steps, out)
 }
@@ -157,124 +151,87 @@ fn note_candidates(
 
 /// Adds the forks at the event of what stands in the places.
 fn forks_at<L: Ledger>(
-    alloc: Global,
-    plan: &Plan,
-    focus: bool,
+    arrival: &Arrival<'_>,
     slots: &Slots,
     places: &[u32],
     event: u8,
-    history: &History,
-    entry: &Rc<Entry>,
-    since: u64,
-    until: u64,
     steps: &mut Steps<L>,
     out: &mut Vec<Instance>,
 ) -> Result<(), AllocError>
-    requires proper { IsProper plan.now }
-    requires of { AllOf plan.now (members slots.now.slots) }
-    requires event { event < length plan.now.chronicle.events }
-    requires last { focus ≡ true → EndsWith (entry_of entry.now.value) history.now.entries }
-    requires date { entry.now.value.date < 2 ^ 40 }
-    requires begun { since ≤ 2 ^ 42 }
-    requires small { until ≤ 2 ^ 42 }
+    requires arrival { IsArrival arrival.now }
+    requires of { AllOf arrival.now.plan.now (members slots.now.slots) }
+    requires event { event < length arrival.now.plan.now.chronicle.events }
     requires ordered { IsStrictlySortedBy nat_cmp places.now }
-    ensures forks { OnOk result (Adds plan.now focus until (AreForksOfPlaces plan.now focus history.now (entry_of entry.now.value) since until slots.now event places.now) out.old.items out.new.items) }
-    ensures cost { focus ≡ false → steps.new ≤ steps.old + length (members slots.now.slots) }
+    ensures forks { OnOk result (Adds arrival.now.plan.now arrival.now.focus arrival.now.until (AreForksOfPlaces arrival.now.plan.now arrival.now.focus arrival.now.history.now (entry_of arrival.now.entry.now.value) arrival.now.since arrival.now.until slots.now event places.now) out.old.items out.new.items) }
+    ensures cost { arrival.now.focus ≡ false → steps.new ≤ steps.old + length (members slots.now.slots) }
 {
     for place in places {
         let Some(instance) = slots.get(*place) else {
             continue;
         };
-        push_forks(
-            alloc, plan, focus, instance, event, history, entry, since, until, steps, out,
-        )?;
+        push_forks(arrival, instance, event, steps, out)?;
     }
     Ok(())
 }
 
 /// Adds the forks of all instances at the event, for which such a hook looks; the entry has its name.
 fn forks_of_event<L: Ledger>(
-    alloc: Global,
-    plan: &Plan,
-    focus: bool,
+    arrival: &Arrival<'_>,
     hook: Hook,
     slots: &Slots,
     waiting: &mut Index,
     event: u8,
-    history: &History,
-    entry: &Rc<Entry>,
-    since: u64,
-    until: u64,
     steps: &mut Steps<L>,
     places: &mut Vec<u32>,
     out: &mut Vec<Instance>,
 ) -> Result<(), AllocError>
-    requires proper { IsProper plan.now }
-    requires of { AllOf plan.now (members slots.now.slots) }
-    requires event { event < length plan.now.chronicle.events }
-    requires hook { IsHookAt plan.now event hook }
-    requires linked { AreLinkedAt plan.now focus hook slots.now waiting.old event entry.now.value.date }
-    requires last { focus ≡ true → EndsWith (entry_of entry.now.value) history.now.entries }
-    requires date { entry.now.value.date < 2 ^ 40 }
-    requires begun { since ≤ 2 ^ 42 }
-    requires small { until ≤ 2 ^ 42 }
+    requires arrival { IsArrival arrival.now }
+    requires of { AllOf arrival.now.plan.now (members slots.now.slots) }
+    requires event { event < length arrival.now.plan.now.chronicle.events }
+    requires hook { IsHookAt arrival.now.plan.now event hook }
+    requires linked { AreLinkedAt arrival.now.plan.now arrival.now.focus hook slots.now waiting.old event arrival.now.entry.now.value.date }
     ensures fresh { KeepsFresh slots.now.serials waiting.old waiting.new }
     ensures standing { KeepsStanding slots.now waiting.old waiting.new }
-    ensures forks { OnOk result (Adds plan.now focus until (AreForksOfEvent plan.now focus history.now (entry_of entry.now.value) since until slots.now event) out.old.items out.new.items) }
-    ensures cost { focus ≡ false → steps.new ≤ steps.old + length (members slots.now.slots) }
+    ensures forks { OnOk result (Adds arrival.now.plan.now arrival.now.focus arrival.now.until (AreForksOfEvent arrival.now.plan.now arrival.now.focus arrival.now.history.now (entry_of arrival.now.entry.now.value) arrival.now.since arrival.now.until slots.now event) out.old.items out.new.items) }
+    ensures cost { arrival.now.focus ≡ false → steps.new ≤ steps.old + length (members slots.now.slots) }
 {
     places.clear();
-    note_candidates(waiting, slots, event, hook, entry, places)?;
+    note_candidates(waiting, slots, event, hook, arrival.entry, places)?;
     sort_places(places);
     let places = places.as_slice();
-    forks_at(
-        alloc, plan, focus, slots, places, event, history, entry, since, until, steps, out,
-    )
+    forks_at(arrival, slots, places, event, steps, out)
 }
 
 /// Fills `out` with what comes of all instances where one of their awaited events is bound to the
 /// entry, judged at the date `until`.
 #[inline(always)]
 pub(crate) fn forks<L: Ledger>(
-    alloc: Global,
-    plan: &Plan,
-    focus: bool,
+    arrival: &Arrival<'_>,
     hooks: &[Hook],
     slots: &Slots,
     waiting: &mut Index,
-    history: &History,
-    entry: &Rc<Entry>,
-    since: u64,
-    until: u64,
     steps: &mut Steps<L>,
     places: &mut Vec<u32>,
     out: &mut Vec<Instance>,
 ) -> Result<(), AllocError>
-    requires proper { IsProper plan.now }
-    requires hooks { AllZip IsHookOfEvent (chronicle plan.now).events hooks.now }
-    requires of { AllOf plan.now (members slots.now.slots) }
-    requires linked { AreLinked plan.now focus hooks.now slots.now waiting.old entry.now.value.date }
-    requires last { focus ≡ true → EndsWith (entry_of entry.now.value) history.now.entries }
-    requires date { entry.now.value.date < 2 ^ 40 }
-    requires begun { since ≤ 2 ^ 42 }
-    requires small { until ≤ 2 ^ 42 }
+    requires arrival { IsArrival arrival.now }
+    requires hooks { AllZip IsHookOfEvent (chronicle arrival.now.plan.now).events hooks.now }
+    requires of { AllOf arrival.now.plan.now (members slots.now.slots) }
+    requires linked { AreLinked arrival.now.plan.now arrival.now.focus hooks.now slots.now waiting.old arrival.now.entry.now.value.date }
     ensures fresh { KeepsFresh slots.now.serials waiting.old waiting.new }
     ensures standing { KeepsStanding slots.now waiting.old waiting.new }
-    ensures of { OnOk result (AllOf plan.now out.new.items) }
-    ensures able { OnOk result (AllByRecursion (IsAble plan.now focus until) out.new.items) }
-    ensures image { OnOk result (AreForksOfAll plan.now focus history.now (entry_of entry.now.value) since until (members slots.now.slots) out.new.items) }
-    ensures cost { focus ≡ false → steps.new ≤ steps.old + length plan.now.chronicle.events * length (members slots.now.slots) }
+    ensures of { OnOk result (AllOf arrival.now.plan.now out.new.items) }
+    ensures able { OnOk result (AllByRecursion (IsAble arrival.now.plan.now arrival.now.focus arrival.now.until) out.new.items) }
+    ensures image { OnOk result (AreForksOfAll arrival.now.plan.now arrival.now.focus arrival.now.history.now (entry_of arrival.now.entry.now.value) arrival.now.since arrival.now.until (members slots.now.slots) out.new.items) }
+    ensures cost { arrival.now.focus ≡ false → steps.new ≤ steps.old + length arrival.now.plan.now.chronicle.events * length (members slots.now.slots) }
 {
     out.clear();
-    for event in 0..plan.chronicle.events.len() as u8 {
+    for event in 0..arrival.plan.chronicle.events.len() as u8 {
         let hook = hooks[event as usize];
-        if hook.name != entry.name {
+        if hook.name != arrival.entry.name {
             continue;
         }
-        forks_of_event(
-            alloc, plan, focus, hook, slots, waiting, event, history, entry, since, until, steps,
-            places, out,
-        )?;
+        forks_of_event(arrival, hook, slots, waiting, event, steps, places, out)?;
     }
     Ok(())
 }

@@ -10,6 +10,7 @@ mod hope;
 mod levels;
 mod linking;
 mod links;
+mod moment;
 mod order;
 mod places;
 mod refused;

@@ -9,6 +9,7 @@ ghost use Rattle.crs_store.specs.Stores.{Stands, IsStore, IsSameStore, IsOffered
 ghost use Rattle.crs_store.specs.Sweeps.{TakesInSome, TakesPrompt};
 ghost use Rattle.crs_store.specs.Answers.{IsAdvanced, MovesOn};
 ghost use Rattle.crs_store.specs.Hooks.{AreHooks};
+ghost use Rattle.crs_store.specs.Moments.{IsMoment, IsPromptMoment};
 ghost use Rattle.crs_store.specs.Slots.{members};
 ghost use Rattle.crs_store.specs.Tidy.{IsTidyHolding};
 ghost use Rattle.crs_store.specs.declared.refused.StoreRefused.TheVariants.{Stopped, Memory};
@@ -17,6 +18,7 @@ use crate::candidates::forks;
 use crate::chart::Chart;
 use crate::holding::{Holding, follow, hold, hold_all, no_holding, pass};
 use crate::hooks::Hooks;
+use crate::moment::{Arrival, Moment, PromptMoment};
 use crate::order::put_in_order;
 use crate::refused::StoreRefused;
 use crate::ripening::take_ripe;
@@ -63,99 +65,101 @@ impl Model for Store {
 /// drops what can't be recognised any more. What comes of them may be left out where the entries ahead
 /// and those from `beyond` on leave it no hope.
 fn take_in<L: Ledger>(
-    alloc: Global,
-    plan: &Plan,
-    focus: bool,
-    hooks: &Hooks,
+    moment: &Moment<'_>,
     holding: &mut Holding,
-    history: &History,
-    since: u64,
-    entry: &Rc<Entry>,
-    until: u64,
-    ahead: &[Rc<Entry>],
-    beyond: u64,
     steps: &mut Steps<L>,
     places: &mut Vec<u32>,
     born: &mut Vec<Instance>,
 ) -> Result<(), AllocError>
-    requires proper { IsProper plan.now }
-    requires hooks { AreHooks plan.now hooks.now.events.items hooks.now.windows.items }
-    requires tidy { IsTidyHolding plan.now focus hooks.now holding.old since }
-    requires last { EndsWith (entry_of entry.now.value) history.now.entries }
-    requires since { since ≤ entry.now.value.date }
-    requires date { entry.now.value.date < 2 ^ 40 }
-    requires later { entry.now.value.date ≤ until }
-    requires small { until ≤ 2 ^ 42 }
-    requires near { beyond ≤ 2 ^ 42 }
-    ensures tidy { OnOk result (IsTidyHolding plan.now focus hooks.now holding.new until) }
-    ensures taken { OnOk result (TakesInSome plan.now focus history.now (entry_of entry.now.value) until since (map (λ r. entry_of r.value) ahead.now) beyond (members holding.old.slots.slots) (members holding.new.slots.slots)) }
-    ensures cost { focus ≡ false → steps.new ≤ steps.old + 2 * length plan.now.chronicle.events * length (members holding.old.slots.slots) }
+    requires moment { IsMoment moment.now }
+    requires tidy { IsTidyHolding moment.now.plan.now moment.now.focus moment.now.hooks.now holding.old moment.now.since }
+    ensures tidy { OnOk result (IsTidyHolding moment.now.plan.now moment.now.focus moment.now.hooks.now holding.new moment.now.until) }
+    ensures taken { OnOk result (TakesInSome moment.now.plan.now moment.now.focus moment.now.history.now (entry_of moment.now.entry.now.value) moment.now.until moment.now.since (map (λ r. entry_of r.value) moment.now.ahead.now) moment.now.beyond (members holding.old.slots.slots) (members holding.new.slots.slots)) }
+    ensures cost { moment.now.focus ≡ false → steps.new ≤ steps.old + 2 * length moment.now.plan.now.chronicle.events * length (members holding.old.slots.slots) }
 {
-    let chart = Chart { plan, hooks, focus };
-    follow(holding, &chart, history, entry, since, places)?;
+    let chart = Chart {
+        plan: moment.plan,
+        hooks: moment.hooks,
+        focus: moment.focus,
+    };
+    follow(
+        holding,
+        &chart,
+        moment.history,
+        moment.entry,
+        moment.since,
+        places,
+    )?;
+    let arrival = Arrival {
+        alloc: moment.alloc,
+        plan: moment.plan,
+        focus: moment.focus,
+        history: moment.history,
+        entry: moment.entry,
+        since: moment.entry.date,
+        until: moment.until,
+    };
     forks(
-        alloc,
-        plan,
-        focus,
-        hooks.events.as_slice(),
+        &arrival,
+        moment.hooks.events.as_slice(),
         &holding.slots,
         &mut holding.waiting,
-        history,
-        entry,
-        entry.date,
-        until,
         steps,
         places,
         born,
     )?;
-    pass(holding, &chart, history, entry.date, until, places)?;
-    hold_all(holding, &chart, born, ahead, beyond, until)?;
+    let until = moment.until;
+    pass(
+        holding,
+        &chart,
+        moment.history,
+        moment.entry.date,
+        until,
+        places,
+    )?;
+    hold_all(holding, &chart, born, moment.ahead, moment.beyond, until)?;
     Ok(())
 }
 
 /// Adds what comes of the instances of a prompt chronicle by the entry, which isn't settled yet: all
-/// stays judged at the date `g`.
+/// stays judged at the date at which it is.
 fn take_prompt<L: Ledger>(
-    alloc: Global,
-    plan: &Plan,
-    focus: bool,
-    hooks: &Hooks,
+    moment: &PromptMoment<'_>,
     holding: &mut Holding,
-    history: &History,
-    entry: &Rc<Entry>,
-    g: u64,
     steps: &mut Steps<L>,
     places: &mut Vec<u32>,
     born: &mut Vec<Instance>,
 ) -> Result<(), AllocError>
-    requires proper { IsProper plan.now }
-    requires hooks { AreHooks plan.now hooks.now.events.items hooks.now.windows.items }
-    requires prompt { plan.now.chronicle.prompt ≡ true }
-    requires flat { focus ≡ false }
-    requires tidy { IsTidyHolding plan.now focus hooks.now holding.old g }
-    requires early { g ≤ entry.now.value.date }
-    requires date { entry.now.value.date < 2 ^ 40 }
-    ensures tidy { OnOk result (IsTidyHolding plan.now focus hooks.now holding.new g) }
-    ensures taken { OnOk result (TakesPrompt plan.now focus history.now (entry_of entry.now.value) g (members holding.old.slots.slots) (members holding.new.slots.slots)) }
-    ensures cost { steps.new ≤ steps.old + length plan.now.chronicle.events * length (members holding.old.slots.slots) }
+    requires moment { IsPromptMoment moment.now }
+    requires tidy { IsTidyHolding moment.now.plan.now moment.now.focus moment.now.hooks.now holding.old moment.now.since }
+    ensures tidy { OnOk result (IsTidyHolding moment.now.plan.now moment.now.focus moment.now.hooks.now holding.new moment.now.since) }
+    ensures taken { OnOk result (TakesPrompt moment.now.plan.now moment.now.focus moment.now.history.now (entry_of moment.now.entry.now.value) moment.now.since (members holding.old.slots.slots) (members holding.new.slots.slots)) }
+    ensures cost { steps.new ≤ steps.old + length moment.now.plan.now.chronicle.events * length (members holding.old.slots.slots) }
 {
+    let arrival = Arrival {
+        alloc: moment.alloc,
+        plan: moment.plan,
+        focus: moment.focus,
+        history: moment.history,
+        entry: moment.entry,
+        since: moment.since,
+        until: moment.since,
+    };
     forks(
-        alloc,
-        plan,
-        focus,
-        hooks.events.as_slice(),
+        &arrival,
+        moment.hooks.events.as_slice(),
         &holding.slots,
         &mut holding.waiting,
-        history,
-        entry,
-        g,
-        g,
         steps,
         places,
         born,
     )?;
-    let chart = Chart { plan, hooks, focus };
-    hold_all(holding, &chart, born, &[], 0, g)?;
+    let chart = Chart {
+        plan: moment.plan,
+        hooks: moment.hooks,
+        focus: moment.focus,
+    };
+    hold_all(holding, &chart, born, &[], 0, moment.since)?;
     Ok(())
 }
 
@@ -322,18 +326,21 @@ impl Store {
         if entry.date < self.date {
             return Ok(());
         }
-        match take_in(
-            self.alloc,
-            &self.plan,
-            self.focus,
-            &self.hooks,
-            &mut self.holding,
+        let moment = Moment {
+            alloc: self.alloc,
+            plan: &self.plan,
+            hooks: &self.hooks,
+            focus: self.focus,
             history,
-            self.date,
             entry,
+            since: self.date,
             until,
             ahead,
             beyond,
+        };
+        match take_in(
+            &moment,
+            &mut self.holding,
             steps,
             &mut self.places,
             &mut self.born,
@@ -379,15 +386,18 @@ impl Store {
         if entry.date < self.date {
             return Ok(());
         }
-        match take_prompt(
-            self.alloc,
-            &self.plan,
-            self.focus,
-            &self.hooks,
-            &mut self.holding,
+        let moment = PromptMoment {
+            alloc: self.alloc,
+            plan: &self.plan,
+            hooks: &self.hooks,
+            focus: self.focus,
             history,
             entry,
-            self.date,
+            since: self.date,
+        };
+        match take_prompt(
+            &moment,
+            &mut self.holding,
             steps,
             &mut self.places,
             &mut self.born,

@@ -8,8 +8,8 @@ use Rattle.crs_store.proofs.candidates.forks.Given as goal
 
 abbrev pub invariant-loop-event : goal.invariant-loop-event
 invariant-loop-event g l = record {
-  gathered : AreGathered l.plan l.focus l.history (entry_of l.entry.value) l.since l.until l.slots l.event l.out.items;
+  gathered : AreGathered l.arrival.plan.now l.arrival.focus l.arrival.history.now (entry_of l.arrival.entry.now.value) l.arrival.since l.arrival.until l.slots l.event l.out.items;
   fresh : KeepsFresh l.slots.serials l.fn.waiting l.waiting;
   standing : KeepsStanding l.slots l.fn.waiting l.waiting;
-  cost : l.focus ≡ false → l.steps ≤ l.fn.steps + l.event * length (members l.slots.slots);
+  cost : l.arrival.focus ≡ false → l.steps ≤ l.fn.steps + l.event * length (members l.slots.slots);
 }

@@ -14,38 +14,38 @@ never s = cc
 
 pub returns-then-not-is_awaited-clause-forks : goal.returns-then-not-is_awaited-clause-forks
 returns-then-not-is_awaited-clause-forks g c =
-    let plan = c.args.plan.now in
-    adds_none plan c.args.focus c.args.until (AreForksAt plan c.args.focus c.args.history.now (entry_of c.args.entry.now.value) c.args.since c.args.until c.args.instance.now c.args.event) c.args.out.now.items
-    (unawaited plan c.args.focus c.args.history.now (entry_of c.args.entry.now.value) c.args.since c.args.until c.args.instance.now c.args.event (λ a. never ((c.if-not-is_awaited.ensures {u = tt}).1 a)))
+    let plan = c.args.arrival.now.plan.now in
+    adds_none plan c.args.arrival.now.focus c.args.arrival.now.until (AreForksAt plan c.args.arrival.now.focus c.args.arrival.now.history.now (entry_of c.args.arrival.now.entry.now.value) c.args.arrival.now.since c.args.arrival.now.until c.args.instance.now c.args.event) c.args.out.now.items
+    (unawaited plan c.args.arrival.now.focus c.args.arrival.now.history.now (entry_of c.args.arrival.now.entry.now.value) c.args.arrival.now.since c.args.arrival.now.until c.args.instance.now c.args.event (λ a. never ((c.if-not-is_awaited.ensures {u = tt}).1 a)))
 
 pub can_wait_with-requires-clause-unbound : goal.can_wait_with-requires-clause-unbound
 can_wait_with-requires-clause-unbound g c = ((c.if-not-is_awaited.ensures {u = tt}).0 refl).unbound
 
 pub returns-then-not-can_wait_with-clause-forks : goal.returns-then-not-can_wait_with-clause-forks
 returns-then-not-can_wait_with-clause-forks g c =
-    let plan = c.args.plan.now in
-    let x = entry_of c.args.entry.now.value in
+    let plan = c.args.arrival.now.plan.now in
+    let x = entry_of c.args.arrival.now.entry.now.value in
     let awaited = (c.if-not-is_awaited.ensures {u = tt}).0 refl in
-    let late = subst (λ (e : CodeEntry). AnotherIsLate plan (levels_in plan c.args.focus) c.args.instance.now.partial c.args.event e.date c.args.until) c.deref.ensures ((c.if-not-can_wait_with.ensures {u = tt}).no refl) in
-    adds_none plan c.args.focus c.args.until (AreForksAt plan c.args.focus c.args.history.now x c.args.since c.args.until c.args.instance.now c.args.event) c.args.out.now.items
-    (too_late plan c.args.focus c.args.history.now x c.args.since c.args.until c.args.instance.now c.args.event awaited late)
+    let late = subst (λ (e : CodeEntry). AnotherIsLate plan (levels_in plan c.args.arrival.now.focus) c.args.instance.now.partial c.args.event e.date c.args.arrival.now.until) c.deref.ensures ((c.if-not-can_wait_with.ensures {u = tt}).no refl) in
+    adds_none plan c.args.arrival.now.focus c.args.arrival.now.until (AreForksAt plan c.args.arrival.now.focus c.args.arrival.now.history.now x c.args.arrival.now.since c.args.arrival.now.until c.args.instance.now c.args.event) c.args.out.now.items
+    (too_late plan c.args.arrival.now.focus c.args.arrival.now.history.now x c.args.arrival.now.since c.args.arrival.now.until c.args.instance.now c.args.event awaited late)
 
 pub returns-in_default-clause-forks : goal.returns-in_default-clause-forks
 returns-in_default-clause-forks g c =
-    let plan = c.args.plan.now in
-    let x = entry_of c.args.entry.now.value in
-    adds_none plan c.args.focus c.args.until (AreForksAt plan c.args.focus c.args.history.now x c.args.since c.args.until c.args.instance.now c.args.event) c.args.out.now.items
-    (unforked plan c.args.focus c.args.history.now x c.args.since c.args.until c.args.instance.now c.args.event
+    let plan = c.args.arrival.now.plan.now in
+    let x = entry_of c.args.arrival.now.entry.now.value in
+    adds_none plan c.args.arrival.now.focus c.args.arrival.now.until (AreForksAt plan c.args.arrival.now.focus c.args.arrival.now.history.now x c.args.arrival.now.since c.args.arrival.now.until c.args.instance.now c.args.event) c.args.out.now.items
+    (unforked plan c.args.arrival.now.focus c.args.arrival.now.history.now x c.args.arrival.now.since c.args.arrival.now.until c.args.instance.now c.args.event
     (subst (λ (t : Option InstanceState). IsForked plan c.args.instance.now c.args.event x t) c.in_default.is ((c.in_ok-next.ensures {u = tt}).fork)))
 
 pub returns-clause-forks : goal.returns-clause-forks
 returns-clause-forks g c =
-    let plan = c.args.plan.now in
-    let history = c.args.history.now in
-    let x = entry_of c.args.entry.now.value in
-    let focus = c.args.focus in
-    let since = c.args.since in
-    let until = c.args.until in
+    let plan = c.args.arrival.now.plan.now in
+    let history = c.args.arrival.now.history.now in
+    let x = entry_of c.args.arrival.now.entry.now.value in
+    let focus = c.args.arrival.now.focus in
+    let since = c.args.arrival.now.since in
+    let until = c.args.arrival.now.until in
     let instance = c.args.instance.now in
     let event = c.args.event in
     let awaited = (c.if-not-is_awaited.ensures {u = tt}).0 refl in

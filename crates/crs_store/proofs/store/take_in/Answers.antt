@@ -16,50 +16,50 @@ use Rattle.crs_store.proofs.Taken.{taken_anew}
 use Rattle.crs_store.proofs.store.take_in.Goals as goal
 
 pub forks-requires-clause-of : goal.forks-requires-clause-of
-forks-requires-clause-of g c = tidy_all c.args.plan.now c.args.focus c.args.hooks.now c.follow.new.holding c.deref.result.now.date ((c.in_ok-follow.ensures {u = tt}).tidy)
+forks-requires-clause-of g c = tidy_all c.args.moment.now.plan.now c.args.moment.now.focus c.args.moment.now.hooks.now c.follow.new.holding c.deref.result.now.date ((c.in_ok-follow.ensures {u = tt}).tidy)
 
 pub forks-requires-clause-linked : goal.forks-requires-clause-linked
 forks-requires-clause-linked g c =
     let tidy = (c.in_ok-follow.ensures {u = tt}).tidy in
-    subst (λ (hs : List Hook). AreLinked c.args.plan.now c.args.focus hs c.follow.new.holding.slots c.follow.new.holding.waiting c.args.entry.now.value.date) (sym c.as_slice.ensures.value)
-    (tidy_linked c.args.plan.now c.args.focus c.args.hooks.now c.follow.new.holding c.deref.result.now.date tidy c.args.entry.now.value.date
-    (within_linked c.args.plan.now c.deref.result.now.date c.args.entry.now.value.date c.requires.date (inl (let e = ap (λ (x : CodeEntry). x.date) c.deref.ensures in omega (arith, e)))))
+    subst (λ (hs : List Hook). AreLinked c.args.moment.now.plan.now c.args.moment.now.focus hs c.follow.new.holding.slots c.follow.new.holding.waiting c.args.moment.now.entry.now.value.date) (sym c.as_slice.ensures.value)
+    (tidy_linked c.args.moment.now.plan.now c.args.moment.now.focus c.args.moment.now.hooks.now c.follow.new.holding c.deref.result.now.date tidy c.args.moment.now.entry.now.value.date
+    (within_linked c.args.moment.now.plan.now c.deref.result.now.date c.args.moment.now.entry.now.value.date c.requires.moment.date (inl (let e = ap (λ (x : CodeEntry). x.date) c.deref.ensures in omega (arith, e)))))
 
 pub returns-in_err-forks-clause-cost : goal.returns-in_err-forks-clause-cost
 returns-in_err-forks-clause-cost g c = λ flat.
-    few_ticks (IsFollowed c.args.plan.now c.args.history.now (entry_of c.deref.result.now) c.args.since) (IsAble c.args.plan.now c.args.focus c.deref.result.now.date) (length c.args.plan.now.chronicle.events) c.args.steps.now c.forks.new.steps (members c.args.holding.now.slots.slots) (members c.follow.new.holding.slots.slots) ((c.in_ok-follow.ensures {u = tt}).renews) (c.forks.ensures.cost flat)
+    few_ticks (IsFollowed c.args.moment.now.plan.now c.args.moment.now.history.now (entry_of c.deref.result.now) c.args.moment.now.since) (IsAble c.args.moment.now.plan.now c.args.moment.now.focus c.deref.result.now.date) (length c.args.moment.now.plan.now.chronicle.events) c.args.steps.now c.forks.new.steps (members c.args.holding.now.slots.slots) (members c.follow.new.holding.slots.slots) ((c.in_ok-follow.ensures {u = tt}).renews) (c.forks.ensures.cost flat)
 
 pub pass-requires-clause-tidy : goal.pass-requires-clause-tidy
 pass-requires-clause-tidy g c =
-    subst (λ (e : CodeEntry). IsTidy c.args.plan.now c.args.focus c.args.hooks.now.events.items c.args.hooks.now.windows.items c.follow.new.holding.slots c.forks.new.waiting c.follow.new.holding.dues c.follow.new.holding.ripe.items e.date) (c.deref.ensures ∙ sym c.deref-3.ensures)
-    (tidy_standing c.args.plan.now c.args.focus c.args.hooks.now c.follow.new.holding c.deref.result.now.date ((c.in_ok-follow.ensures {u = tt}).tidy) c.forks.new.waiting c.forks.ensures.standing)
+    subst (λ (e : CodeEntry). IsTidy c.args.moment.now.plan.now c.args.moment.now.focus c.args.moment.now.hooks.now.events.items c.args.moment.now.hooks.now.windows.items c.follow.new.holding.slots c.forks.new.waiting c.follow.new.holding.dues c.follow.new.holding.ripe.items e.date) (c.deref.ensures ∙ sym c.deref-3.ensures)
+    (tidy_standing c.args.moment.now.plan.now c.args.moment.now.focus c.args.moment.now.hooks.now c.follow.new.holding c.deref.result.now.date ((c.in_ok-follow.ensures {u = tt}).tidy) c.forks.new.waiting c.forks.ensures.standing)
 
 pub returns-in_err-pass-clause-cost : goal.returns-in_err-pass-clause-cost
 returns-in_err-pass-clause-cost g c = λ flat.
-    few_ticks (IsFollowed c.args.plan.now c.args.history.now (entry_of c.deref.result.now) c.args.since) (IsAble c.args.plan.now c.args.focus c.deref.result.now.date) (length c.args.plan.now.chronicle.events) c.args.steps.now c.forks.new.steps (members c.args.holding.now.slots.slots) (members c.follow.new.holding.slots.slots) ((c.in_ok-follow.ensures {u = tt}).renews) (c.forks.ensures.cost flat)
+    few_ticks (IsFollowed c.args.moment.now.plan.now c.args.moment.now.history.now (entry_of c.deref.result.now) c.args.moment.now.since) (IsAble c.args.moment.now.plan.now c.args.moment.now.focus c.deref.result.now.date) (length c.args.moment.now.plan.now.chronicle.events) c.args.steps.now c.forks.new.steps (members c.args.holding.now.slots.slots) (members c.follow.new.holding.slots.slots) ((c.in_ok-follow.ensures {u = tt}).renews) (c.forks.ensures.cost flat)
 
 pub returns-in_err-hold_all-clause-cost : goal.returns-in_err-hold_all-clause-cost
 returns-in_err-hold_all-clause-cost g c = λ flat.
-    few_ticks (IsFollowed c.args.plan.now c.args.history.now (entry_of c.deref.result.now) c.args.since) (IsAble c.args.plan.now c.args.focus c.deref.result.now.date) (length c.args.plan.now.chronicle.events) c.args.steps.now c.forks.new.steps (members c.args.holding.now.slots.slots) (members c.follow.new.holding.slots.slots) ((c.in_ok-follow.ensures {u = tt}).renews) (c.forks.ensures.cost flat)
+    few_ticks (IsFollowed c.args.moment.now.plan.now c.args.moment.now.history.now (entry_of c.deref.result.now) c.args.moment.now.since) (IsAble c.args.moment.now.plan.now c.args.moment.now.focus c.deref.result.now.date) (length c.args.moment.now.plan.now.chronicle.events) c.args.steps.now c.forks.new.steps (members c.args.holding.now.slots.slots) (members c.follow.new.holding.slots.slots) ((c.in_ok-follow.ensures {u = tt}).renews) (c.forks.ensures.cost flat)
 
 pub returns-clause-taken : goal.returns-clause-taken
 returns-clause-taken g c =
-    let plan = c.args.plan.now in
-    let focus = c.args.focus in
-    let history = c.args.history.now in
-    let x = c.args.entry.now.value in
+    let plan = c.args.moment.now.plan.now in
+    let focus = c.args.moment.now.focus in
+    let history = c.args.moment.now.history.now in
+    let x = c.args.moment.now.entry.now.value in
     let held = members c.args.holding.now.slots.slots in
     let kept = members c.follow.new.holding.slots.slots in
     let stay = members c.pass.new.holding.slots.slots in
-    let renews = subst (λ (e : CodeEntry). Renews (IsFollowed plan history (entry_of e) c.args.since) (IsAble plan focus e.date) held kept) c.deref.ensures ((c.in_ok-follow.ensures {u = tt}).renews) in
-    let passes = subst (λ (e : CodeEntry). Renews (IsPassed plan history e.date c.args.until) (IsAble plan focus c.args.until) kept stay) c.deref-3.ensures ((c.in_ok-pass.ensures {u = tt}).renews) in
+    let renews = subst (λ (e : CodeEntry). Renews (IsFollowed plan history (entry_of e) c.args.moment.now.since) (IsAble plan focus e.date) held kept) c.deref.ensures ((c.in_ok-follow.ensures {u = tt}).renews) in
+    let passes = subst (λ (e : CodeEntry). Renews (IsPassed plan history e.date c.args.moment.now.until) (IsAble plan focus c.args.moment.now.until) kept stay) c.deref-3.ensures ((c.in_ok-pass.ensures {u = tt}).renews) in
     let more = c.forks.new.out.items in
     let new = members c.hold_all.new.holding.slots.slots in (
       stay ++ more,
-      taken_anew plan focus c.requires.proper history (entry_of x) c.args.until c.args.since held kept more stay (stay ++ more) (tidy_all plan focus c.args.hooks.now c.args.holding.now c.args.since c.requires.tidy) renews (subst (λ (e : CodeEntry). AreForksOfAll plan focus history (entry_of x) e.date c.args.until kept more) c.deref-2.ensures ((c.in_ok-forks.ensures {u = tt}).image)) passes (joins_both stay more),
-      part_of (MayGo plan focus (map (λ r. entry_of r.value) c.args.ahead.now) c.args.beyond) stay more new ((c.in_ok-hold_all.ensures {u = tt}).joins),
+      taken_anew plan focus c.requires.moment.proper history (entry_of x) c.args.moment.now.until c.args.moment.now.since held kept more stay (stay ++ more) (tidy_all plan focus c.args.moment.now.hooks.now c.args.holding.now c.args.moment.now.since c.requires.tidy) renews (subst (λ (e : CodeEntry). AreForksOfAll plan focus history (entry_of x) e.date c.args.moment.now.until kept more) c.deref-2.ensures ((c.in_ok-forks.ensures {u = tt}).image)) passes (joins_both stay more),
+      part_of (MayGo plan focus (map (λ r. entry_of r.value) c.args.moment.now.ahead.now) c.args.moment.now.beyond) stay more new ((c.in_ok-hold_all.ensures {u = tt}).joins),
     )
 
 pub returns-clause-cost : goal.returns-clause-cost
 returns-clause-cost g c = λ flat.
-    few_ticks (IsFollowed c.args.plan.now c.args.history.now (entry_of c.deref.result.now) c.args.since) (IsAble c.args.plan.now c.args.focus c.deref.result.now.date) (length c.args.plan.now.chronicle.events) c.args.steps.now c.forks.new.steps (members c.args.holding.now.slots.slots) (members c.follow.new.holding.slots.slots) ((c.in_ok-follow.ensures {u = tt}).renews) (c.forks.ensures.cost flat)
+    few_ticks (IsFollowed c.args.moment.now.plan.now c.args.moment.now.history.now (entry_of c.deref.result.now) c.args.moment.now.since) (IsAble c.args.moment.now.plan.now c.args.moment.now.focus c.deref.result.now.date) (length c.args.moment.now.plan.now.chronicle.events) c.args.steps.now c.forks.new.steps (members c.args.holding.now.slots.slots) (members c.follow.new.holding.slots.slots) ((c.in_ok-follow.ensures {u = tt}).renews) (c.forks.ensures.cost flat)

@@ -1,0 +1,37 @@
+-- An entry that comes to the instances, and the moments at which a store takes one in.
+use Rattle.std.specs.Prelude.{◌≡◌, ◌<◌, ◌≤◌, ◌^◌, true, false}
+use Rattle.crs_base.specs.Seen.{entry_of}
+use Rattle.crs_history.specs.Histories.{EndsWith}
+use Rattle.crs_model.specs.Plans.{IsProper}
+use Rattle.crs_store.specs.Hooks.{AreHooks}
+use Rattle.crs_store.specs.declared.moment.Arrival.{Arrival}
+use Rattle.crs_store.specs.declared.moment.Moment.{Moment}
+use Rattle.crs_store.specs.declared.moment.PromptMoment.{PromptMoment}
+
+-- the plan is proper; where levels are read the entry is the last of the history; the dates are within their limits
+pub record IsArrival (a : Arrival) : Type 0 where
+  pub proper : IsProper a.plan.now
+  pub last : a.focus ≡ true → EndsWith (entry_of a.entry.now.value) a.history.now.entries
+  pub date : a.entry.now.value.date < 2 ^ 40
+  pub begun : a.since ≤ 2 ^ 42
+  pub small : a.until ≤ 2 ^ 42
+
+-- the plan is proper, with its hooks; the entry is the last of the history, and not before `since`; the dates are within their limits
+pub record IsMoment (m : Moment) : Type 0 where
+  pub proper : IsProper m.plan.now
+  pub hooks : AreHooks m.plan.now m.hooks.now.events.items m.hooks.now.windows.items
+  pub last : EndsWith (entry_of m.entry.now.value) m.history.now.entries
+  pub since : m.since ≤ m.entry.now.value.date
+  pub date : m.entry.now.value.date < 2 ^ 40
+  pub later : m.entry.now.value.date ≤ m.until
+  pub small : m.until ≤ 2 ^ 42
+  pub near : m.beyond ≤ 2 ^ 42
+
+-- the plan is proper, with its hooks, and prompt, so that levels aren't read; the entry is not before `since`, and its date within its limit
+pub record IsPromptMoment (m : PromptMoment) : Type 0 where
+  pub proper : IsProper m.plan.now
+  pub hooks : AreHooks m.plan.now m.hooks.now.events.items m.hooks.now.windows.items
+  pub prompt : m.plan.now.chronicle.prompt ≡ true
+  pub flat : m.focus ≡ false
+  pub early : m.since ≤ m.entry.now.value.date
+  pub date : m.entry.now.value.date < 2 ^ 40

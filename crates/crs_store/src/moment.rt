@@ -1,0 +1,49 @@
+//! An entry that comes to the instances, and the moments at which a store takes one in.
+use crate::hooks::Hooks;
+use crs_base::Entry;
+use crs_history::History;
+use crs_model::Plan;
+use std::alloc::Global;
+use std::rc::Rc;
+
+/// An entry to which an event may be bound, the date at which all was judged last, and the one at
+/// which what comes of it is judged.
+#[derive(Drop)]
+pub(crate) struct Arrival<'a> {
+    pub(crate) alloc: Global,
+    pub(crate) plan: &'a Plan,
+    pub(crate) focus: bool,
+    pub(crate) history: &'a History,
+    pub(crate) entry: &'a Rc<Entry>,
+    pub(crate) since: u64,
+    pub(crate) until: u64,
+}
+
+/// The entry, which is the last of the history, the date at which all was judged before, and the one
+/// at which it is to be judged; the entries that come next, before all that are dated from `beyond` on.
+#[derive(Drop)]
+pub(crate) struct Moment<'a> {
+    pub(crate) alloc: Global,
+    pub(crate) plan: &'a Plan,
+    pub(crate) hooks: &'a Hooks,
+    pub(crate) focus: bool,
+    pub(crate) history: &'a History,
+    pub(crate) entry: &'a Rc<Entry>,
+    pub(crate) since: u64,
+    pub(crate) until: u64,
+    pub(crate) ahead: &'a [Rc<Entry>],
+    pub(crate) beyond: u64,
+}
+
+/// The entry of a prompt chronicle, which isn't settled yet, and the date at which all is judged and
+/// stays so.
+#[derive(Drop)]
+pub(crate) struct PromptMoment<'a> {
+    pub(crate) alloc: Global,
+    pub(crate) plan: &'a Plan,
+    pub(crate) hooks: &'a Hooks,
+    pub(crate) focus: bool,
+    pub(crate) history: &'a History,
+    pub(crate) entry: &'a Rc<Entry>,
+    pub(crate) since: u64,
+}
