@@ -1,10 +1,11 @@
--- An entry that comes to the instances, and the moments at which a store takes one in.
+-- An entry that comes to the instances, the moments at which a store takes one in, and the horizon to which it moves on.
 use Rattle.std.specs.Prelude.{◌≡◌, ◌<◌, ◌≤◌, ◌^◌, true, false}
 use Rattle.crs_base.specs.Seen.{entry_of}
 use Rattle.crs_history.specs.Histories.{EndsWith}
 use Rattle.crs_model.specs.Plans.{IsProper}
 use Rattle.crs_store.specs.Hooks.{AreHooks}
 use Rattle.crs_store.specs.declared.moment.Arrival.{Arrival}
+use Rattle.crs_store.specs.declared.moment.Horizon.{Horizon}
 use Rattle.crs_store.specs.declared.moment.Moment.{Moment}
 use Rattle.crs_store.specs.declared.moment.PromptMoment.{PromptMoment}
 
@@ -35,3 +36,10 @@ pub record IsPromptMoment (m : PromptMoment) : Type 0 where
   pub flat : m.focus ≡ false
   pub early : m.since ≤ m.entry.now.value.date
   pub date : m.entry.now.value.date < 2 ^ 40
+
+-- the plan is proper, with its hooks; the horizon is not before `since`, and within its limit
+pub record IsHorizon (m : Horizon) : Type 0 where
+  pub proper : IsProper m.plan.now
+  pub hooks : AreHooks m.plan.now m.hooks.now.events.items m.hooks.now.windows.items
+  pub later : m.since ≤ m.h
+  pub small : m.h ≤ 2 ^ 42

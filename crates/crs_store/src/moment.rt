@@ -1,8 +1,9 @@
-//! An entry that comes to the instances, and the moments at which a store takes one in.
+//! An entry that comes to the instances, the moments at which a store takes one in, and the horizon
+//! to which it moves on.
 use crate::hooks::Hooks;
 use crs_base::Entry;
 use crs_history::History;
-use crs_model::Plan;
+use crs_model::{Mark, Plan};
 use std::alloc::Global;
 use std::rc::Rc;
 
@@ -46,4 +47,19 @@ pub(crate) struct PromptMoment<'a> {
     pub(crate) history: &'a History,
     pub(crate) entry: &'a Rc<Entry>,
     pub(crate) since: u64,
+}
+
+/// A horizon to which a store moves on, and the date at which all was judged before; the number of the
+/// chronicle and the mark are those of what is answered.
+#[derive(Drop)]
+pub(crate) struct Horizon<'a> {
+    pub(crate) alloc: Global,
+    pub(crate) plan: &'a Plan,
+    pub(crate) hooks: &'a Hooks,
+    pub(crate) focus: bool,
+    pub(crate) history: &'a History,
+    pub(crate) since: u64,
+    pub(crate) h: u64,
+    pub(crate) number: u32,
+    pub(crate) mark: Mark,
 }

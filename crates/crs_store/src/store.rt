@@ -9,7 +9,7 @@ ghost use Rattle.crs_store.specs.Stores.{Stands, IsStore, IsSameStore, IsOffered
 ghost use Rattle.crs_store.specs.Sweeps.{TakesInSome, TakesPrompt};
 ghost use Rattle.crs_store.specs.Answers.{IsAdvanced, MovesOn};
 ghost use Rattle.crs_store.specs.Hooks.{AreHooks};
-ghost use Rattle.crs_store.specs.Moments.{IsMoment, IsPromptMoment};
+ghost use Rattle.crs_store.specs.Moments.{IsMoment, IsPromptMoment, IsHorizon};
 ghost use Rattle.crs_store.specs.Slots.{members};
 ghost use Rattle.crs_store.specs.Tidy.{IsTidyHolding};
 ghost use Rattle.crs_store.specs.declared.refused.StoreRefused.TheVariants.{Stopped, Memory};
@@ -18,7 +18,7 @@ use crate::candidates::forks;
 use crate::chart::Chart;
 use crate::holding::{Holding, follow, hold, hold_all, no_holding, pass};
 use crate::hooks::Hooks;
-use crate::moment::{Arrival, Moment, PromptMoment};
+use crate::moment::{Arrival, Horizon, Moment, PromptMoment};
 use crate::order::put_in_order;
 use crate::refused::StoreRefused;
 use crate::ripening::take_ripe;
@@ -165,36 +165,29 @@ fn take_prompt<L: Ledger>(
 
 /// Moves the instances on to `h`: answers the recognitions, and keeps those that can wait.
 fn move_on(
-    alloc: Global,
-    plan: &Plan,
-    focus: bool,
-    hooks: &Hooks,
+    to: &Horizon<'_>,
     holding: &mut Holding,
-    history: &History,
-    since: u64,
-    h: u64,
-    number: u32,
-    mark: Mark,
     places: &mut Vec<u32>,
 ) -> Result<List<Recognition>, AllocError>
-    requires proper { IsProper plan.now }
-    requires hooks { AreHooks plan.now hooks.now.events.items hooks.now.windows.items }
-    requires tidy { IsTidyHolding plan.now focus hooks.now holding.old since }
-    requires later { since ≤ h }
-    requires small { h ≤ 2 ^ 42 }
-    ensures tidy { IfOk result (λ _. IsTidyHolding plan.now focus hooks.now holding.new h) }
-    ensures moved { IfOk result (MovesOn plan.now focus history.now since h number mark (members holding.old.slots.slots) (members holding.new.slots.slots)) }
+    requires to { IsHorizon to.now }
+    requires tidy { IsTidyHolding to.now.plan.now to.now.focus to.now.hooks.now holding.old to.now.since }
+    ensures tidy { IfOk result (λ _. IsTidyHolding to.now.plan.now to.now.focus to.now.hooks.now holding.new to.now.h) }
+    ensures moved { IfOk result (MovesOn to.now.plan.now to.now.focus to.now.history.now to.now.since to.now.h to.now.number to.now.mark (members holding.old.slots.slots) (members holding.new.slots.slots)) }
 {
-    let chart = Chart { plan, hooks, focus };
-    pass(holding, &chart, history, since, h, places)?;
+    let chart = Chart {
+        plan: to.plan,
+        hooks: to.hooks,
+        focus: to.focus,
+    };
+    pass(holding, &chart, to.history, to.since, to.h, places)?;
     let mut found = take_ripe(
-        alloc,
-        plan,
+        to.alloc,
+        to.plan,
         &mut holding.slots,
         &mut holding.ripe,
-        h,
-        number,
-        mark,
+        to.h,
+        to.number,
+        to.mark,
     )?;
     put_in_order(&mut found);
     Ok(List::from_vec(found))
@@ -472,19 +465,18 @@ impl Store {
         if h < self.date {
             return Ok(List::new(self.alloc));
         }
-        match move_on(
-            self.alloc,
-            &self.plan,
-            self.focus,
-            &self.hooks,
-            &mut self.holding,
+        let to = Horizon {
+            alloc: self.alloc,
+            plan: &self.plan,
+            hooks: &self.hooks,
+            focus: self.focus,
             history,
-            self.date,
+            since: self.date,
             h,
-            self.number,
+            number: self.number,
             mark,
-            &mut self.places,
-        ) {
+        };
+        match move_on(&to, &mut self.holding, &mut self.places) {
             Ok(found) => {
                 self.date = h;
                 Ok(found)

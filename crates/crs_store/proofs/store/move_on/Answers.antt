@@ -10,7 +10,7 @@ pub take_ripe-requires-clause-ripe : goal.take_ripe-requires-clause-ripe
 take_ripe-requires-clause-ripe c = λ p i is done. (((c.in_ok-pass.ensures {u = tt}).tidy).known p i is).done done
 
 pub returns-clause-tidy : goal.returns-clause-tidy
-returns-clause-tidy c = left_tidy c.args.plan.now c.args.focus c.args.hooks.now c.pass.new.holding c.args.h ((c.in_ok-pass.ensures {u = tt}).tidy) c.take_ripe.new.slots c.take_ripe.new.ripe.items ((c.in_ok-found.ensures {u = tt}).left)
+returns-clause-tidy c = left_tidy c.args.to.now.plan.now c.args.to.now.focus c.args.to.now.hooks.now c.pass.new.holding c.args.to.now.h ((c.in_ok-pass.ensures {u = tt}).tidy) c.take_ripe.new.slots c.take_ripe.new.ripe.items ((c.in_ok-found.ensures {u = tt}).left)
 
 pub returns-clause-moved : goal.returns-clause-moved
 returns-clause-moved c =
@@ -18,7 +18,7 @@ returns-clause-moved c =
     record {
       able = members c.pass.new.holding.slots.slots;
       passed = (c.in_ok-pass.ensures {u = tt}).renews;
-      found = subst (λ (a : List Recognition). AreFoundInOrder c.args.plan.now c.args.h c.args.number c.args.mark (members c.pass.new.holding.slots.slots) a) (sym c.from_vec.ensures)
+      found = subst (λ (a : List Recognition). AreFoundInOrder c.args.to.now.plan.now c.args.to.now.h c.args.to.now.number c.args.to.now.mark (members c.pass.new.holding.slots.slots) a) (sym c.from_vec.ensures)
           (record { found = c.in_ok-found.found.items; are = (c.in_ok-found.ensures {u = tt}).found; moved = c.put_in_order.ensures.moved; sorted = c.put_in_order.ensures.sorted });
-      left = left_sifts c.args.plan.now c.args.h c.pass.new.holding.slots.slots c.take_ripe.new.slots.slots left.places left.each;
+      left = left_sifts c.args.to.now.plan.now c.args.to.now.h c.pass.new.holding.slots.slots c.take_ripe.new.slots.slots left.places left.each;
     }
