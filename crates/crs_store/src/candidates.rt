@@ -125,26 +125,33 @@ fn note_able_bucket(
     Ok(())
 }
 
+/// An event, and what it looks for.
+#[derive(Clone, Copy, Drop)]
+struct Sought {
+    event: u8,
+    hook: Hook,
+}
+
 /// Notes the places of those that wait for such an entry, and to whose event its date is left.
 fn note_candidates(
     waiting: &mut Index,
     slots: &Slots,
-    event: u8,
-    hook: Hook,
+    sought: Sought,
     entry: &Entry,
     places: &mut Vec<u32>,
 ) -> Result<(), AllocError>
-    requires windows { HaveWindow slots.now event }
+    requires windows { HaveWindow slots.now sought.event }
     requires date { entry.now.date < 2 ^ 40 }
     ensures fresh { KeepsFresh slots.now.serials waiting.old waiting.new }
     ensures standing { KeepsStanding slots.now waiting.old waiting.new }
-    ensures lacking { OnOk result (AreCandidates slots.now waiting.old (key_with event None) event entry.now.date places.new.items) }
-    ensures having { OnOk result (AreCandidates slots.now waiting.old (key_with event (picked_argument hook.pick entry.now.args)) event entry.now.date places.new.items) }
+    ensures lacking { OnOk result (AreCandidates slots.now waiting.old (key_with sought.event None) sought.event entry.now.date places.new.items) }
+    ensures having { OnOk result (AreCandidates slots.now waiting.old (key_with sought.event (picked_argument sought.hook.pick entry.now.args)) sought.event entry.now.date places.new.items) }
 {
+    let event = sought.event;
     let class = event as u32;
     let lacking = key_of_symbol(class, None);
     note_able_bucket(waiting, slots, lacking, event, entry.date, places)?;
-    let having = key_of_entry(class, hook, entry);
+    let having = key_of_entry(class, sought.hook, entry);
     note_able_bucket(waiting, slots, having, event, entry.date, places)?;
     Ok(())
 }
@@ -177,29 +184,28 @@ fn forks_at<L: Ledger>(
 /// Adds the forks of all instances at the event, for which such a hook looks; the entry has its name.
 fn forks_of_event<L: Ledger>(
     arrival: &Arrival<'_>,
-    hook: Hook,
+    sought: Sought,
     slots: &Slots,
     waiting: &mut Index,
-    event: u8,
     steps: &mut Steps<L>,
     places: &mut Vec<u32>,
     out: &mut Vec<Instance>,
 ) -> Result<(), AllocError>
     requires arrival { IsArrival arrival.now }
     requires of { AllOf arrival.now.plan.now (members slots.now.slots) }
-    requires event { event < length arrival.now.plan.now.chronicle.events }
-    requires hook { IsHookAt arrival.now.plan.now event hook }
-    requires linked { AreLinkedAt arrival.now.plan.now arrival.now.focus hook slots.now waiting.old event arrival.now.entry.now.value.date }
+    requires event { sought.event < length arrival.now.plan.now.chronicle.events }
+    requires hook { IsHookAt arrival.now.plan.now sought.event sought.hook }
+    requires linked { AreLinkedAt arrival.now.plan.now arrival.now.focus sought.hook slots.now waiting.old sought.event arrival.now.entry.now.value.date }
     ensures fresh { KeepsFresh slots.now.serials waiting.old waiting.new }
     ensures standing { KeepsStanding slots.now waiting.old waiting.new }
-    ensures forks { OnOk result (Adds arrival.now.plan.now arrival.now.focus arrival.now.until (AreForksOfEvent arrival.now.plan.now arrival.now.focus arrival.now.history.now (entry_of arrival.now.entry.now.value) arrival.now.since arrival.now.until slots.now event) out.old.items out.new.items) }
+    ensures forks { OnOk result (Adds arrival.now.plan.now arrival.now.focus arrival.now.until (AreForksOfEvent arrival.now.plan.now arrival.now.focus arrival.now.history.now (entry_of arrival.now.entry.now.value) arrival.now.since arrival.now.until slots.now sought.event) out.old.items out.new.items) }
     ensures cost { arrival.now.focus ≡ false → steps.new ≤ steps.old + length (members slots.now.slots) }
 {
     places.clear();
-    note_candidates(waiting, slots, event, hook, arrival.entry, places)?;
+    note_candidates(waiting, slots, sought, arrival.entry, places)?;
     sort_places(places);
     let places = places.as_slice();
-    forks_at(arrival, slots, places, event, steps, out)
+    forks_at(arrival, slots, places, sought.event, steps, out)
 }
 
 /// Fills `out` with what comes of all instances where one of their awaited events is bound to the
@@ -231,7 +237,8 @@ pub(crate) fn forks<L: Ledger>(
         if hook.name != arrival.entry.name {
             continue;
         }
-        forks_of_event(arrival, hook, slots, waiting, event, steps, places, out)?;
+        let sought = Sought { event, hook };
+        forks_of_event(arrival, sought, slots, waiting, steps, places, out)?;
     }
     Ok(())
 }

@@ -33,6 +33,14 @@ pub(crate) struct Scan<'a> {
     pub(crate) until: u64,
 }
 
+/// The event that is decided on, its level, and the events of the level that are left after it.
+#[derive(Drop)]
+struct Choice<'a> {
+    event: u8,
+    level: u8,
+    rest: &'a Vec<u8>,
+}
+
 /// Adds what an instance became, with the progress of its windows, where it is able to be recognised
 /// at the date `until`.
 fn keep_if_able(
@@ -85,7 +93,12 @@ pub(crate) fn decide<L: Ledger>(
     let Some(event) = todo.pop() else {
         return decide_higher(scan, next, level, steps, out);
     };
-    decide_at(scan, &next, level, event, &todo, steps, out)?;
+    let choice = Choice {
+        event,
+        level,
+        rest: &todo,
+    };
+    decide_at(scan, &next, &choice, steps, out)?;
     if can_be_left(&next, event, scan.until) {
         decide(scan, next, level, todo, steps, out)?;
     }
@@ -118,23 +131,22 @@ fn decide_higher<L: Ledger>(
 fn decide_at<L: Ledger>(
     scan: &Scan<'_>,
     next: &Instance,
-    level: u8,
-    event: u8,
-    rest: &Vec<u8>,
+    choice: &Choice<'_>,
     steps: &mut Steps<L>,
     out: &mut Vec<Instance>,
 ) -> Result<(), AllocError>
     requires scan { IsScan scan.now }
     requires next { IsOf scan.now.plan.now next.now }
-    requires todo { AreToDecide (levels_in scan.now.plan.now scan.now.focus) next.now.partial level (rest.now.items ++ event ∷ []) }
+    requires todo { AreToDecide (levels_in scan.now.plan.now scan.now.focus) next.now.partial choice.now.level (choice.now.rest.now.items ++ choice.now.event ∷ []) }
     requires read { scan.now.focus ≡ true }
-    ensures decided { OnOk result (Adds scan.now.plan.now scan.now.focus scan.now.until (IsDecidedAt scan.now.plan.now scan.now.focus scan.now.history.now (entry_of scan.now.entry.now) scan.now.since scan.now.until scan.now.parent.now next.now level rest.now.items event) out.old.items out.new.items) }
+    ensures decided { OnOk result (Adds scan.now.plan.now scan.now.focus scan.now.until (IsDecidedAt scan.now.plan.now scan.now.focus scan.now.history.now (entry_of scan.now.entry.now) scan.now.since scan.now.until scan.now.parent.now next.now choice.now.level choice.now.rest.now.items choice.now.event) out.old.items out.new.items) }
 {
+    let event = choice.event;
     let name = scan.plan.chronicle.events.as_slice()[event as usize]
         .pattern
         .name;
     for candidate in candidates(scan.history, name, next.date_window(event), scan.entry) {
-        decide_with(scan, next, level, event, candidate, rest, steps, out)?;
+        decide_with(scan, next, choice, candidate, steps, out)?;
     }
     Ok(())
 }
@@ -144,24 +156,22 @@ fn decide_at<L: Ledger>(
 fn decide_with<L: Ledger>(
     scan: &Scan<'_>,
     next: &Instance,
-    level: u8,
-    event: u8,
+    choice: &Choice<'_>,
     candidate: &Rc<Entry>,
-    rest: &Vec<u8>,
     steps: &mut Steps<L>,
     out: &mut Vec<Instance>,
 ) -> Result<(), AllocError>
     requires scan { IsScan scan.now }
     requires next { IsOf scan.now.plan.now next.now }
-    requires todo { AreToDecide (levels_in scan.now.plan.now scan.now.focus) next.now.partial level (rest.now.items ++ event ∷ []) }
+    requires todo { AreToDecide (levels_in scan.now.plan.now scan.now.focus) next.now.partial choice.now.level (choice.now.rest.now.items ++ choice.now.event ∷ []) }
     requires read { scan.now.focus ≡ true }
     requires early { candidate.now.value.date < 2 ^ 40 }
     requires held { IsIn (entry_of candidate.now.value) scan.now.history.now.entries }
-    ensures decided { OnOk result (Adds scan.now.plan.now scan.now.focus scan.now.until (AreDecidedWith scan.now.plan.now scan.now.focus scan.now.history.now (entry_of scan.now.entry.now) scan.now.since scan.now.until scan.now.parent.now next.now level rest.now.items event (entry_of candidate.now.value ∷ [])) out.old.items out.new.items) }
+    ensures decided { OnOk result (Adds scan.now.plan.now scan.now.focus scan.now.until (AreDecidedWith scan.now.plan.now scan.now.focus scan.now.history.now (entry_of scan.now.entry.now) scan.now.since scan.now.until scan.now.parent.now next.now choice.now.level choice.now.rest.now.items choice.now.event (entry_of candidate.now.value ∷ [])) out.old.items out.new.items) }
 {
-    let Some(fork) = next.fork(scan.plan, event, candidate, steps)? else {
+    let Some(fork) = next.fork(scan.plan, choice.event, candidate, steps)? else {
         return Ok(());
     };
-    let todo = Vec::from_slice(scan.alloc, rest.as_slice())?;
-    decide(scan, fork, level, todo, steps, out)
+    let todo = Vec::from_slice(scan.alloc, choice.rest.as_slice())?;
+    decide(scan, fork, choice.level, todo, steps, out)
 }

@@ -72,21 +72,21 @@ decide-returns-else-can_be_left-clause-decided g t c =
 
 pub decide_at-bounds-as_slice-event : goal.decide_at-bounds-as_slice-event
 decide_at-bounds-as_slice-event g t c =
-    let w = last_awaited (levels_in c.args.scan.now.plan.now c.args.scan.now.focus) c.args.next.now.partial c.args.level c.args.rest.now.items c.args.event c.requires.todo in
+    let w = last_awaited (levels_in c.args.scan.now.plan.now c.args.scan.now.focus) c.args.next.now.partial c.args.choice.now.level c.args.choice.now.rest.now.items c.args.choice.now.event c.requires.todo in
     let a = w.within in
     let b = c.requires.next.len in
     let d = ap length c.as_slice.ensures in omega arith
 
 pub decide_at-bounds-as_slice-event-2 : goal.decide_at-bounds-as_slice-event-2
 decide_at-bounds-as_slice-event-2 g t c =
-    let w = last_awaited (levels_in c.args.scan.now.plan.now c.args.scan.now.focus) c.args.next.now.partial c.args.level c.args.rest.now.items c.args.event c.requires.todo in
+    let w = last_awaited (levels_in c.args.scan.now.plan.now c.args.scan.now.focus) c.args.next.now.partial c.args.choice.now.level c.args.choice.now.rest.now.items c.args.choice.now.event c.requires.todo in
     let a = w.within in
     let b = c.requires.next.len in
     let d = ap length c.as_slice.ensures in omega arith
 
 pub decide_at-date_window-requires : goal.decide_at-date_window-requires
 decide_at-date_window-requires g t c =
-    let w = last_awaited (levels_in c.args.scan.now.plan.now c.args.scan.now.focus) c.args.next.now.partial c.args.level c.args.rest.now.items c.args.event c.requires.todo in
+    let w = last_awaited (levels_in c.args.scan.now.plan.now c.args.scan.now.focus) c.args.next.now.partial c.args.choice.now.level c.args.choice.now.rest.now.items c.args.choice.now.event c.requires.todo in
     let a = w.within in
     let b = c.requires.next.len in
     let d = c.requires.next.window_count in
@@ -96,8 +96,8 @@ pub decide_at-loop-candidate-init : goal.decide_at-loop-candidate-init
 decide_at-loop-candidate-init g t c = record {
   done = [];
   split = refl;
-  adds = adds_none c.args.scan.now.plan.now c.args.scan.now.focus c.args.scan.now.until (AreDecidedWith c.args.scan.now.plan.now c.args.scan.now.focus c.args.scan.now.history.now (entry_of c.args.scan.now.entry.now) c.args.scan.now.since c.args.scan.now.until c.args.scan.now.parent.now c.args.next.now c.args.level c.args.rest.now.items c.args.event []) c.args.out.now.items
-      (none_with c.args.scan.now.plan.now c.args.scan.now.focus c.requires.scan.proper c.args.scan.now.history.now (entry_of c.args.scan.now.entry.now) c.args.scan.now.since c.args.scan.now.until c.args.scan.now.parent.now c.args.next.now c.args.level c.args.rest.now.items c.args.event c.requires.next c.requires.todo);
+  adds = adds_none c.args.scan.now.plan.now c.args.scan.now.focus c.args.scan.now.until (AreDecidedWith c.args.scan.now.plan.now c.args.scan.now.focus c.args.scan.now.history.now (entry_of c.args.scan.now.entry.now) c.args.scan.now.since c.args.scan.now.until c.args.scan.now.parent.now c.args.next.now c.args.choice.now.level c.args.choice.now.rest.now.items c.args.choice.now.event []) c.args.out.now.items
+      (none_with c.args.scan.now.plan.now c.args.scan.now.focus c.requires.scan.proper c.args.scan.now.history.now (entry_of c.args.scan.now.entry.now) c.args.scan.now.since c.args.scan.now.until c.args.scan.now.parent.now c.args.next.now c.args.choice.now.level c.args.choice.now.rest.now.items c.args.choice.now.event c.requires.next c.requires.todo);
 }
 
 pub decide_at-decide_with-requires : goal.decide_at-decide_with-requires
@@ -106,9 +106,9 @@ decide_at-decide_with-requires g t c = λ κs le.
     let step : c.loop-candidate.candidate-iterator ≡ x ∷ c.next.new.self = c.in-Some.ensures.steps in
     let iter : c.into_iter-candidate-iterator.result ≡ c.candidates-candidate-items.result = search rules in
     let there : IsIn x c.candidates-candidate-items.result = subst (IsIn x) (sym (c.loop-candidate.invariant.split ∙ ap (λ (ys : List (Entry Sym)). c.loop-candidate.invariant.done ++ ys) step) ∙ iter) (in_append_right c.loop-candidate.invariant.done (x ∷ c.next.new.self) x (inl refl)) in
-    let s = sifted_in (IsCandidate c.args.scan.now.history.now.floor (get_or c.as_slice.result.now c.args.event c.index-as_slice-event.result).pattern.name c.date_window.result (entry_of c.args.scan.now.entry.now)) c.args.scan.now.history.now.entries c.candidates-candidate-items.result x c.candidates-candidate-items.ensures.held there in
+    let s = sifted_in (IsCandidate c.args.scan.now.history.now.floor (get_or c.as_slice.result.now c.args.choice.now.event c.index-as_slice-event.result).pattern.name c.date_window.result (entry_of c.args.scan.now.entry.now)) c.args.scan.now.history.now.entries c.candidates-candidate-items.result x c.candidates-candidate-items.ensures.held there in
     let early : x.date < 2 ^ 40 = (let a = by_date x (entry_of c.args.scan.now.entry.now) (s.1).up_to in let b = c.requires.scan.date in omega arith) in
-    let fewer : 4 * ((256 - c.args.level) * 17 + length c.args.rest.now.items) + 2 < t = omega (arith, c.decreases) in
+    let fewer : 4 * ((256 - c.args.choice.now.level) * 17 + length c.args.choice.now.rest.now.items) + 2 < t = omega (arith, c.decreases) in
     (fewer, (le, (c.requires.scan, (c.requires.next, (c.requires.todo, (c.requires.read, (early, s.0)))))))
 
 pub decide_at-loop-candidate-preserved : goal.decide_at-loop-candidate-preserved
@@ -120,10 +120,10 @@ decide_at-loop-candidate-preserved g t c =
     record {
       done = c.loop-candidate.invariant.done ++ x ∷ [];
       split = split ∙ sym (append_assoc c.loop-candidate.invariant.done (x ∷ []) c.next.new.self);
-      adds = adds_both c.args.scan.now.plan.now c.args.scan.now.focus c.args.scan.now.until (AreDecidedWith c.args.scan.now.plan.now c.args.scan.now.focus c.args.scan.now.history.now (entry_of c.args.scan.now.entry.now) c.args.scan.now.since c.args.scan.now.until c.args.scan.now.parent.now c.args.next.now c.args.level c.args.rest.now.items c.args.event c.loop-candidate.invariant.done)
-          (AreDecidedWith c.args.scan.now.plan.now c.args.scan.now.focus c.args.scan.now.history.now (entry_of c.args.scan.now.entry.now) c.args.scan.now.since c.args.scan.now.until c.args.scan.now.parent.now c.args.next.now c.args.level c.args.rest.now.items c.args.event (x ∷ []))
-          (AreDecidedWith c.args.scan.now.plan.now c.args.scan.now.focus c.args.scan.now.history.now (entry_of c.args.scan.now.entry.now) c.args.scan.now.since c.args.scan.now.until c.args.scan.now.parent.now c.args.next.now c.args.level c.args.rest.now.items c.args.event (c.loop-candidate.invariant.done ++ x ∷ [])) c.args.out.now.items c.loop-candidate.out.items c.decide_with.new.out.items
-          (λ one two a b. more_with c.args.scan.now.plan.now c.args.scan.now.focus c.requires.scan.proper c.args.scan.now.history.now (entry_of c.args.scan.now.entry.now) c.args.scan.now.since c.args.scan.now.until c.args.scan.now.parent.now c.args.next.now c.args.level c.args.rest.now.items c.args.event c.requires.next c.requires.todo c.loop-candidate.invariant.done x one two
+      adds = adds_both c.args.scan.now.plan.now c.args.scan.now.focus c.args.scan.now.until (AreDecidedWith c.args.scan.now.plan.now c.args.scan.now.focus c.args.scan.now.history.now (entry_of c.args.scan.now.entry.now) c.args.scan.now.since c.args.scan.now.until c.args.scan.now.parent.now c.args.next.now c.args.choice.now.level c.args.choice.now.rest.now.items c.args.choice.now.event c.loop-candidate.invariant.done)
+          (AreDecidedWith c.args.scan.now.plan.now c.args.scan.now.focus c.args.scan.now.history.now (entry_of c.args.scan.now.entry.now) c.args.scan.now.since c.args.scan.now.until c.args.scan.now.parent.now c.args.next.now c.args.choice.now.level c.args.choice.now.rest.now.items c.args.choice.now.event (x ∷ []))
+          (AreDecidedWith c.args.scan.now.plan.now c.args.scan.now.focus c.args.scan.now.history.now (entry_of c.args.scan.now.entry.now) c.args.scan.now.since c.args.scan.now.until c.args.scan.now.parent.now c.args.next.now c.args.choice.now.level c.args.choice.now.rest.now.items c.args.choice.now.event (c.loop-candidate.invariant.done ++ x ∷ [])) c.args.out.now.items c.loop-candidate.out.items c.decide_with.new.out.items
+          (λ one two a b. more_with c.args.scan.now.plan.now c.args.scan.now.focus c.requires.scan.proper c.args.scan.now.history.now (entry_of c.args.scan.now.entry.now) c.args.scan.now.since c.args.scan.now.until c.args.scan.now.parent.now c.args.next.now c.args.choice.now.level c.args.choice.now.rest.now.items c.args.choice.now.event c.requires.next c.requires.todo c.loop-candidate.invariant.done x one two
           (fresh_next c.loop-candidate.invariant.done x c.next.new.self c.candidates-candidate-items.result (sym iter ∙ split) c.candidates-candidate-items.ensures.in_order) a b)
           c.loop-candidate.invariant.adds ((c.in_ok-decide_with.ensures {u = tt}).decided);
     }
@@ -132,16 +132,16 @@ pub decide_at-returns : goal.decide_at-returns
 decide_at-returns g t c =
     let iter : c.into_iter-candidate-iterator.result ≡ c.candidates-candidate-items.result = search rules in
     let all : c.candidates-candidate-items.result ≡ c.loop-candidate.invariant.done = sym iter ∙ c.loop-candidate.invariant.split ∙ ap (λ (ys : List (Entry Sym)). c.loop-candidate.invariant.done ++ ys) c.in-None.ensures.steps.0 ∙ append-nil c.loop-candidate.invariant.done in
-    let w = last_awaited (levels_in c.args.scan.now.plan.now c.args.scan.now.focus) c.args.next.now.partial c.args.level c.args.rest.now.items c.args.event c.requires.todo in
-    let inside : c.args.event < length c.args.scan.now.plan.now.chronicle.events = (let a = w.within in let b = c.requires.next.len in omega arith) in
+    let w = last_awaited (levels_in c.args.scan.now.plan.now c.args.scan.now.focus) c.args.next.now.partial c.args.choice.now.level c.args.choice.now.rest.now.items c.args.choice.now.event c.requires.todo in
+    let inside : c.args.choice.now.event < length c.args.scan.now.plan.now.chronicle.events = (let a = w.within in let b = c.requires.next.len in omega arith) in
     record {
-      decided = adds_as c.args.scan.now.plan.now c.args.scan.now.focus c.args.scan.now.until (AreDecidedWith c.args.scan.now.plan.now c.args.scan.now.focus c.args.scan.now.history.now (entry_of c.args.scan.now.entry.now) c.args.scan.now.since c.args.scan.now.until c.args.scan.now.parent.now c.args.next.now c.args.level c.args.rest.now.items c.args.event c.loop-candidate.invariant.done)
-          (IsDecidedAt c.args.scan.now.plan.now c.args.scan.now.focus c.args.scan.now.history.now (entry_of c.args.scan.now.entry.now) c.args.scan.now.since c.args.scan.now.until c.args.scan.now.parent.now c.args.next.now c.args.level c.args.rest.now.items c.args.event) c.args.out.now.items c.loop-candidate.out.items
+      decided = adds_as c.args.scan.now.plan.now c.args.scan.now.focus c.args.scan.now.until (AreDecidedWith c.args.scan.now.plan.now c.args.scan.now.focus c.args.scan.now.history.now (entry_of c.args.scan.now.entry.now) c.args.scan.now.since c.args.scan.now.until c.args.scan.now.parent.now c.args.next.now c.args.choice.now.level c.args.choice.now.rest.now.items c.args.choice.now.event c.loop-candidate.invariant.done)
+          (IsDecidedAt c.args.scan.now.plan.now c.args.scan.now.focus c.args.scan.now.history.now (entry_of c.args.scan.now.entry.now) c.args.scan.now.since c.args.scan.now.until c.args.scan.now.parent.now c.args.next.now c.args.choice.now.level c.args.choice.now.rest.now.items c.args.choice.now.event) c.args.out.now.items c.loop-candidate.out.items
           (λ more are. record {
             ys = c.loop-candidate.invariant.done;
-            enough = λ pool entries now way. enough_at c.args.scan.now.plan.now c.args.scan.now.focus c.requires.scan.proper c.args.scan.now.history.now (entry_of c.args.scan.now.entry.now) c.args.scan.now.since c.args.scan.now.until c.args.scan.now.parent.now c.args.next.now c.args.level c.args.rest.now.items c.args.event c.requires.next c.requires.todo c.requires.read pool entries now way
-                c.loop-candidate.invariant.done (get_or c.as_slice.result.now c.args.event c.index-as_slice-event.result).pattern.name (named_as c.args.scan.now.plan.now c.args.event c.as_slice.result.now c.as_slice.ensures inside c.index-as_slice-event.result)
-                (λ y i h. subst (IsIn y) all (c.candidates-candidate-items.ensures.up_to_last (c.requires.scan.last c.requires.read) y i (subst (λ w. IsHeldFor c.args.scan.now.history.now.floor (get_or c.as_slice.result.now c.args.event c.index-as_slice-event.result).pattern.name w y) (sym c.date_window.ensures) h)));
+            enough = λ pool entries now way. enough_at c.args.scan.now.plan.now c.args.scan.now.focus c.requires.scan.proper c.args.scan.now.history.now (entry_of c.args.scan.now.entry.now) c.args.scan.now.since c.args.scan.now.until c.args.scan.now.parent.now c.args.next.now c.args.choice.now.level c.args.choice.now.rest.now.items c.args.choice.now.event c.requires.next c.requires.todo c.requires.read pool entries now way
+                c.loop-candidate.invariant.done (get_or c.as_slice.result.now c.args.choice.now.event c.index-as_slice-event.result).pattern.name (named_as c.args.scan.now.plan.now c.args.choice.now.event c.as_slice.result.now c.as_slice.ensures inside c.index-as_slice-event.result)
+                (λ y i h. subst (IsIn y) all (c.candidates-candidate-items.ensures.up_to_last (c.requires.scan.last c.requires.read) y i (subst (λ w. IsHeldFor c.args.scan.now.history.now.floor (get_or c.as_slice.result.now c.args.choice.now.event c.index-as_slice-event.result).pattern.name w y) (sym c.date_window.ensures) h)));
             decided = are;
           }) c.loop-candidate.invariant.adds;
     }
@@ -180,41 +180,41 @@ decide_higher-decide-requires g t c = λ κs le.
 
 pub decide_with-fork-requires-clause-event : goal.decide_with-fork-requires-clause-event
 decide_with-fork-requires-clause-event g t c =
-    let w = last_awaited (levels_in c.args.scan.now.plan.now c.args.scan.now.focus) c.args.next.now.partial c.args.level c.args.rest.now.items c.args.event c.requires.todo in
+    let w = last_awaited (levels_in c.args.scan.now.plan.now c.args.scan.now.focus) c.args.next.now.partial c.args.choice.now.level c.args.choice.now.rest.now.items c.args.choice.now.event c.requires.todo in
     let a = w.within in
     let b = c.requires.next.len in omega arith
 
 pub decide_with-fork-requires-clause-unbound : goal.decide_with-fork-requires-clause-unbound
-decide_with-fork-requires-clause-unbound g t c = (last_awaited (levels_in c.args.scan.now.plan.now c.args.scan.now.focus) c.args.next.now.partial c.args.level c.args.rest.now.items c.args.event c.requires.todo).unbound
+decide_with-fork-requires-clause-unbound g t c = (last_awaited (levels_in c.args.scan.now.plan.now c.args.scan.now.focus) c.args.next.now.partial c.args.choice.now.level c.args.choice.now.rest.now.items c.args.choice.now.event c.requires.todo).unbound
 
 pub decide_with-returns-in_default : goal.decide_with-returns-in_default
 decide_with-returns-in_default g t c =
     let is : c.in_ok-fork.field-0 ≡ None = search rules in
-    let none : IsForked c.args.scan.now.plan.now c.args.next.now c.args.event (entry_of c.args.candidate.now.value) None = subst (λ (o : Option InstanceState). IsForked c.args.scan.now.plan.now c.args.next.now c.args.event (entry_of c.args.candidate.now.value) o) is ((c.in_ok-fork.ensures {u = tt}).fork) in
+    let none : IsForked c.args.scan.now.plan.now c.args.next.now c.args.choice.now.event (entry_of c.args.candidate.now.value) None = subst (λ (o : Option InstanceState). IsForked c.args.scan.now.plan.now c.args.next.now c.args.choice.now.event (entry_of c.args.candidate.now.value) o) is ((c.in_ok-fork.ensures {u = tt}).fork) in
     record {
-      decided = adds_none c.args.scan.now.plan.now c.args.scan.now.focus c.args.scan.now.until (AreDecidedWith c.args.scan.now.plan.now c.args.scan.now.focus c.args.scan.now.history.now (entry_of c.args.scan.now.entry.now) c.args.scan.now.since c.args.scan.now.until c.args.scan.now.parent.now c.args.next.now c.args.level c.args.rest.now.items c.args.event (entry_of c.args.candidate.now.value ∷ [])) c.args.out.now.items
-          (unbound_with c.args.scan.now.plan.now c.args.scan.now.focus c.requires.scan.proper c.args.scan.now.history.now (entry_of c.args.scan.now.entry.now) c.args.scan.now.since c.args.scan.now.until c.args.scan.now.parent.now c.args.next.now c.args.level c.args.rest.now.items c.args.event c.requires.next c.requires.todo (entry_of c.args.candidate.now.value) none);
+      decided = adds_none c.args.scan.now.plan.now c.args.scan.now.focus c.args.scan.now.until (AreDecidedWith c.args.scan.now.plan.now c.args.scan.now.focus c.args.scan.now.history.now (entry_of c.args.scan.now.entry.now) c.args.scan.now.since c.args.scan.now.until c.args.scan.now.parent.now c.args.next.now c.args.choice.now.level c.args.choice.now.rest.now.items c.args.choice.now.event (entry_of c.args.candidate.now.value ∷ [])) c.args.out.now.items
+          (unbound_with c.args.scan.now.plan.now c.args.scan.now.focus c.requires.scan.proper c.args.scan.now.history.now (entry_of c.args.scan.now.entry.now) c.args.scan.now.since c.args.scan.now.until c.args.scan.now.parent.now c.args.next.now c.args.choice.now.level c.args.choice.now.rest.now.items c.args.choice.now.event c.requires.next c.requires.todo (entry_of c.args.candidate.now.value) none);
     }
 
 pub decide_with-decide-requires : goal.decide_with-decide-requires
 decide_with-decide-requires g t c = λ κs le.
     let is : c.in_ok-fork.field-0 ≡ Some c.in-Some.fork = search rules in
-    let some : IsForked c.args.scan.now.plan.now c.args.next.now c.args.event (entry_of c.args.candidate.now.value) (Some c.in-Some.fork) = subst (λ (o : Option InstanceState). IsForked c.args.scan.now.plan.now c.args.next.now c.args.event (entry_of c.args.candidate.now.value) o) is ((c.in_ok-fork.ensures {u = tt}).fork) in
-    let items : c.in_ok-todo.todo.items ≡ c.args.rest.now.items = search rules in
-    let todo : AreToDecide (levels_in c.args.scan.now.plan.now c.args.scan.now.focus) c.in-Some.fork.partial c.args.level c.in_ok-todo.todo.items = subst (AreToDecide (levels_in c.args.scan.now.plan.now c.args.scan.now.focus) c.in-Some.fork.partial c.args.level) (sym items) (bound_to_decide (levels_in c.args.scan.now.plan.now c.args.scan.now.focus) c.args.next.now.partial c.args.level c.args.rest.now.items c.args.event c.requires.todo c.in-Some.fork.partial (entry_of c.args.candidate.now.value) some.1) in
-    let fewer : 4 * ((256 - c.args.level) * 17 + length c.in_ok-todo.todo.items) + 1 < t = omega (arith, c.decreases, ap length items) in
+    let some : IsForked c.args.scan.now.plan.now c.args.next.now c.args.choice.now.event (entry_of c.args.candidate.now.value) (Some c.in-Some.fork) = subst (λ (o : Option InstanceState). IsForked c.args.scan.now.plan.now c.args.next.now c.args.choice.now.event (entry_of c.args.candidate.now.value) o) is ((c.in_ok-fork.ensures {u = tt}).fork) in
+    let items : c.in_ok-todo.todo.items ≡ c.args.choice.now.rest.now.items = search rules in
+    let todo : AreToDecide (levels_in c.args.scan.now.plan.now c.args.scan.now.focus) c.in-Some.fork.partial c.args.choice.now.level c.in_ok-todo.todo.items = subst (AreToDecide (levels_in c.args.scan.now.plan.now c.args.scan.now.focus) c.in-Some.fork.partial c.args.choice.now.level) (sym items) (bound_to_decide (levels_in c.args.scan.now.plan.now c.args.scan.now.focus) c.args.next.now.partial c.args.choice.now.level c.args.choice.now.rest.now.items c.args.choice.now.event c.requires.todo c.in-Some.fork.partial (entry_of c.args.candidate.now.value) some.1) in
+    let fewer : 4 * ((256 - c.args.choice.now.level) * 17 + length c.in_ok-todo.todo.items) + 1 < t = omega (arith, c.decreases, ap length items) in
     (fewer, (le, (c.requires.scan, (some.0, (todo, λ flat. absurd (no_both c.args.scan.now.focus c.requires.read flat))))))
 
 pub decide_with-returns : goal.decide_with-returns
 decide_with-returns g t c =
     let is : c.in_ok-fork.field-0 ≡ Some c.in-Some.fork = search rules in
-    let some : IsForked c.args.scan.now.plan.now c.args.next.now c.args.event (entry_of c.args.candidate.now.value) (Some c.in-Some.fork) = subst (λ (o : Option InstanceState). IsForked c.args.scan.now.plan.now c.args.next.now c.args.event (entry_of c.args.candidate.now.value) o) is ((c.in_ok-fork.ensures {u = tt}).fork) in
-    let items : c.in_ok-todo.todo.items ≡ c.args.rest.now.items = search rules in
+    let some : IsForked c.args.scan.now.plan.now c.args.next.now c.args.choice.now.event (entry_of c.args.candidate.now.value) (Some c.in-Some.fork) = subst (λ (o : Option InstanceState). IsForked c.args.scan.now.plan.now c.args.next.now c.args.choice.now.event (entry_of c.args.candidate.now.value) o) is ((c.in_ok-fork.ensures {u = tt}).fork) in
+    let items : c.in_ok-todo.todo.items ≡ c.args.choice.now.rest.now.items = search rules in
     record {
       decided = on_ok_weaker c.decide.result
-          (adds_as c.args.scan.now.plan.now c.args.scan.now.focus c.args.scan.now.until (IsDecided c.args.scan.now.plan.now c.args.scan.now.focus c.args.scan.now.history.now (entry_of c.args.scan.now.entry.now) c.args.scan.now.since c.args.scan.now.until c.args.scan.now.parent.now c.in-Some.fork c.args.level c.in_ok-todo.todo.items) (AreDecidedWith c.args.scan.now.plan.now c.args.scan.now.focus c.args.scan.now.history.now (entry_of c.args.scan.now.entry.now) c.args.scan.now.since c.args.scan.now.until c.args.scan.now.parent.now c.args.next.now c.args.level c.args.rest.now.items c.args.event (entry_of c.args.candidate.now.value ∷ [])) c.args.out.now.items c.decide.new.out.items
-          (λ more decided. bound_with c.args.scan.now.plan.now c.args.scan.now.focus c.requires.scan.proper c.args.scan.now.history.now (entry_of c.args.scan.now.entry.now) c.args.scan.now.since c.args.scan.now.until c.args.scan.now.parent.now c.args.next.now c.args.level c.args.rest.now.items c.args.event c.requires.next c.requires.todo (entry_of c.args.candidate.now.value) c.in-Some.fork more
+          (adds_as c.args.scan.now.plan.now c.args.scan.now.focus c.args.scan.now.until (IsDecided c.args.scan.now.plan.now c.args.scan.now.focus c.args.scan.now.history.now (entry_of c.args.scan.now.entry.now) c.args.scan.now.since c.args.scan.now.until c.args.scan.now.parent.now c.in-Some.fork c.args.choice.now.level c.in_ok-todo.todo.items) (AreDecidedWith c.args.scan.now.plan.now c.args.scan.now.focus c.args.scan.now.history.now (entry_of c.args.scan.now.entry.now) c.args.scan.now.since c.args.scan.now.until c.args.scan.now.parent.now c.args.next.now c.args.choice.now.level c.args.choice.now.rest.now.items c.args.choice.now.event (entry_of c.args.candidate.now.value ∷ [])) c.args.out.now.items c.decide.new.out.items
+          (λ more decided. bound_with c.args.scan.now.plan.now c.args.scan.now.focus c.requires.scan.proper c.args.scan.now.history.now (entry_of c.args.scan.now.entry.now) c.args.scan.now.since c.args.scan.now.until c.args.scan.now.parent.now c.args.next.now c.args.choice.now.level c.args.choice.now.rest.now.items c.args.choice.now.event c.requires.next c.requires.todo (entry_of c.args.candidate.now.value) c.in-Some.fork more
           (λ pool entries now. now.inside (entry_of c.args.candidate.now.value) ((sifted_in (IsKept entries c.args.scan.now.history.now.floor) entries c.args.scan.now.history.now.entries (entry_of c.args.candidate.now.value) now.read.kept c.requires.held).0)) some.1
-          (subst (λ (ts : List ℕ). IsDecided c.args.scan.now.plan.now c.args.scan.now.focus c.args.scan.now.history.now (entry_of c.args.scan.now.entry.now) c.args.scan.now.since c.args.scan.now.until c.args.scan.now.parent.now c.in-Some.fork c.args.level ts more) items decided)))
+          (subst (λ (ts : List ℕ). IsDecided c.args.scan.now.plan.now c.args.scan.now.focus c.args.scan.now.history.now (entry_of c.args.scan.now.entry.now) c.args.scan.now.since c.args.scan.now.until c.args.scan.now.parent.now c.in-Some.fork c.args.choice.now.level ts more) items decided)))
           c.decide.ensures.decided;
     }
