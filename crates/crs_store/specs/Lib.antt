@@ -7,6 +7,7 @@ pub mod Hooks
 pub mod Slots
 pub mod Links
 pub mod Sweeps
+pub mod Judgings
 pub mod Answers
 pub mod Charts
 pub mod Dues

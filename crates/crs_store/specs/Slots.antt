@@ -78,11 +78,3 @@ pub record Changes (R : InstanceState → InstanceState → Type 0) (Able : Inst
   pub others : (q : ℕ) → q ≢ p → slot_at new q ≡ slot_at old q
   pub handles : (q : ℕ) (j : InstanceState) → slot_at new q ≡ Some j → handle_at new q ≡ handle_at old q
   pub places : length new.slots ≡ length old.slots
-
--- as the entry is settled, and the dates up to its date pass
-abbrev pub FollowsAt : Plan → Bool → HistoryState → Entry Sym → ℕ → SlotsState → SlotsState → ℕ → Type 0
-FollowsAt plan focus history x since old new p = Changes (IsFollowed plan history x since) (IsAble plan focus x.date) old new p
-
--- as the dates up to h pass
-abbrev pub PassesAt : Plan → Bool → HistoryState → ℕ → ℕ → SlotsState → SlotsState → ℕ → Type 0
-PassesAt plan focus history since h old new p = Changes (IsPassed plan history since h) (IsAble plan focus h) old new p

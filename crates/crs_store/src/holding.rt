@@ -15,6 +15,7 @@ ghost use Rattle.crs_store.specs.Windows.{IsAble, IsFollowed, IsPassed};
 use crate::chart::Chart;
 use crate::dues::{collect_due, put_dues};
 use crate::hope::is_hopeful;
+use crate::judging::{Judging, Passing};
 use crate::linking::{arm_windows, link_events, link_places};
 use crate::links::note_touched;
 use crate::places::sort_places;
@@ -127,7 +128,12 @@ pub(crate) fn hold(
     ensures tidy { OnOk result (IsTidyHolding chart.now.plan chart.now.focus chart.now.hooks holding.new h) }
     ensures comes { OnOk result (ComesTo instance (members holding.old.slots.slots) (members holding.new.slots.slots)) }
 {
-    let done = is_done(chart.plan(), &instance, h);
+    let judging = Judging {
+        plan: chart.plan(),
+        focus: chart.focus(),
+        h,
+    };
+    let done = is_done(&judging, &instance);
     let place = holding.slots.put(instance)?;
     if done {
         holding.ripe.push(place)?;
@@ -207,7 +213,12 @@ fn settle_places(
         chart.linked_by(since),
         chart.linked_by(h),
     )?;
-    note_ripe(chart.plan(), &holding.slots, places, h, &mut holding.ripe)?;
+    let judging = Judging {
+        plan: chart.plan(),
+        focus: chart.focus(),
+        h,
+    };
+    note_ripe(&judging, &holding.slots, places, &mut holding.ripe)?;
     Ok(())
 }
 
@@ -239,15 +250,16 @@ pub(crate) fn follow(
     }
     sort_places(places);
     let places = places.as_slice();
-    follow_places(
-        plan,
-        chart.focus(),
-        &mut holding.slots,
-        places,
-        entry,
+    let passing = Passing {
+        judging: Judging {
+            plan,
+            focus: chart.focus(),
+            h: entry.date,
+        },
         history,
         since,
-    );
+    };
+    follow_places(&passing, &mut holding.slots, places, entry);
     settle_places(holding, chart, places, since, entry.date)?;
     Ok(())
 }
@@ -277,15 +289,16 @@ pub(crate) fn pass(
     }
     sort_places(places);
     let places = places.as_slice();
-    pass_places(
-        plan,
-        chart.focus(),
-        &mut holding.slots,
-        places,
+    let passing = Passing {
+        judging: Judging {
+            plan,
+            focus: chart.focus(),
+            h,
+        },
         history,
         since,
-        h,
-    );
+    };
+    pass_places(&passing, &mut holding.slots, places);
     settle_places(holding, chart, places, since, h)?;
     Ok(())
 }

@@ -3,8 +3,10 @@ ghost use Rattle.std.specs.Prelude.{◌<◌, ◌≤◌, ◌^◌, ◌↔◌, IsTr
 ghost use Rattle.crs_instance.specs.Instances.{IsOf};
 ghost use Rattle.crs_model.specs.Partial.{CanGoOn, IsAwaited};
 ghost use Rattle.crs_model.specs.Plans.{chronicle, IsProper};
+ghost use Rattle.crs_store.specs.Judgings.{IsJudging};
 ghost use Rattle.crs_store.specs.PlanLevels.{levels_in, IsLastOf, IsLevelAbove, IsNoLevelAbove, AreAwaited};
 
+use crate::judging::Judging;
 use crs_focus::{current_level, level_of};
 use crs_instance::Instance;
 use crs_model::Plan;
@@ -45,15 +47,14 @@ pub(crate) fn last_date(plan: &Plan, focus: bool, instance: &Instance) -> Option
 }
 
 /// Whether dates that meet the bounds exist with each awaited event at or after the date `h`.
-pub(crate) fn can_go_on(plan: &Plan, focus: bool, instance: &Instance, h: u64) -> bool
-    requires proper { IsProper plan.now }
-    requires of { IsOf plan.now instance.now }
-    requires small { h ≤ 2 ^ 42 }
-    ensures { IsTrue result ↔ CanGoOn (chronicle plan.now) (levels_in plan.now focus) instance.now.partial h }
+pub(crate) fn can_go_on(judging: &Judging<'_>, instance: &Instance) -> bool
+    requires judging { IsJudging judging.now }
+    requires of { IsOf judging.now.plan.now instance.now }
+    ensures { IsTrue result ↔ CanGoOn (chronicle judging.now.plan.now) (levels_in judging.now.plan.now judging.now.focus) instance.now.partial judging.now.h }
 {
-    match last_date(plan, focus, instance) {
+    match last_date(judging.plan, judging.focus, instance) {
         None => true,
-        Some(last) => h as i64 <= last,
+        Some(last) => judging.h as i64 <= last,
     }
 }
 

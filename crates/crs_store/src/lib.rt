@@ -7,6 +7,7 @@ mod dues;
 mod holding;
 mod hooks;
 mod hope;
+mod judging;
 mod levels;
 mod linking;
 mod links;

@@ -8,6 +8,7 @@ ghost use Rattle.crs_store.specs.PlanLevels.{levels_in, AreToDecide};
 ghost use Rattle.crs_store.specs.Scans.{IsScan};
 ghost use Rattle.crs_store.specs.Scannings.{Adds, IsKeptIfAble, IsDecided, IsDecidedAt, AreDecidedWith};
 
+use crate::judging::{Judging, Passing};
 use crate::levels::{awaited_events, next_level};
 use crate::windows::{begin_windows, go_on_to, is_able};
 use crs_base::{Entry, Steps};
@@ -52,9 +53,18 @@ fn keep_if_able(
     requires next { IsOf scan.now.plan.now next }
     ensures { OnOk result (Adds scan.now.plan.now scan.now.focus scan.now.until (IsKeptIfAble scan.now.plan.now scan.now.focus scan.now.history.now (entry_of scan.now.entry.now) scan.now.since scan.now.until scan.now.parent.now next) out.old.items out.new.items) }
 {
-    begin_windows(scan.plan, scan.parent, &mut next, scan.history, scan.since);
-    go_on_to(scan.plan, &mut next, scan.history, scan.since, scan.until);
-    if is_able(scan.plan, scan.focus, &next, scan.until) {
+    let passing = Passing {
+        judging: Judging {
+            plan: scan.plan,
+            focus: scan.focus,
+            h: scan.until,
+        },
+        history: scan.history,
+        since: scan.since,
+    };
+    begin_windows(&passing, scan.parent, &mut next);
+    go_on_to(&passing, &mut next);
+    if is_able(&passing.judging, &next) {
         out.push(next)?;
     }
     Ok(())

@@ -3,16 +3,14 @@ ghost use Rattle.std.specs.Prelude.{◌≡◌, ◌≢◌, ◌≤◌, ◌<◌, �
 ghost use Rattle.std.specs.Option.{option_copied};
 ghost use Rattle.crs_base.specs.Seen.{entry_of};
 ghost use Rattle.crs_instance.specs.Instances.{IsOf};
-ghost use Rattle.crs_model.specs.Plans.{IsProper};
-ghost use Rattle.crs_store.specs.Windows.{IsAble, IsFollowed, IsPassed};
-ghost use Rattle.crs_store.specs.Slots.{slot_at, handle_at, members, Becomes, WentOrStayed, Opens, Puts, Removes, FollowsAt, PassesAt};
+ghost use Rattle.crs_store.specs.Judgings.{IsPassing, IsAbleBy, IsPassedBy, IsFollowedBy};
+ghost use Rattle.crs_store.specs.Slots.{slot_at, handle_at, members, Becomes, WentOrStayed, Opens, Puts, Removes, Changes};
 
+use crate::judging::Passing;
 use crate::windows::{follow, go_on_to, is_able};
 use crs_agenda::Handle;
 use crs_base::Entry;
-use crs_history::History;
 use crs_instance::Instance;
-use crs_model::Plan;
 use std::alloc::{AllocError, Global};
 use std::marker::Model;
 
@@ -51,54 +49,37 @@ fn raise(serials: &mut Vec<u32>, spare: &mut Vec<u32>, place: u32)
 
 /// Settles the entry in the windows of the instance, if there is one, and passes the dates up to
 /// the entry's. Whether it went, as it can't be recognised any more then.
-fn follow_slot(
-    slot: &mut Option<Instance>,
-    plan: &Plan,
-    focus: bool,
-    entry: &Entry,
-    history: &History,
-    since: u64,
-) -> bool
-    requires proper { IsProper plan.now }
-    requires of { IfSome slot.old (IsOf plan.now) }
-    requires since { since ≤ 2 ^ 42 }
-    requires date { entry.now.date < 2 ^ 40 }
-    ensures became { Becomes (IsFollowed plan.now history.now (entry_of entry.now) since) (IsAble plan.now focus entry.now.date) slot.old slot.new }
+fn follow_slot(slot: &mut Option<Instance>, passing: &Passing<'_>, entry: &Entry) -> bool
+    requires passing { IsPassing passing.now }
+    requires of { IfSome slot.old (IsOf passing.now.judging.plan.now) }
+    requires at { passing.now.judging.h ≡ entry.now.date }
+    ensures became { Becomes (IsFollowedBy passing.now (entry_of entry.now)) (IsAbleBy passing.now.judging) slot.old slot.new }
     ensures gone { WentOrStayed slot.old slot.new result }
 {
     let Some(instance) = slot else {
         return false;
     };
-    follow(plan, instance, entry, history, since);
-    if is_able(plan, focus, instance, entry.date) {
+    follow(passing, instance, entry);
+    if is_able(&passing.judging, instance) {
         return false;
     }
     *slot = None;
     true
 }
 
-/// Passes the dates up to h in the windows of the instance, if there is one. Whether it went, as
+/// Passes the dates in the windows of the instance, if there is one. Whether it went, as
 /// it can't be recognised any more then.
-fn pass_slot(
-    slot: &mut Option<Instance>,
-    plan: &Plan,
-    focus: bool,
-    history: &History,
-    since: u64,
-    h: u64,
-) -> bool
-    requires proper { IsProper plan.now }
-    requires of { IfSome slot.old (IsOf plan.now) }
-    requires since { since ≤ 2 ^ 42 }
-    requires small { h ≤ 2 ^ 42 }
-    ensures became { Becomes (IsPassed plan.now history.now since h) (IsAble plan.now focus h) slot.old slot.new }
+fn pass_slot(slot: &mut Option<Instance>, passing: &Passing<'_>) -> bool
+    requires passing { IsPassing passing.now }
+    requires of { IfSome slot.old (IsOf passing.now.judging.plan.now) }
+    ensures became { Becomes (IsPassedBy passing.now) (IsAbleBy passing.now.judging) slot.old slot.new }
     ensures gone { WentOrStayed slot.old slot.new result }
 {
     let Some(instance) = slot else {
         return false;
     };
-    go_on_to(plan, instance, history, since, h);
-    if is_able(plan, focus, instance, h) {
+    go_on_to(passing, instance);
+    if is_able(&passing.judging, instance) {
         return false;
     }
     *slot = None;
@@ -229,53 +210,34 @@ impl Slots {
 
     /// Settles the entry in the windows of what stands in the place, and passes the dates up to
     /// its date. What can't be recognised any more then goes.
-    pub(crate) fn follow_at(
-        &mut self,
-        plan: &Plan,
-        focus: bool,
-        place: u32,
-        entry: &Entry,
-        history: &History,
-        since: u64,
-    )
-        requires proper { IsProper plan.now }
-        requires of { IfSome (slot_at self.old place) (IsOf plan.now) }
-        requires since { since ≤ 2 ^ 42 }
-        requires date { entry.now.date < 2 ^ 40 }
-        ensures { FollowsAt plan.now focus history.now (entry_of entry.now) since self.old self.new place }
+    pub(crate) fn follow_at(&mut self, passing: &Passing<'_>, place: u32, entry: &Entry)
+        requires passing { IsPassing passing.now }
+        requires of { IfSome (slot_at self.old place) (IsOf passing.now.judging.plan.now) }
+        requires at { passing.now.judging.h ≡ entry.now.date }
+        ensures { Changes (IsFollowedBy passing.now (entry_of entry.now)) (IsAbleBy passing.now.judging) self.old self.new place }
     {
         let at = place as usize;
         if at >= self.slots.len() {
             return;
         }
-        if follow_slot(&mut self.slots[at], plan, focus, entry, history, since) {
+        if follow_slot(&mut self.slots[at], passing, entry) {
             self.count -= 1;
             raise(&mut self.serials, &mut self.spare, place);
         }
     }
 
-    /// Passes the dates up to h in the windows of what stands in the place. What can't be
+    /// Passes the dates in the windows of what stands in the place. What can't be
     /// recognised any more then goes.
-    pub(crate) fn pass_at(
-        &mut self,
-        plan: &Plan,
-        focus: bool,
-        place: u32,
-        history: &History,
-        since: u64,
-        h: u64,
-    )
-        requires proper { IsProper plan.now }
-        requires of { IfSome (slot_at self.old place) (IsOf plan.now) }
-        requires since { since ≤ 2 ^ 42 }
-        requires small { h ≤ 2 ^ 42 }
-        ensures { PassesAt plan.now focus history.now since h self.old self.new place }
+    pub(crate) fn pass_at(&mut self, passing: &Passing<'_>, place: u32)
+        requires passing { IsPassing passing.now }
+        requires of { IfSome (slot_at self.old place) (IsOf passing.now.judging.plan.now) }
+        ensures { Changes (IsPassedBy passing.now) (IsAbleBy passing.now.judging) self.old self.new place }
     {
         let at = place as usize;
         if at >= self.slots.len() {
             return;
         }
-        if pass_slot(&mut self.slots[at], plan, focus, history, since, h) {
+        if pass_slot(&mut self.slots[at], passing) {
             self.count -= 1;
             raise(&mut self.serials, &mut self.spare, place);
         }

@@ -18,6 +18,7 @@ use crate::candidates::forks;
 use crate::chart::Chart;
 use crate::holding::{Holding, follow, hold, hold_all, no_holding, pass};
 use crate::hooks::Hooks;
+use crate::judging::Judging;
 use crate::moment::{Arrival, Horizon, Moment, PromptMoment};
 use crate::order::put_in_order;
 use crate::refused::StoreRefused;
@@ -180,12 +181,16 @@ fn move_on(
         focus: to.focus,
     };
     pass(holding, &chart, to.history, to.since, to.h, places)?;
+    let judging = Judging {
+        plan: to.plan,
+        focus: to.focus,
+        h: to.h,
+    };
     let mut found = take_ripe(
         to.alloc,
-        to.plan,
+        &judging,
         &mut holding.slots,
         &mut holding.ripe,
-        to.h,
         to.number,
         to.mark,
     )?;

@@ -1,29 +1,29 @@
 ghost use Rattle.std.specs.Prelude.{◌≡◌, ◌<◌, ◌≤◌, ◌^◌, ◌↔◌, ◌⊎◌, length, IsTrue, true, false};
 ghost use Rattle.crs_base.specs.Seen.{entry_of};
-ghost use Rattle.crs_model.specs.Plans.{chronicle, IsProper};
+ghost use Rattle.crs_model.specs.Plans.{chronicle};
 ghost use Rattle.crs_instance.specs.Instances.{IsOf, progress_at};
-ghost use Rattle.crs_store.specs.Windows.{Settles, Passes, Begins, IsFollowed, IsPassed, IsBegun, IsAble, IsMetAt};
-ghost use Rattle.crs_store.specs.Sweeps.{IsDone};
+ghost use Rattle.crs_store.specs.Windows.{Settles, Passes, Begins, IsBegun};
+ghost use Rattle.crs_store.specs.Judgings.{IsJudging, IsPassing, IsAbleBy, IsDoneBy, IsPassedBy, IsFollowedBy};
 ghost use Rattle.crs_store.specs.JudgedWindows.{AreStepped, IsJudged, IsLostNowhere, IsMetTo};
 
+use crate::judging::{Judging, Passing};
 use crate::levels::can_go_on;
 use crs_base::Entry;
-use crs_history::History;
 use crs_instance::Instance;
-use crs_model::{Plan, Progress, Verdict};
+use crs_model::{Progress, Verdict};
 use crs_watch::{begin, judge, pass, settle};
 
 /// The progress of a window once the entry is settled too.
-fn settled(plan: &Plan, instance: &Instance, k: u8, entry: &Entry) -> Progress
-    requires proper { IsProper plan.now }
-    requires of { IsOf plan.now instance.now }
-    requires window { k < length plan.now.chronicle.windows }
-    ensures { Settles plan.now (entry_of entry.now) instance.now.partial instance.now.binding k (progress_at instance.now.progress k) result }
+fn settled(judging: &Judging<'_>, instance: &Instance, k: u8, entry: &Entry) -> Progress
+    requires judging { IsJudging judging.now }
+    requires of { IsOf judging.now.plan.now instance.now }
+    requires window { k < length judging.now.plan.now.chronicle.windows }
+    ensures { Settles judging.now.plan.now (entry_of entry.now) instance.now.partial instance.now.binding k (progress_at instance.now.progress k) result }
 {
-    let Some(stretch) = instance.stretch(plan, k) else {
+    let Some(stretch) = instance.stretch(judging.plan, k) else {
         return instance.progress(k);
     };
-    let window = &plan.chronicle.windows.as_slice()[k as usize];
+    let window = &judging.plan.chronicle.windows.as_slice()[k as usize];
     settle(
         window,
         instance.binding(),
@@ -34,159 +34,129 @@ fn settled(plan: &Plan, instance: &Instance, k: u8, entry: &Entry) -> Progress
 }
 
 /// The progress of a window at h, from that at an earlier date.
-fn passed(
-    plan: &Plan,
-    instance: &Instance,
-    k: u8,
-    history: &History,
-    since: u64,
-    h: u64,
-) -> Progress
-    requires proper { IsProper plan.now }
-    requires of { IsOf plan.now instance.now }
-    requires window { k < length plan.now.chronicle.windows }
-    requires since { since ≤ 2 ^ 42 }
-    requires small { h ≤ 2 ^ 42 }
-    ensures { Passes plan.now history.now since h instance.now.partial instance.now.binding k (progress_at instance.now.progress k) result }
+fn passed(passing: &Passing<'_>, instance: &Instance, k: u8) -> Progress
+    requires passing { IsPassing passing.now }
+    requires of { IsOf passing.now.judging.plan.now instance.now }
+    requires window { k < length passing.now.judging.plan.now.chronicle.windows }
+    ensures { Passes passing.now.judging.plan.now passing.now.history.now passing.now.since passing.now.judging.h instance.now.partial instance.now.binding k (progress_at instance.now.progress k) result }
 {
-    let Some(stretch) = instance.stretch(plan, k) else {
+    let Some(stretch) = instance.stretch(passing.judging.plan, k) else {
         return instance.progress(k);
     };
-    let window = &plan.chronicle.windows.as_slice()[k as usize];
+    let window = &passing.judging.plan.chronicle.windows.as_slice()[k as usize];
     pass(
         window,
         instance.binding(),
         stretch,
         instance.progress(k),
-        history,
-        since as i64,
-        h as i64,
+        passing.history,
+        passing.since as i64,
+        passing.judging.h as i64,
     )
 }
 
-/// The progress at h of a window, for an instance that has more than its parent.
-fn begun(
-    plan: &Plan,
-    parent: &Instance,
-    fork: &Instance,
-    k: u8,
-    history: &History,
-    h: u64,
-) -> Progress
-    requires proper { IsProper plan.now }
-    requires of { IsOf plan.now parent.now }
-    requires fork { IsOf plan.now fork.now }
-    requires window { k < length plan.now.chronicle.windows }
-    requires small { h ≤ 2 ^ 42 }
-    ensures { Begins plan.now history.now h parent.now fork.now k result }
+/// The progress of a window at the date before the passing, for an instance that has more than its
+/// parent.
+fn begun(passing: &Passing<'_>, parent: &Instance, fork: &Instance, k: u8) -> Progress
+    requires passing { IsPassing passing.now }
+    requires of { IsOf passing.now.judging.plan.now parent.now }
+    requires fork { IsOf passing.now.judging.plan.now fork.now }
+    requires window { k < length passing.now.judging.plan.now.chronicle.windows }
+    ensures { Begins passing.now.judging.plan.now passing.now.history.now passing.now.since parent.now fork.now k result }
 {
-    if parent.stretch(plan, k).is_some() {
+    if parent.stretch(passing.judging.plan, k).is_some() {
         return parent.progress(k);
     }
-    let Some(stretch) = fork.stretch(plan, k) else {
+    let Some(stretch) = fork.stretch(passing.judging.plan, k) else {
         return parent.progress(k);
     };
-    let window = &plan.chronicle.windows.as_slice()[k as usize];
-    begin(window, fork.binding(), stretch, history, h as i64)
+    let window = &passing.judging.plan.chronicle.windows.as_slice()[k as usize];
+    begin(
+        window,
+        fork.binding(),
+        stretch,
+        passing.history,
+        passing.since as i64,
+    )
 }
 
 /// Settles the entry in each window.
-fn settle_windows(plan: &Plan, instance: &mut Instance, entry: &Entry)
-    requires proper { IsProper plan.now }
-    requires of { IsOf plan.now instance.old }
-    ensures { AreStepped (λ k q. Settles plan.now (entry_of entry.now) instance.old.partial instance.old.binding k (progress_at instance.old.progress k) q) (length plan.now.chronicle.windows) instance.old instance.new }
+fn settle_windows(judging: &Judging<'_>, instance: &mut Instance, entry: &Entry)
+    requires judging { IsJudging judging.now }
+    requires of { IsOf judging.now.plan.now instance.old }
+    ensures { AreStepped (λ k q. Settles judging.now.plan.now (entry_of entry.now) instance.old.partial instance.old.binding k (progress_at instance.old.progress k) q) (length judging.now.plan.now.chronicle.windows) instance.old instance.new }
 {
-    for k in 0..plan.chronicle.windows.len() as u8 {
-        let progress = settled(plan, instance, k, entry);
+    for k in 0..judging.plan.chronicle.windows.len() as u8 {
+        let progress = settled(judging, instance, k, entry);
         instance.set_progress(k, progress);
     }
 }
 
-/// Passes the dates up to h in each window.
-fn pass_windows(plan: &Plan, instance: &mut Instance, history: &History, since: u64, h: u64)
-    requires proper { IsProper plan.now }
-    requires of { IsOf plan.now instance.old }
-    requires since { since ≤ 2 ^ 42 }
-    requires small { h ≤ 2 ^ 42 }
-    ensures { AreStepped (λ k q. Passes plan.now history.now since h instance.old.partial instance.old.binding k (progress_at instance.old.progress k) q) (length plan.now.chronicle.windows) instance.old instance.new }
+/// Passes the dates in each window.
+fn pass_windows(passing: &Passing<'_>, instance: &mut Instance)
+    requires passing { IsPassing passing.now }
+    requires of { IsOf passing.now.judging.plan.now instance.old }
+    ensures { AreStepped (λ k q. Passes passing.now.judging.plan.now passing.now.history.now passing.now.since passing.now.judging.h instance.old.partial instance.old.binding k (progress_at instance.old.progress k) q) (length passing.now.judging.plan.now.chronicle.windows) instance.old instance.new }
 {
-    for k in 0..plan.chronicle.windows.len() as u8 {
-        let progress = passed(plan, instance, k, history, since, h);
+    for k in 0..passing.judging.plan.chronicle.windows.len() as u8 {
+        let progress = passed(passing, instance, k);
         instance.set_progress(k, progress);
     }
 }
 
 /// Settles the entry in each window of the instance, and passes the dates up to its date.
-pub(crate) fn follow(
-    plan: &Plan,
-    instance: &mut Instance,
-    entry: &Entry,
-    history: &History,
-    since: u64,
-)
-    requires proper { IsProper plan.now }
-    requires of { IsOf plan.now instance.old }
-    requires since { since ≤ 2 ^ 42 }
-    requires date { entry.now.date < 2 ^ 40 }
-    ensures { IsFollowed plan.now history.now (entry_of entry.now) since instance.old instance.new }
+pub(crate) fn follow(passing: &Passing<'_>, instance: &mut Instance, entry: &Entry)
+    requires passing { IsPassing passing.now }
+    requires of { IsOf passing.now.judging.plan.now instance.old }
+    requires at { passing.now.judging.h ≡ entry.now.date }
+    ensures { IsFollowedBy passing.now (entry_of entry.now) instance.old instance.new }
 {
-    settle_windows(plan, instance, entry);
-    pass_windows(plan, instance, history, since, entry.date);
+    settle_windows(&passing.judging, instance, entry);
+    pass_windows(passing, instance);
 }
 
-/// Passes the dates up to h in each window of the instance.
-pub(crate) fn go_on_to(plan: &Plan, instance: &mut Instance, history: &History, since: u64, h: u64)
-    requires proper { IsProper plan.now }
-    requires of { IsOf plan.now instance.old }
-    requires since { since ≤ 2 ^ 42 }
-    requires small { h ≤ 2 ^ 42 }
-    ensures { IsPassed plan.now history.now since h instance.old instance.new }
+/// Passes the dates in each window of the instance.
+pub(crate) fn go_on_to(passing: &Passing<'_>, instance: &mut Instance)
+    requires passing { IsPassing passing.now }
+    requires of { IsOf passing.now.judging.plan.now instance.old }
+    ensures { IsPassedBy passing.now instance.old instance.new }
 {
-    pass_windows(plan, instance, history, since, h);
+    pass_windows(passing, instance);
 }
 
 /// Begins the windows that hadn't begun for the parent, and gives the others their progress.
-pub(crate) fn begin_windows(
-    plan: &Plan,
-    parent: &Instance,
-    fork: &mut Instance,
-    history: &History,
-    h: u64,
-)
-    requires proper { IsProper plan.now }
-    requires of { IsOf plan.now parent.now }
-    requires fork { IsOf plan.now fork.old }
-    requires small { h ≤ 2 ^ 42 }
-    ensures { IsBegun plan.now history.now h parent.now fork.old fork.new }
+pub(crate) fn begin_windows(passing: &Passing<'_>, parent: &Instance, fork: &mut Instance)
+    requires passing { IsPassing passing.now }
+    requires of { IsOf passing.now.judging.plan.now parent.now }
+    requires fork { IsOf passing.now.judging.plan.now fork.old }
+    ensures { IsBegun passing.now.judging.plan.now passing.now.history.now passing.now.since parent.now fork.old fork.new }
 {
-    for k in 0..plan.chronicle.windows.len() as u8 {
-        let progress = begun(plan, parent, fork, k, history, h);
+    for k in 0..passing.judging.plan.chronicle.windows.len() as u8 {
+        let progress = begun(passing, parent, fork, k);
         fork.set_progress(k, progress);
     }
 }
 
 /// The verdict of a window at h, which waits where it hasn't begun.
-fn verdict(plan: &Plan, instance: &Instance, k: u8, h: u64) -> Verdict
-    requires proper { IsProper plan.now }
-    requires window { k < length plan.now.chronicle.windows }
-    requires small { h ≤ 2 ^ 42 }
-    ensures { IsJudged plan.now h instance.now k result }
+fn verdict(judging: &Judging<'_>, instance: &Instance, k: u8) -> Verdict
+    requires judging { IsJudging judging.now }
+    requires window { k < length judging.now.plan.now.chronicle.windows }
+    ensures { IsJudged judging.now.plan.now judging.now.h instance.now k result }
 {
-    let Some(stretch) = instance.stretch(plan, k) else {
+    let Some(stretch) = instance.stretch(judging.plan, k) else {
         return Verdict::Waiting;
     };
-    let window = &plan.chronicle.windows.as_slice()[k as usize];
-    judge(window, stretch, instance.progress(k), h as i64)
+    let window = &judging.plan.chronicle.windows.as_slice()[k as usize];
+    judge(window, stretch, instance.progress(k), judging.h as i64)
 }
 
 /// Whether some window is lost at h.
-fn has_lost(plan: &Plan, instance: &Instance, h: u64) -> bool
-    requires proper { IsProper plan.now }
-    requires small { h ≤ 2 ^ 42 }
-    ensures { result ≡ false ↔ IsLostNowhere plan.now h instance.now (length plan.now.chronicle.windows) }
+fn has_lost(judging: &Judging<'_>, instance: &Instance) -> bool
+    requires judging { IsJudging judging.now }
+    ensures { result ≡ false ↔ IsLostNowhere judging.now.plan.now judging.now.h instance.now (length judging.now.plan.now.chronicle.windows) }
 {
-    for k in 0..plan.chronicle.windows.len() as u8 {
-        if verdict(plan, instance, k, h) == Verdict::Lost {
+    for k in 0..judging.plan.chronicle.windows.len() as u8 {
+        if verdict(judging, instance, k) == Verdict::Lost {
             return true;
         }
     }
@@ -194,13 +164,12 @@ fn has_lost(plan: &Plan, instance: &Instance, h: u64) -> bool
 }
 
 /// Whether each window is met at h.
-pub(crate) fn are_met(plan: &Plan, instance: &Instance, h: u64) -> bool
-    requires proper { IsProper plan.now }
-    requires small { h ≤ 2 ^ 42 }
-    ensures { IsTrue result ↔ IsMetTo plan.now h instance.now (length plan.now.chronicle.windows) }
+pub(crate) fn are_met(judging: &Judging<'_>, instance: &Instance) -> bool
+    requires judging { IsJudging judging.now }
+    ensures { IsTrue result ↔ IsMetTo judging.now.plan.now judging.now.h instance.now (length judging.now.plan.now.chronicle.windows) }
 {
-    for k in 0..plan.chronicle.windows.len() as u8 {
-        if verdict(plan, instance, k, h) != Verdict::Met {
+    for k in 0..judging.plan.chronicle.windows.len() as u8 {
+        if verdict(judging, instance, k) != Verdict::Met {
             return false;
         }
     }
@@ -208,20 +177,18 @@ pub(crate) fn are_met(plan: &Plan, instance: &Instance, h: u64) -> bool
 }
 
 /// Whether the awaited events can come at or after h, and no window is lost then.
-pub(crate) fn is_able(plan: &Plan, focus: bool, instance: &Instance, h: u64) -> bool
-    requires proper { IsProper plan.now }
-    requires of { IsOf plan.now instance.now }
-    requires small { h ≤ 2 ^ 42 }
-    ensures { IsTrue result ↔ IsAble plan.now focus h instance.now }
+pub(crate) fn is_able(judging: &Judging<'_>, instance: &Instance) -> bool
+    requires judging { IsJudging judging.now }
+    requires of { IsOf judging.now.plan.now instance.now }
+    ensures { IsTrue result ↔ IsAbleBy judging.now instance.now }
 {
-    can_go_on(plan, focus, instance, h) && !has_lost(plan, instance, h)
+    can_go_on(judging, instance) && !has_lost(judging, instance)
 }
 
 /// Whether each event is bound and each window met at `h`.
-pub(crate) fn is_done(plan: &Plan, instance: &Instance, h: u64) -> bool
-    requires proper { IsProper plan.now }
-    requires small { h ≤ 2 ^ 42 }
-    ensures { IsTrue result ↔ IsDone plan.now h instance.now }
+pub(crate) fn is_done(judging: &Judging<'_>, instance: &Instance) -> bool
+    requires judging { IsJudging judging.now }
+    ensures { IsTrue result ↔ IsDoneBy judging.now instance.now }
 {
-    instance.is_whole() && are_met(plan, instance, h)
+    instance.is_whole() && are_met(judging, instance)
 }

@@ -8,12 +8,12 @@ use Rattle.crs_store.proofs.levels.can_go_on.Goals as goal
 
 pub returns-in-None : goal.returns-in-None
 returns-in-None c =
-    let says : CanGoOn (chronicle c.args.plan.now) (levels_in c.args.plan.now c.args.focus) c.args.instance.now.partial c.args.h ↔ IfSome None (λ v. pos c.args.h ≤ℤ v) = subst (λ (o : Option ℤ). CanGoOn (chronicle c.args.plan.now) (levels_in c.args.plan.now c.args.focus) c.args.instance.now.partial c.args.h ↔ IfSome o (λ v. pos c.args.h ≤ℤ v)) c.in-None.is
-    (last_tells c.args.plan.now c.args.focus c.requires.proper c.args.instance.now c.requires.of c.args.h c.last_date.result c.last_date.ensures) in
+    let says : CanGoOn (chronicle c.args.judging.now.plan.now) (levels_in c.args.judging.now.plan.now c.args.judging.now.focus) c.args.instance.now.partial c.args.judging.now.h ↔ IfSome None (λ v. pos c.args.judging.now.h ≤ℤ v) = subst (λ (o : Option ℤ). CanGoOn (chronicle c.args.judging.now.plan.now) (levels_in c.args.judging.now.plan.now c.args.judging.now.focus) c.args.instance.now.partial c.args.judging.now.h ↔ IfSome o (λ v. pos c.args.judging.now.h ≤ℤ v)) c.in-None.is
+    (last_tells c.args.judging.now.plan.now c.args.judging.now.focus c.requires.judging.proper c.args.instance.now c.requires.of c.args.judging.now.h c.last_date.result c.last_date.ensures) in
     (λ t. says.1 tt, λ k. refl)
 
 pub returns-in-Some : goal.returns-in-Some
 returns-in-Some c =
-    let says : CanGoOn (chronicle c.args.plan.now) (levels_in c.args.plan.now c.args.focus) c.args.instance.now.partial c.args.h ↔ (pos c.args.h ≤ℤ c.in-Some.last) = subst (λ (o : Option ℤ). CanGoOn (chronicle c.args.plan.now) (levels_in c.args.plan.now c.args.focus) c.args.instance.now.partial c.args.h ↔ IfSome o (λ v. pos c.args.h ≤ℤ v)) c.in-Some.is
-    (last_tells c.args.plan.now c.args.focus c.requires.proper c.args.instance.now c.requires.of c.args.h c.last_date.result c.last_date.ensures) in
+    let says : CanGoOn (chronicle c.args.judging.now.plan.now) (levels_in c.args.judging.now.plan.now c.args.judging.now.focus) c.args.instance.now.partial c.args.judging.now.h ↔ (pos c.args.judging.now.h ≤ℤ c.in-Some.last) = subst (λ (o : Option ℤ). CanGoOn (chronicle c.args.judging.now.plan.now) (levels_in c.args.judging.now.plan.now c.args.judging.now.focus) c.args.instance.now.partial c.args.judging.now.h ↔ IfSome o (λ v. pos c.args.judging.now.h ≤ℤ v)) c.in-Some.is
+    (last_tells c.args.judging.now.plan.now c.args.judging.now.focus c.requires.judging.proper c.args.instance.now c.requires.of c.args.judging.now.h c.last_date.result c.last_date.ensures) in
     (λ t. says.1 (search (rules, t)), λ k. (let l = says.0 k in search (rules, l)))

@@ -3,7 +3,7 @@ use Rattle.crs_store.proofs.Finding.{made_from, all_there}
 use Rattle.crs_store.proofs.ripening.recognition.Goals as goal
 
 pub returns-in-None : goal.returns-in-None
-returns-in-None c = all_there c.args.plan.now c.args.h c.args.instance.now c.in_ok-all_entries.field-0 c.in-None.is (c.in_ok-all_entries.ensures {u = tt})
+returns-in-None c = all_there c.args.judging.now.plan.now c.args.judging.now.h c.args.instance.now c.in_ok-all_entries.field-0 c.in-None.is (c.in_ok-all_entries.ensures {u = tt})
 
 pub returns-in-Some : goal.returns-in-Some
 returns-in-Some c = (

@@ -5,4 +5,4 @@ use Rattle.crs_store.proofs.Walked.{IsWalkedBut}
 use Rattle.crs_store.proofs.walking.follow_places.Given as goal
 
 abbrev pub invariant-loop-place : goal.invariant-loop-place
-invariant-loop-place l = IsWalkedBut (IsFollowed l.plan l.history (entry_of l.entry) l.since) (IsAble l.plan l.focus l.entry.date) l.places l.fn.slots (drop l.place-index l.places) l.slots
+invariant-loop-place l = IsWalkedBut (IsFollowed l.passing.judging.plan.now l.passing.history.now (entry_of l.entry) l.passing.since) (IsAble l.passing.judging.plan.now l.passing.judging.focus l.passing.judging.h) l.places l.fn.slots (drop l.place-index l.places) l.slots

@@ -14,7 +14,7 @@ Named plan h slots ripe p = (i : InstanceState) → slot_at slots p ≡ Some i �
 
 pub loop-place-preserved : goal.loop-place-preserved
 loop-place-preserved c = (
-  each_next (Named c.args.plan.now c.args.h c.args.slots.now c.loop-place.ripe.items) c.args.places.now (drop c.loop-place.place-index c.args.places.now) (Named c.args.plan.now c.args.h c.args.slots.now c.note_if_ripe.new.ripe.items) (get_or c.args.places.now c.loop-place.place-index 0) (drop (c.loop-place.place-index + 1) c.args.places.now)
+  each_next (Named c.args.judging.now.plan.now c.args.judging.now.h c.args.slots.now c.loop-place.ripe.items) c.args.places.now (drop c.loop-place.place-index c.args.places.now) (Named c.args.judging.now.plan.now c.args.judging.now.h c.args.slots.now c.note_if_ripe.new.ripe.items) (get_or c.args.places.now c.loop-place.place-index 0) (drop (c.loop-place.place-index + 1) c.args.places.now)
       (drop_more c.args.places.now c.loop-place.place-index 0 (search rules)) c.loop-place.invariant.0 (λ p n i e d. c.note_if_ripe.ensures.kept p (n i e d)) ((c.in_ok-note_if_ripe.ensures {u = tt}).noted),
   λ p i. c.note_if_ripe.ensures.kept p (c.loop-place.invariant.1 p i),
 )
@@ -24,5 +24,5 @@ returns-in_err-note_if_ripe-clause-kept c = λ p i. c.note_if_ripe.ensures.kept 
 
 pub returns-clause-noted : goal.returns-clause-noted
 returns-clause-noted c =
-    each_last (Named c.args.plan.now c.args.h c.args.slots.now c.loop-place.ripe.items) c.args.places.now (drop c.loop-place.place-index c.args.places.now)
+    each_last (Named c.args.judging.now.plan.now c.args.judging.now.h c.args.slots.now c.loop-place.ripe.items) c.args.places.now (drop c.loop-place.place-index c.args.places.now)
     (drop_all c.loop-place.place-index c.args.places.now (search rules)) c.loop-place.invariant.0

@@ -9,5 +9,5 @@ use Rattle.crs_store.proofs.walking.note_ripe.Given as goal
 
 abbrev pub invariant-loop-place : goal.invariant-loop-place
 invariant-loop-place l =
-    IsEachBut (λ p. (i : InstanceState) → slot_at l.slots p ≡ Some i → IsDone l.plan l.h i → IsIn p l.ripe.items) l.places (drop l.place-index l.places)
+    IsEachBut (λ p. (i : InstanceState) → slot_at l.slots p ≡ Some i → IsDone l.judging.plan.now l.judging.h i → IsIn p l.ripe.items) l.places (drop l.place-index l.places)
     × ((p : ℕ) → IsIn p l.fn.ripe.items → IsIn p l.ripe.items)

@@ -3,7 +3,7 @@ use Rattle.crs_store.proofs.Progress.{still_of, begun_all}
 use Rattle.crs_store.proofs.windows.begin_windows.Goals as goal
 
 pub begun-progress-requires-clause-fork : goal.begun-progress-requires-clause-fork
-begun-progress-requires-clause-fork c = still_of c.args.plan.now c.args.fork.now c.loop-k.fork c.loop-k.invariant.same c.requires.fork
+begun-progress-requires-clause-fork c = still_of c.args.passing.now.judging.plan.now c.args.fork.now c.loop-k.fork c.loop-k.invariant.same c.requires.fork
 
 pub returns : goal.returns
-returns c = begun_all c.loop-k.k c.args.plan.now c.args.history.now c.args.h c.args.parent.now c.args.fork.now c.loop-k.fork c.loop-k.invariant (search rules)
+returns c = begun_all c.loop-k.k c.args.passing.now.judging.plan.now c.args.passing.now.history.now c.args.passing.now.since c.args.parent.now c.args.fork.now c.loop-k.fork c.loop-k.invariant (search rules)

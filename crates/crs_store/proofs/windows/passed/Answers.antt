@@ -9,26 +9,26 @@ use Rattle.crs_store.proofs.Progress.{holds_one, bound_of, passed_by, unbegun}
 use Rattle.crs_store.proofs.windows.passed.Goals as goal
 
 pub returns-in_default : goal.returns-in_default
-returns-in_default c = λ entries up kept low has. unbegun c.args.plan.now c.args.k c.args.instance.now c.stretch.result (search rules) c.stretch.ensures _ c.args.h c.progress.result
+returns-in_default c = λ entries up kept low has. unbegun c.args.passing.now.judging.plan.now c.args.k c.args.instance.now c.stretch.result (search rules) c.stretch.ensures _ c.args.passing.now.judging.h c.progress.result
 
 pub pass-requires-clause-bound : goal.pass-requires-clause-bound
 pass-requires-clause-bound c =
     let d = c.index-as_slice-k.result in
-    let is : slice_get (chronicle c.args.plan.now).windows c.args.k ≡ Some (window_of d) = window_as c.as_slice.result.now c.args.plan.now.chronicle.windows c.args.k d c.as_slice.ensures c.requires.window c.index-as_slice-k.is in
-    bound_of c.args.plan.now c.args.k (window_of d) is c.args.instance.now c.in-Some.stretch c.stretch.result c.in-Some.is c.stretch.ensures c.binding.result.now c.binding.ensures
+    let is : slice_get (chronicle c.args.passing.now.judging.plan.now).windows c.args.k ≡ Some (window_of d) = window_as c.as_slice.result.now c.args.passing.now.judging.plan.now.chronicle.windows c.args.k d c.as_slice.ensures c.requires.window c.index-as_slice-k.is in
+    bound_of c.args.passing.now.judging.plan.now c.args.k (window_of d) is c.args.instance.now c.in-Some.stretch c.stretch.result c.in-Some.is c.stretch.ensures c.binding.result.now c.binding.ensures
 
 pub pass-requires-clause-one : goal.pass-requires-clause-one
 pass-requires-clause-one c =
     let d = c.index-as_slice-k.result in
-    let is : slice_get (chronicle c.args.plan.now).windows c.args.k ≡ Some (window_of d) = window_as c.as_slice.result.now c.args.plan.now.chronicle.windows c.args.k d c.as_slice.ensures c.requires.window c.index-as_slice-k.is in
-    holds_one c.args.plan.now c.args.k (window_of d) is c.requires.proper
+    let is : slice_get (chronicle c.args.passing.now.judging.plan.now).windows c.args.k ≡ Some (window_of d) = window_as c.as_slice.result.now c.args.passing.now.judging.plan.now.chronicle.windows c.args.k d c.as_slice.ensures c.requires.window c.index-as_slice-k.is in
+    holds_one c.args.passing.now.judging.plan.now c.args.k (window_of d) is c.requires.passing.judging.proper
 
 pub returns : goal.returns
 returns c =
     let d = c.index-as_slice-k.result in
-    let is : slice_get (chronicle c.args.plan.now).windows c.args.k ≡ Some (window_of d) = window_as c.as_slice.result.now c.args.plan.now.chronicle.windows c.args.k d c.as_slice.ensures c.requires.window c.index-as_slice-k.is in
-    let small : c.args.h < 9223372036854775808 = let l = c.requires.small in omega arith in
-    let small_since : c.args.since < 9223372036854775808 = let l = c.requires.since in omega arith in
-    passed_by c.args.plan.now c.args.k (window_of d) is c.args.instance.now c.in-Some.stretch c.stretch.result c.in-Some.is c.stretch.ensures c.binding.result.now c.binding.ensures c.progress-2.result c.pass.result c.progress-2.ensures c.args.history.now c.args.since c.args.h
+    let is : slice_get (chronicle c.args.passing.now.judging.plan.now).windows c.args.k ≡ Some (window_of d) = window_as c.as_slice.result.now c.args.passing.now.judging.plan.now.chronicle.windows c.args.k d c.as_slice.ensures c.requires.window c.index-as_slice-k.is in
+    let small : c.args.passing.now.judging.h < 9223372036854775808 = let l = c.requires.passing.judging.small in omega arith in
+    let small_since : c.args.passing.now.since < 9223372036854775808 = let l = c.requires.passing.since in omega arith in
+    passed_by c.args.passing.now.judging.plan.now c.args.k (window_of d) is c.args.instance.now c.in-Some.stretch c.stretch.result c.in-Some.is c.stretch.ensures c.binding.result.now c.binding.ensures c.progress-2.result c.pass.result c.progress-2.ensures c.args.passing.now.history.now c.args.passing.now.since c.args.passing.now.judging.h
     (λ settled low up kept p.
-    c.pass.ensures (λ l. low (subst (λ (z : ℤ). z ≤ℤ c.in-Some.stretch.from) (to_z_pos w64 c.args.since small_since) l)) settled c.args.since c.args.h (to_z_pos w64 c.args.since small_since) (to_z_pos w64 c.args.h small) up kept p)
+    c.pass.ensures (λ l. low (subst (λ (z : ℤ). z ≤ℤ c.in-Some.stretch.from) (to_z_pos w64 c.args.passing.now.since small_since) l)) settled c.args.passing.now.since c.args.passing.now.judging.h (to_z_pos w64 c.args.passing.now.since small_since) (to_z_pos w64 c.args.passing.now.judging.h small) up kept p)

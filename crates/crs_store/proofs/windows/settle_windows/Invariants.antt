@@ -5,4 +5,4 @@ use Rattle.crs_store.specs.JudgedWindows.{AreStepped}
 use Rattle.crs_store.proofs.windows.settle_windows.Given as goal
 
 abbrev pub invariant-loop-k : goal.invariant-loop-k
-invariant-loop-k l = AreStepped (λ k q. Settles l.plan (entry_of l.entry) l.initial.instance.partial l.initial.instance.binding k (progress_at l.initial.instance.progress k) q) l.k l.initial.instance l.instance
+invariant-loop-k l = AreStepped (λ k q. Settles l.judging.plan.now (entry_of l.entry) l.initial.instance.partial l.initial.instance.binding k (progress_at l.initial.instance.progress k) q) l.k l.initial.instance l.instance
