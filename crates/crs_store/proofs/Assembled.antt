@@ -12,7 +12,7 @@ use Rattle.crs_model.specs.declared.plan.Plan.{Plan}
 use Rattle.crs_model.specs.Plans.{chronicle}
 use Rattle.crs_model.proofs.Options.{of_some, some_if}
 use Rattle.crs_store.specs.declared.holding.Holding.{Holding}
-use Rattle.crs_store.specs.declared.hooks.Hooks.{Hooks}
+use Rattle.crs_store.specs.declared.waiting.hooks.Hooks.{Hooks}
 use Rattle.crs_store.specs.Forkings.{KeepsStanding}
 use Rattle.std.specs.Prelude.{Bool, false}
 use Rattle.crs_store.specs.Hooks.{AreHooks, key_of}

@@ -16,8 +16,8 @@ use Rattle.crs_model.specs.Partial.{at, put, EqualsAll}
 use Rattle.crs_model.specs.Plans.{chronicle, IsProper}
 use Rattle.crs_model.proofs.Options.{of_some, some_if, cases_of}
 use Rattle.crs_model.proofs.Parts.{put_same, extends_put}
-use Rattle.crs_store.specs.declared.hooks.Hook.{Hook}
-use Rattle.crs_store.specs.declared.hooks.Pick.{Pick}
+use Rattle.crs_store.specs.declared.waiting.hooks.Hook.{Hook}
+use Rattle.crs_store.specs.declared.waiting.hooks.Pick.{Pick}
 use Rattle.crs_store.specs.Forkings.{IsHookAt}
 use Rattle.crs_store.specs.Hooks.{IsHookOf, IsHookOfEvent, Waits, key_with, key_of, picked_symbol, picked_argument}
 use Rattle.crs_store.specs.Links.{CanStart}

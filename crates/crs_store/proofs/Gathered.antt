@@ -30,7 +30,7 @@ use Rattle.crs_model.specs.SeenModels.{event_of}
 use Rattle.crs_model.proofs.Images.{image_one}
 use Rattle.crs_model.proofs.ScanImages.{one_parent, same_event}
 use Rattle.crs_instance.proofs.Openings.{beginnings_can_be}
-use Rattle.crs_store.specs.declared.hooks.Hook.{Hook}
+use Rattle.crs_store.specs.declared.waiting.hooks.Hook.{Hook}
 use Rattle.crs_store.specs.Forkings.{HaveWindow, IsNoted, AreCandidates, KeepsStanding, IsHookAt, AreLinkedAt, standing, ComeOf, IsForkWith, IsForkBelow, AreForksOfPlaces, AreForksOfEvent, AreForksOfAll}
 use Rattle.crs_store.specs.Hooks.{IsHookOfEvent, KeepsFresh, key_with, picked_argument}
 use Rattle.crs_store.specs.Links.{hook_at}

@@ -16,8 +16,8 @@ use Rattle.std.proofs.Common.{◌+◌, ◌++◌, ◌∷◌, [], Vec, Global}
 use Rattle.crs_model.specs.Bindings.{look_of}
 use Rattle.crs_model.proofs.Options.{of_some, some_if}
 use Rattle.crs_store.specs.declared.holding.Holding.{Holding}
-use Rattle.crs_store.specs.declared.hooks.Hook.{Hook}
-use Rattle.crs_store.specs.declared.hooks.Hooks.{Hooks}
+use Rattle.crs_store.specs.declared.waiting.hooks.Hook.{Hook}
+use Rattle.crs_store.specs.declared.waiting.hooks.Hooks.{Hooks}
 use Rattle.crs_store.specs.Dues.{AreCollected, IsUndue, IsUntouched, KeepsFreshPairs}
 use Rattle.crs_store.specs.Hooks.{IsHookOfWindow, KeepsFresh, key_of}
 use Rattle.crs_store.specs.Joins.{Renews}

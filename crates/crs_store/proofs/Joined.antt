@@ -12,7 +12,7 @@ use Rattle.crs_index.specs.Indexes.{IndexState}
 use Rattle.crs_instance.specs.Instances.{InstanceState}
 use Rattle.crs_model.specs.declared.plan.Plan.{Plan}
 use Rattle.crs_model.specs.Partial.{Partial}
-use Rattle.crs_store.specs.declared.hooks.Hook.{Hook}
+use Rattle.crs_store.specs.declared.waiting.hooks.Hook.{Hook}
 use Rattle.crs_store.specs.Dues.{AreKept}
 use Rattle.crs_store.specs.Joins.{AreApart, IsPartOf, Joins, JoinsSome, LeavesOut}
 use Rattle.crs_model.specs.Bindings.{look_of}

@@ -14,7 +14,7 @@ use Rattle.crs_index.specs.declared.key.Key.{Key}
 use Rattle.crs_index.specs.Indexes.{IndexState, Cleans, Sweeps, bucket_of, bucket_at, number_of, handles_at}
 use Rattle.crs_base.specs.declared.symbols.Sym.{Sym}
 use Rattle.crs_base.specs.Entry.{Entry}
-use Rattle.crs_store.specs.declared.hooks.Hook.{Hook}
+use Rattle.crs_store.specs.declared.waiting.hooks.Hook.{Hook}
 use Rattle.crs_store.specs.Hooks.{Waits, KeepsFresh, key_with, picked_argument}
 use Rattle.crs_store.specs.Links.{hook_at, WaitsFor, HasWaiting, HasTouched}
 use Rattle.crs_store.specs.Slots.{SlotsState, handle_at}

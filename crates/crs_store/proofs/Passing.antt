@@ -24,7 +24,7 @@ use Rattle.crs_model.proofs.Options.{of_some, some_if}
 use Rattle.crs_model.proofs.Parts.{at_within, put_same}
 use Rattle.crs_instance.specs.Instances.{InstanceState, IsOf}
 use Rattle.crs_instance.specs.Followed.{Follows}
-use Rattle.crs_store.specs.declared.hooks.Hook.{Hook}
+use Rattle.crs_store.specs.declared.waiting.hooks.Hook.{Hook}
 use Rattle.crs_store.specs.Dues.{IsUntouched}
 use Rattle.crs_store.specs.Hooks.{name_of, IsHookOfEvent, IsHookOfWindow, AreHooks, LooksFor}
 use Rattle.crs_store.specs.PlanLevels.{levels_in}

@@ -16,7 +16,7 @@ use Rattle.crs_model.specs.Bindings.{look_of}
 use Rattle.crs_model.specs.Partial.{IsAwaited}
 use Rattle.crs_model.specs.Plans.{chronicle, IsProper}
 use Rattle.crs_model.proofs.Options.{of_some, some_if}
-use Rattle.crs_store.specs.declared.hooks.Hook.{Hook}
+use Rattle.crs_store.specs.declared.waiting.hooks.Hook.{Hook}
 use Rattle.crs_store.specs.Dues.{AreDue, AreCollected, IsDue, IsUndue}
 use Rattle.crs_store.specs.Hooks.{Waits, KeepsFresh, key_of}
 use Rattle.crs_store.specs.PlanLevels.{levels_in}

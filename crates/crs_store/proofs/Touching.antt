@@ -16,7 +16,7 @@ use Rattle.crs_model.specs.Models.{Body, NoEvent, Occurs, Hold, Window}
 use Rattle.crs_model.specs.Plans.{chronicle}
 use Rattle.crs_model.specs.Verdicts.{IsStretch, BodyIsBound, IsDatedIn}
 use Rattle.crs_model.proofs.Options.{of_some, some_if}
-use Rattle.crs_store.specs.declared.hooks.Hook.{Hook}
+use Rattle.crs_store.specs.declared.waiting.hooks.Hook.{Hook}
 use Rattle.crs_store.specs.Dues.{IsUntouched}
 use Rattle.crs_store.specs.Hooks.{IsHookOfWindow, Waits, name_of, terms_of}
 use Rattle.crs_store.specs.Links.{IsArmed, HasTouched, WaitsFor, hook_at}

@@ -2,7 +2,7 @@
 use Rattle.std.specs.Prelude.{Bool}
 use Rattle.crs_model.specs.declared.plan.Plan.{Plan}
 use Rattle.crs_model.specs.Plans.{IsProper}
-use Rattle.crs_store.specs.declared.hooks.Hooks.{Hooks}
+use Rattle.crs_store.specs.declared.waiting.hooks.Hooks.{Hooks}
 use Rattle.crs_store.specs.Hooks.{AreHooks}
 
 -- a chart, as contracts see it

@@ -15,7 +15,7 @@ use Rattle.crs_model.specs.Partial.{Partial, IsAwaited}
 use Rattle.crs_model.specs.Plans.{chronicle}
 use Rattle.crs_model.specs.Scans.{StartsAt, IsForkByLevel}
 use Rattle.crs_model.specs.declared.plan.Plan.{Plan}
-use Rattle.crs_store.specs.declared.hooks.Hook.{Hook}
+use Rattle.crs_store.specs.declared.waiting.hooks.Hook.{Hook}
 use Rattle.crs_store.specs.PlanLevels.{levels_in}
 use Rattle.crs_store.specs.Hooks.{IsHookOfEvent, Waits, key_of}
 use Rattle.crs_store.specs.Links.{CanStart}

@@ -10,8 +10,8 @@ use Rattle.crs_index.specs.Indexes.{IndexState, bucket_of}
 use Rattle.crs_model.specs.declared.plan.Plan.{Plan}
 use Rattle.crs_model.specs.Models.{Chronicle, Body, NoEvent, Occurs, Hold, EventDef, Window, Term, Var}
 use Rattle.crs_model.specs.Plans.{chronicle}
-use Rattle.crs_store.specs.declared.hooks.Hook.{Hook}
-use Rattle.crs_store.specs.declared.hooks.Pick.{Pick}
+use Rattle.crs_store.specs.declared.waiting.hooks.Hook.{Hook}
+use Rattle.crs_store.specs.declared.waiting.hooks.Pick.{Pick}
 
 -- the name and the terms of the entries that a body looks for
 abbrev pub name_of : Body Sym → Sym

@@ -4,8 +4,8 @@ use Rattle.crs_base.specs.declared.symbols.Sym.{Sym}
 use Rattle.crs_base.specs.Entry.{Entry}
 use Rattle.crs_instance.specs.Instances.{InstanceState}
 use Rattle.crs_model.specs.Plans.{IsProper}
-use Rattle.crs_store.specs.declared.judging.Judging.{Judging}
-use Rattle.crs_store.specs.declared.judging.Passing.{Passing}
+use Rattle.crs_store.specs.declared.living.judging.Judging.{Judging}
+use Rattle.crs_store.specs.declared.living.judging.Passing.{Passing}
 use Rattle.crs_store.specs.Sweeps.{IsDone}
 use Rattle.crs_store.specs.Windows.{IsAble, IsFollowed, IsPassed}
 

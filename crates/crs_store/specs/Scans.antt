@@ -4,7 +4,7 @@ use Rattle.crs_base.specs.Seen.{entry_of}
 use Rattle.crs_history.specs.Histories.{EndsWith}
 use Rattle.crs_instance.specs.Instances.{IsOf}
 use Rattle.crs_model.specs.Plans.{IsProper}
-use Rattle.crs_store.specs.declared.scanning.Scan.{Scan}
+use Rattle.crs_store.specs.declared.scanning.deciding.Scan.{Scan}
 
 -- the plan is proper, the parent is an instance of it, where levels are read the entry is the last of the history, and the dates are within their limits
 pub record IsScan (s : Scan) : Type 0 where

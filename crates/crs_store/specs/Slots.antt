@@ -1,12 +1,7 @@
 -- Instances in places.
 use Rattle.std.specs.Prelude.{◌≡◌, ◌≢◌, ◌<◌, ℕ, List, [], ◌∷◌, ◌++◌, length, Bool, true, false, Option, Some, None, is_some, slice_index_or}
 use Rattle.crs_agenda.specs.declared.timed.Handle.{Handle}
-use Rattle.crs_base.specs.Entry.{Entry}
-use Rattle.crs_base.specs.declared.symbols.Sym.{Sym}
-use Rattle.crs_history.specs.Histories.{HistoryState}
 use Rattle.crs_instance.specs.Instances.{InstanceState}
-use Rattle.crs_model.specs.declared.plan.Plan.{Plan}
-use Rattle.crs_store.specs.Windows.{IsAble, IsFollowed, IsPassed}
 
 -- what stands in each place, and its serial number
 pub record SlotsState : Type 0 where

@@ -2,7 +2,7 @@
 ghost use Rattle.std.specs.Prelude.{◌≡◌, ◌<◌, length};
 ghost use Rattle.crs_store.specs.Links.{hook_at, linked_by};
 
-use crate::hooks::{Hook, Hooks};
+use crate::waiting::hooks::{Hook, Hooks};
 use crs_model::Plan;
 use std::marker::Model;
 

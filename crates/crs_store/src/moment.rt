@@ -1,6 +1,6 @@
 //! An entry that comes to the instances, the moments at which a store takes one in, and the horizon
 //! to which it moves on.
-use crate::hooks::Hooks;
+use crate::waiting::hooks::Hooks;
 use crs_base::Entry;
 use crs_history::History;
 use crs_model::{Mark, Plan};

@@ -1,8 +1,12 @@
-//! Places of instances.
+//! Where instances stand: places, and the handles of what stands there.
 ghost use Rattle.std.specs.Prelude.{OnOk};
 ghost use Rattle.std.specs.List.Sorted.{IsStrictlySortedBy};
 ghost use Rattle.std.specs.Ordering.{nat_cmp};
 ghost use Rattle.crs_base.specs.Words.{IsIn};
+
+pub(crate) mod ripening;
+pub(crate) mod slots;
+pub(crate) mod walking;
 
 use std::alloc::AllocError;
 

@@ -11,7 +11,7 @@ use Rattle.crs_store.specs.Links.{HasTouched}
 use Rattle.crs_store.proofs.Renewing.{fresh_place}
 use Rattle.crs_store.proofs.Touching.{untouched}
 use Rattle.crs_store.specs.declared.holding.Holding.{Holding}
-use Rattle.crs_store.specs.declared.hooks.Hook.{Hook}
+use Rattle.crs_store.specs.declared.waiting.hooks.Hook.{Hook}
 use Rattle.crs_store.specs.Joins.{Renews}
 use Rattle.crs_store.specs.Slots.{SlotsState, members}
 use Rattle.crs_store.specs.Windows.{IsFollowed, IsAble}

@@ -5,7 +5,7 @@ use Rattle.crs_store.specs.Ahead.{MayGo}
 use Rattle.crs_store.specs.Forkings.{AreForksOfAll}
 use Rattle.crs_store.specs.Joins.{Renews}
 use Rattle.crs_store.specs.Links.{AreLinked}
-use Rattle.crs_store.specs.declared.hooks.Hook.{Hook}
+use Rattle.crs_store.specs.declared.waiting.hooks.Hook.{Hook}
 use Rattle.crs_store.specs.Slots.{members}
 use Rattle.crs_store.specs.Tidy.{IsTidy}
 use Rattle.crs_store.specs.Windows.{IsAble, IsFollowed, IsPassed}

@@ -1,7 +1,0 @@
-use Rattle.std.proofs.Common.{drop}
-use Rattle.crs_base.specs.Seen.{entry_of}
-use Rattle.crs_store.proofs.Gathered.{AddsSwept}
-use Rattle.crs_store.proofs.candidates.forks_at.Given as goal
-
-abbrev pub invariant-loop-place : goal.invariant-loop-place
-invariant-loop-place g l = AddsSwept l.arrival.plan.now l.arrival.focus l.arrival.history.now (entry_of l.arrival.entry.now.value) l.arrival.since l.arrival.until l.slots l.event l.places (drop l.place-index l.places) l.fn.out.items l.out.items l.fn.steps l.steps

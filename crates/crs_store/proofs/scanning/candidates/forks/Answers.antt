@@ -1,0 +1,50 @@
+use Rattle.std.proofs.Common.{rules, ◌≡◌, [], length, sym, arith}
+use Rattle.std.proofs.lemmas.List.{append-nil}
+use Rattle.crs_base.specs.Seen.{entry_of}
+use Rattle.crs_store.specs.Links.{hook_at}
+use Rattle.crs_store.specs.Slots.{members}
+use Rattle.crs_store.proofs.Gathered.{hooks_long, hook_there, none_named, gathered_none, gathered_more, gathered_all, events_cost}
+use Rattle.crs_store.proofs.scanning.candidates.forks.Goals as goal
+
+pub bounds-hooks-event : goal.bounds-hooks-event
+bounds-hooks-event g c = let h = hooks_long c.args.arrival.now.plan.now c.args.hooks.now c.requires.hooks in omega arith
+
+pub forks_of_event-requires-clause-hook : goal.forks_of_event-requires-clause-hook
+forks_of_event-requires-clause-hook g c = hook_there c.args.arrival.now.plan.now c.args.hooks.now c.loop-event.event c.requires.hooks
+
+pub returns-in_err-forks_of_event-clause-standing : goal.returns-in_err-forks_of_event-clause-standing
+returns-in_err-forks_of_event-clause-standing g c = λ k p i s w. c.forks_of_event.ensures.standing k p i s (c.loop-event.invariant.standing k p i s w)
+
+pub loop-event-init : goal.loop-event-init
+loop-event-init g c = record {
+  gathered = gathered_none c.args.arrival.now.plan.now c.args.arrival.now.focus c.args.arrival.now.history.now (entry_of c.args.arrival.now.entry.now.value) c.args.arrival.now.since c.args.arrival.now.until c.args.slots.now c.clear.new.self.items (search rules);
+  fresh = λ k h f w. w;
+  standing = λ k p i s w. w;
+  cost = λ flat. omega arith;
+}
+
+pub loop-event-preserved : goal.loop-event-preserved
+loop-event-preserved g c = record {
+  gathered = let adds = (c.in_ok-forks_of_event.ensures {u = tt}).forks in
+      gathered_more c.args.arrival.now.plan.now c.args.arrival.now.focus c.args.arrival.now.history.now (entry_of c.args.arrival.now.entry.now.value) c.args.arrival.now.since c.args.arrival.now.until c.args.slots.now c.loop-event.event c.loop-event.out.items adds.more c.forks_of_event.new.out.items adds.grown adds.of adds.able adds.are c.loop-event.invariant.gathered;
+  fresh = λ k h f w. c.forks_of_event.ensures.fresh k h f (c.loop-event.invariant.fresh k h f w);
+  standing = λ k p i s w. c.forks_of_event.ensures.standing k p i s (c.loop-event.invariant.standing k p i s w);
+  cost = events_cost c.args.arrival.now.focus c.args.steps.now c.loop-event.steps c.forks_of_event.new.steps c.loop-event.event (length (members c.args.slots.now.slots)) c.loop-event.invariant.cost c.forks_of_event.ensures.cost;
+}
+
+pub loop-event-preserved-then-ne : goal.loop-event-preserved-then-ne
+loop-event-preserved-then-ne g c =
+    let x = entry_of c.args.arrival.now.entry.now.value in
+    let other : (hook_at c.args.hooks.now c.loop-event.event).name ≡ x.name → ⊥ = search rules in
+    record {
+      gathered = gathered_more c.args.arrival.now.plan.now c.args.arrival.now.focus c.args.arrival.now.history.now x c.args.arrival.now.since c.args.arrival.now.until c.args.slots.now c.loop-event.event c.loop-event.out.items [] c.loop-event.out.items (sym (append-nil c.loop-event.out.items)) tt tt
+          (none_named c.args.arrival.now.plan.now c.args.arrival.now.focus c.args.arrival.now.history.now x c.args.arrival.now.since c.args.arrival.now.until c.args.slots.now c.loop-event.event c.requires.arrival.proper c.requires.of (search rules) (hook_at c.args.hooks.now c.loop-event.event) (hook_there c.args.arrival.now.plan.now c.args.hooks.now c.loop-event.event c.requires.hooks) other) c.loop-event.invariant.gathered;
+      fresh = c.loop-event.invariant.fresh;
+      standing = c.loop-event.invariant.standing;
+      cost = λ flat. let k = c.loop-event.invariant.cost flat in omega arith;
+    }
+
+pub returns-clause-image : goal.returns-clause-image
+returns-clause-image g c =
+    let e : c.loop-event.event ≡ length c.args.arrival.now.plan.now.chronicle.events = search rules in
+    gathered_all c.args.arrival.now.plan.now c.args.arrival.now.focus c.args.arrival.now.history.now (entry_of c.args.arrival.now.entry.now.value) c.args.arrival.now.since c.args.arrival.now.until c.args.slots.now c.requires.of c.loop-event.event c.loop-event.out.items e c.loop-event.invariant.gathered

@@ -1,0 +1,244 @@
+//! The forks of the instances that may come of an entry.
+ghost use Rattle.std.specs.Prelude.{◌≡◌, ◌+◌, ◌*◌, ◌<◌, ◌≤◌, ◌^◌, length, None, false, OnOk};
+ghost use Rattle.std.specs.List.{AllZip, AllByRecursion};
+ghost use Rattle.std.specs.List.Sorted.{IsStrictlySortedBy};
+ghost use Rattle.std.specs.Ordering.{nat_cmp};
+ghost use Rattle.crs_base.specs.Seen.{entry_of};
+ghost use Rattle.crs_base.specs.Words.{IsIn};
+ghost use Rattle.crs_instance.specs.Instances.{IsOf};
+ghost use Rattle.crs_model.specs.Plans.{chronicle};
+ghost use Rattle.crs_store.specs.Forkings.{HaveWindow, IsNoted, AreCandidates, KeepsStanding, IsHookAt, AreLinkedAt, AreForksOfPlaces, AreForksOfEvent, AreForksOfAll};
+ghost use Rattle.crs_store.specs.Hooks.{IsHookOfEvent, KeepsFresh, key_with, picked_argument};
+ghost use Rattle.crs_store.specs.Links.{AreLinked};
+ghost use Rattle.crs_store.specs.Moments.{IsArrival};
+ghost use Rattle.crs_store.specs.Slots.{members};
+ghost use Rattle.crs_store.specs.Stores.{AllOf};
+ghost use Rattle.crs_store.specs.Scannings.{Adds, AreForksAt};
+ghost use Rattle.crs_store.specs.Windows.{IsAble};
+
+use crate::living::levels::is_awaited;
+use crate::moment::Arrival;
+use crate::places::slots::Slots;
+use crate::places::{note, sort_places};
+use crate::scanning::deciding::{Scan, decide};
+use crate::waiting::hooks::{Hook, key_of_entry, key_of_symbol};
+use crs_base::{Entry, Steps};
+use crs_focus::level_of;
+use crs_index::{Index, Key};
+use crs_instance::Instance;
+use std::alloc::AllocError;
+use std::sync::ledger::Ledger;
+
+/// Adds what comes of the instance where the event is bound to the entry: a copy with the event bound
+/// too, or, where that completes a level, what is made of it by the entries that are there. Each of
+/// them can be and can go on at the date `until`, and no window of theirs is lost then.
+/// It takes memory only where the event's pattern fits the entry.
+fn push_forks<L: Ledger>(
+    arrival: &Arrival<'_>,
+    instance: &Instance,
+    event: u8,
+    steps: &mut Steps<L>,
+    out: &mut Vec<Instance>,
+) -> Result<(), AllocError>
+    requires arrival { IsArrival arrival.now }
+    requires of { IsOf arrival.now.plan.now instance.now }
+    requires event { event < length arrival.now.plan.now.chronicle.events }
+    ensures forks { OnOk result (Adds arrival.now.plan.now arrival.now.focus arrival.now.until (AreForksAt arrival.now.plan.now arrival.now.focus arrival.now.history.now (entry_of arrival.now.entry.now.value) arrival.now.since arrival.now.until instance.now event) out.old.items out.new.items) }
+    ensures cost { arrival.now.focus ≡ false → steps.new ≤ steps.old + 1 }
+{
+    if !is_awaited(arrival.plan, arrival.focus, instance, event) {
+        return Ok(());
+    }
+    if !instance.can_wait_with(
+        arrival.plan,
+        event,
+        arrival.entry.date,
+        arrival.focus,
+        arrival.until,
+    ) {
+        return Ok(());
+    }
+    let Some(next) = instance.fork(arrival.plan, event, arrival.entry, steps)? else {
+        return Ok(());
+    };
+    let level = level_of(arrival.plan, event, arrival.focus);
+    let todo = Vec::new(arrival.alloc);
+    let scan = Scan {
+        alloc: arrival.alloc,
+        plan: arrival.plan,
+        focus: arrival.focus,
+        parent: instance,
+        history: arrival.history,
+        entry: arrival.entry,
+        since: arrival.since,
+        until: arrival.until,
+    };
+    decide(&scan, next, level, todo, steps, out)
+}
+
+/// Notes the place, if an instance stands there to whose event the date is left.
+fn note_able(
+    slots: &Slots,
+    place: u32,
+    event: u8,
+    date: u64,
+    places: &mut Vec<u32>,
+) -> Result<(), AllocError>
+    requires windows { HaveWindow slots.now event }
+    requires date { date < 2 ^ 40 }
+    ensures noted { OnOk result (IsNoted slots.now event date places.new.items place) }
+    ensures kept { (p : _) → IsIn p places.old.items → IsIn p places.new.items }
+{
+    let Some(instance) = slots.get(place) else {
+        return Ok(());
+    };
+    if instance.can_come(event, date) {
+        note(places, place)
+    } else {
+        Ok(())
+    }
+}
+
+/// Notes the places of those that wait under the key, and to whose event the date is left.
+fn note_able_bucket(
+    waiting: &mut Index,
+    slots: &Slots,
+    key: Key,
+    event: u8,
+    date: u64,
+    places: &mut Vec<u32>,
+) -> Result<(), AllocError>
+    requires windows { HaveWindow slots.now event }
+    requires date { date < 2 ^ 40 }
+    ensures fresh { KeepsFresh slots.now.serials waiting.old waiting.new }
+    ensures standing { KeepsStanding slots.now waiting.old waiting.new }
+    ensures noted { OnOk result (AreCandidates slots.now waiting.old key event date places.new.items) }
+    ensures kept { (p : _) → IsIn p places.old.items → IsIn p places.new.items }
+{
+    let Some(number) = waiting.find(&key) else {
+        return Ok(());
+    };
+    waiting.clean(number, slots.serials());
+    for handle in waiting.bucket(number) {
+        note_able(slots, handle.place, event, date, places)?;
+    }
+    Ok(())
+}
+
+/// An event, and what it looks for.
+#[derive(Clone, Copy, Drop)]
+struct Sought {
+    event: u8,
+    hook: Hook,
+}
+
+/// Notes the places of those that wait for such an entry, and to whose event its date is left.
+fn note_candidates(
+    waiting: &mut Index,
+    slots: &Slots,
+    sought: Sought,
+    entry: &Entry,
+    places: &mut Vec<u32>,
+) -> Result<(), AllocError>
+    requires windows { HaveWindow slots.now sought.event }
+    requires date { entry.now.date < 2 ^ 40 }
+    ensures fresh { KeepsFresh slots.now.serials waiting.old waiting.new }
+    ensures standing { KeepsStanding slots.now waiting.old waiting.new }
+    ensures lacking { OnOk result (AreCandidates slots.now waiting.old (key_with sought.event None) sought.event entry.now.date places.new.items) }
+    ensures having { OnOk result (AreCandidates slots.now waiting.old (key_with sought.event (picked_argument sought.hook.pick entry.now.args)) sought.event entry.now.date places.new.items) }
+{
+    let event = sought.event;
+    let class = event as u32;
+    let lacking = key_of_symbol(class, None);
+    note_able_bucket(waiting, slots, lacking, event, entry.date, places)?;
+    let having = key_of_entry(class, sought.hook, entry);
+    note_able_bucket(waiting, slots, having, event, entry.date, places)?;
+    Ok(())
+}
+
+/// Adds the forks at the event of what stands in the places.
+fn forks_at<L: Ledger>(
+    arrival: &Arrival<'_>,
+    slots: &Slots,
+    places: &[u32],
+    event: u8,
+    steps: &mut Steps<L>,
+    out: &mut Vec<Instance>,
+) -> Result<(), AllocError>
+    requires arrival { IsArrival arrival.now }
+    requires of { AllOf arrival.now.plan.now (members slots.now.slots) }
+    requires event { event < length arrival.now.plan.now.chronicle.events }
+    requires ordered { IsStrictlySortedBy nat_cmp places.now }
+    ensures forks { OnOk result (Adds arrival.now.plan.now arrival.now.focus arrival.now.until (AreForksOfPlaces arrival.now.plan.now arrival.now.focus arrival.now.history.now (entry_of arrival.now.entry.now.value) arrival.now.since arrival.now.until slots.now event places.now) out.old.items out.new.items) }
+    ensures cost { arrival.now.focus ≡ false → steps.new ≤ steps.old + length (members slots.now.slots) }
+{
+    for place in places {
+        let Some(instance) = slots.get(*place) else {
+            continue;
+        };
+        push_forks(arrival, instance, event, steps, out)?;
+    }
+    Ok(())
+}
+
+/// Adds the forks of all instances at the event, for which such a hook looks; the entry has its name.
+fn forks_of_event<L: Ledger>(
+    arrival: &Arrival<'_>,
+    sought: Sought,
+    slots: &Slots,
+    waiting: &mut Index,
+    steps: &mut Steps<L>,
+    places: &mut Vec<u32>,
+    out: &mut Vec<Instance>,
+) -> Result<(), AllocError>
+    requires arrival { IsArrival arrival.now }
+    requires of { AllOf arrival.now.plan.now (members slots.now.slots) }
+    requires event { sought.event < length arrival.now.plan.now.chronicle.events }
+    requires hook { IsHookAt arrival.now.plan.now sought.event sought.hook }
+    requires linked { AreLinkedAt arrival.now.plan.now arrival.now.focus sought.hook slots.now waiting.old sought.event arrival.now.entry.now.value.date }
+    ensures fresh { KeepsFresh slots.now.serials waiting.old waiting.new }
+    ensures standing { KeepsStanding slots.now waiting.old waiting.new }
+    ensures forks { OnOk result (Adds arrival.now.plan.now arrival.now.focus arrival.now.until (AreForksOfEvent arrival.now.plan.now arrival.now.focus arrival.now.history.now (entry_of arrival.now.entry.now.value) arrival.now.since arrival.now.until slots.now sought.event) out.old.items out.new.items) }
+    ensures cost { arrival.now.focus ≡ false → steps.new ≤ steps.old + length (members slots.now.slots) }
+{
+    places.clear();
+    note_candidates(waiting, slots, sought, arrival.entry, places)?;
+    sort_places(places);
+    let places = places.as_slice();
+    forks_at(arrival, slots, places, sought.event, steps, out)
+}
+
+/// Fills `out` with what comes of all instances where one of their awaited events is bound to the
+/// entry, judged at the date `until`.
+#[inline(always)]
+pub(crate) fn forks<L: Ledger>(
+    arrival: &Arrival<'_>,
+    hooks: &[Hook],
+    slots: &Slots,
+    waiting: &mut Index,
+    steps: &mut Steps<L>,
+    places: &mut Vec<u32>,
+    out: &mut Vec<Instance>,
+) -> Result<(), AllocError>
+    requires arrival { IsArrival arrival.now }
+    requires hooks { AllZip IsHookOfEvent (chronicle arrival.now.plan.now).events hooks.now }
+    requires of { AllOf arrival.now.plan.now (members slots.now.slots) }
+    requires linked { AreLinked arrival.now.plan.now arrival.now.focus hooks.now slots.now waiting.old arrival.now.entry.now.value.date }
+    ensures fresh { KeepsFresh slots.now.serials waiting.old waiting.new }
+    ensures standing { KeepsStanding slots.now waiting.old waiting.new }
+    ensures of { OnOk result (AllOf arrival.now.plan.now out.new.items) }
+    ensures able { OnOk result (AllByRecursion (IsAble arrival.now.plan.now arrival.now.focus arrival.now.until) out.new.items) }
+    ensures image { OnOk result (AreForksOfAll arrival.now.plan.now arrival.now.focus arrival.now.history.now (entry_of arrival.now.entry.now.value) arrival.now.since arrival.now.until (members slots.now.slots) out.new.items) }
+    ensures cost { arrival.now.focus ≡ false → steps.new ≤ steps.old + length arrival.now.plan.now.chronicle.events * length (members slots.now.slots) }
+{
+    out.clear();
+    for event in 0..arrival.plan.chronicle.events.len() as u8 {
+        let hook = hooks[event as usize];
+        if hook.name != arrival.entry.name {
+            continue;
+        }
+        let sought = Sought { event, hook };
+        forks_of_event(arrival, sought, slots, waiting, steps, places, out)?;
+    }
+    Ok(())
+}

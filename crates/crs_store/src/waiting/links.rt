@@ -1,0 +1,77 @@
+//! For what instances wait, and who waits for an entry.
+ghost use Rattle.std.specs.Prelude.{◌≡◌, ◌<◌, ◌≤◌, ◌^◌, true, length, OnOk};
+ghost use Rattle.crs_agenda.specs.Freshness.{is_fresh};
+ghost use Rattle.crs_base.specs.Seen.{entry_of};
+ghost use Rattle.crs_base.specs.Words.{IsIn};
+ghost use Rattle.crs_store.specs.Hooks.{Waits, KeepsFresh};
+ghost use Rattle.crs_store.specs.Links.{HasWaiting, HasTouched};
+ghost use Rattle.crs_store.specs.Slots.{handle_at};
+
+use crate::places::note;
+use crate::places::slots::Slots;
+use crate::waiting::hooks::{Hook, key_of_entry, key_of_symbol};
+use crs_base::Entry;
+use crs_index::{Index, Key};
+use std::alloc::AllocError;
+
+/// Notes the places of those that wait under the key.
+pub(crate) fn note_bucket(
+    waiting: &mut Index,
+    slots: &Slots,
+    key: Key,
+    places: &mut Vec<u32>,
+) -> Result<(), AllocError>
+    ensures fresh { KeepsFresh slots.now.serials waiting.old waiting.new }
+    ensures kept { (p : _) → IsIn p places.old.items → IsIn p places.new.items }
+    ensures noted { OnOk result ((p : _) → is_fresh slots.now.serials (handle_at slots.now p) ≡ true → Waits waiting.old key (handle_at slots.now p) → IsIn p places.new.items) }
+{
+    let Some(number) = waiting.find(&key) else {
+        return Ok(());
+    };
+    waiting.clean(number, slots.serials());
+    for handle in waiting.bucket(number) {
+        note(places, handle.place)?;
+    }
+    Ok(())
+}
+
+/// Notes the places of those of the class that wait for such an entry, where it has the hook's name.
+fn note_class(
+    waiting: &mut Index,
+    slots: &Slots,
+    class: u32,
+    hook: Hook,
+    entry: &Entry,
+    places: &mut Vec<u32>,
+) -> Result<(), AllocError>
+    requires { class < 2 ^ 16 }
+    ensures fresh { KeepsFresh slots.now.serials waiting.old waiting.new }
+    ensures kept { (p : _) → IsIn p places.old.items → IsIn p places.new.items }
+    ensures noted { OnOk result (HasWaiting slots.now waiting.old class hook (entry_of entry.now) places.new.items) }
+{
+    if hook.name != entry.name {
+        return Ok(());
+    }
+    note_bucket(waiting, slots, key_of_symbol(class, None), places)?;
+    note_bucket(waiting, slots, key_of_entry(class, hook, entry), places)?;
+    Ok(())
+}
+
+/// Notes the places of those of which the entry may touch a window.
+pub(crate) fn note_touched(
+    waiting: &mut Index,
+    slots: &Slots,
+    hooks: &[Hook],
+    entry: &Entry,
+    places: &mut Vec<u32>,
+) -> Result<(), AllocError>
+    requires { length hooks.now ≤ 16 }
+    ensures fresh { KeepsFresh slots.now.serials waiting.old waiting.new }
+    ensures kept { (p : _) → IsIn p places.old.items → IsIn p places.new.items }
+    ensures noted { OnOk result (HasTouched hooks.now slots.now waiting.old (entry_of entry.now) (length hooks.now) places.new.items) }
+{
+    for k in 0..hooks.len() {
+        note_class(waiting, slots, 16 + k as u32, hooks[k], entry, places)?;
+    }
+    Ok(())
+}
