@@ -22,13 +22,20 @@ use Rattle.crs_layers.specs.Strata.{Stratum, empty, IsPlaced, behind, horizon_be
 use Rattle.crs_layers.specs.Runs.{horizon_of}
 use Rattle.crs_layers.specs.declared.layer.Layer.{Layer}
 use Rattle.crs_layers.specs.LayerPlans.{placed_of, AreLayersOf, IsNewLayer, AreNewLayers}
-use Rattle.crs_layers.specs.Standing.{LayersState, IsLayerAt, AreLayersAt, AreLayers, HasText, placed_in, stratum_in, StandAtStart}
+use Rattle.crs_layers.specs.LayerStates.{LayersState}
+use Rattle.crs_layers.specs.Standing.{IsLayerAt, AreLayersAt, AreLayers, HasText, placed_in, stratum_in, StandAtStart}
 use Rattle.crs_layers.proofs.OneStrata.{one_strata}
 use Rattle.crs_layers.proofs.Beginning.{not_none}
+use Rattle.crs_layers.proofs.Logging.{unsaid}
 
-new_of : (ps : List Plan) (ks : List ℕ) (focus : Bool) (limit j : ℕ) (ls : List Layer) → AreNewLayers ps ks focus limit j ls → AreLayersOf ps ks limit j ls
-new_of ps ks focus limit j [] k = tt
-new_of ps ks focus limit j (l ∷ ls) k = (k.0.of, new_of ps ks focus limit (suc j) ls k.1)
+-- each stratum is below the count
+all_counted : (ks : List ℕ) (n : ℕ) → strata_count ks ≤ n → AllByRecursion (λ k. k < n) ks
+all_counted [] n l = tt
+all_counted (k ∷ ks) n l = (omega (arith, l), all_counted ks n (omega (arith, l)))
+
+new_of : (ps : List Plan) (ks : List ℕ) (focus : Bool) (limit j : ℕ) (ls : List Layer) → j + length ls ≡ strata_count ks → AreNewLayers ps ks focus limit j ls → AreLayersOf ps ks focus limit j ls
+new_of ps ks focus limit j [] e k = all_counted ks j (omega (arith, e))
+new_of ps ks focus limit j (l ∷ ls) e k = (k.0.of, new_of ps ks focus limit (suc j) ls (omega (arith, e)) k.1)
 
 new_near : (ps : List Plan) (ks : List ℕ) (focus : Bool) (limit j : ℕ) (ls : List Layer) → AreNewLayers ps ks focus limit j ls → AllByRecursion (λ l. l.behind ≤ 2 ^ 40) ls
 new_near ps ks focus limit j [] k = tt
@@ -65,12 +72,12 @@ seen_none : (texts : List (List ℕ)) (n : ℕ) → map (stratum_in texts) (repl
 seen_none texts zero = refl
 seen_none texts (suc n) = ap (λ (us : List (Stratum (List ℕ))). empty ∷ us) (seen_none texts n)
 
-some_strata : (ks : List ℕ) → 0 < strata_count ks
+pub some_strata : (ks : List ℕ) → 0 < strata_count ks
 some_strata [] = omega arith
 some_strata (k ∷ ks) = omega arith
 
 -- the strata of placed chronicles
-strata_placed : (texts : List (List ℕ)) (ps : List Plan) (ks : List ℕ) → length ps ≡ length ks → map (λ p. p.stratum) (map (placed_in texts) (placed_of ps ks)) ≡ ks
+pub strata_placed : (texts : List (List ℕ)) (ps : List Plan) (ks : List ℕ) → length ps ≡ length ks → map (λ p. p.stratum) (map (placed_in texts) (placed_of ps ks)) ≡ ks
 strata_placed texts [] [] e = refl
 strata_placed texts [] (k ∷ ks) e = absurd (omega (arith, e))
 strata_placed texts (p ∷ ps) [] e = absurd (omega (arith, e))
@@ -99,7 +106,7 @@ one_placed p k h f =
       finite = finite.1;
     }
 
-all_placed : (ps : List Plan) (ks : List ℕ) → AllByRecursion IsProper ps → (IsIn None (map (λ p. p.lag) ps) → ⊥) → AllByRecursion IsPlaced (placed_of ps ks)
+pub all_placed : (ps : List Plan) (ks : List ℕ) → AllByRecursion IsProper ps → (IsIn None (map (λ p. p.lag) ps) → ⊥) → AllByRecursion IsPlaced (placed_of ps ks)
 all_placed [] ks h f = tt
 all_placed (p ∷ ps) [] h f = tt
 all_placed (p ∷ ps) (k ∷ ks) h f = (one_placed p k h.0 (λ e. f (inl (sym e))), all_placed ps ks h.1 (λ i. f (inr i)))
@@ -107,7 +114,7 @@ all_placed (p ∷ ps) (k ∷ ks) h f = (one_placed p k h.0 (λ e. f (inl (sym e)
 module _ (plans : Plans) (ks : List ℕ) (focus : Bool) (limit : ℕ) (ls : List Layer) (count : length ls ≡ strata_count ks) (new : AreNewLayers (plans_of plans) ks focus limit 0 ls)
     (order : AreInOrder (map chronicle (plans_of plans))) (are : AreStrata (map chronicle (plans_of plans)) ks) where
   abbrev x : LayersState
-  x = record { plans = plans; layers = ls; limit = limit; stopped = false }
+  x = record { plans = plans; layers = ls; focus = focus; limit = limit; last = 0; ended = false; stopped = false }
 
   pub stands_new : StandAtStart x
   stands_new c texts numbers r same_limit =
@@ -118,8 +125,10 @@ module _ (plans : Plans) (ks : List ℕ) (focus : Bool) (limit : ℕ) (ls : List
       record {
         numbers = numbers;
         run = r;
-        of = subst (λ (ms : List ℕ). AreLayersOf (plans_of plans) ms limit 0 ls) (sym same) (new_of (plans_of plans) ks focus limit 0 ls new);
+        of = subst (λ (ms : List ℕ). AreLayersOf (plans_of plans) ms focus limit 0 ls) (sym same) (new_of (plans_of plans) ks focus limit 0 ls (omega (arith, count)) new);
         limit = same_limit;
+        last = refl;
+        ended = refl;
         strata = replicate n empty;
         known = known_none texts n;
         seen = seen_none texts n;
@@ -131,16 +140,16 @@ module _ (plans : Plans) (ks : List ℕ) (focus : Bool) (limit : ℕ) (ls : List
   layers_new proper short = record {
     some = let s = some_strata ks in omega (arith, count, s);
     near = new_near (plans_of plans) ks focus limit 0 ls new;
+    proper = proper;
+    lags = not_none (plans_of plans) ks order are short;
     standing = λ _. record {
       numbers = ks;
-      of = new_of (plans_of plans) ks focus limit 0 ls new;
-      placed = all_placed (plans_of plans) ks proper (not_none (plans_of plans) ks order are short);
-      ended = false;
+      of = new_of (plans_of plans) ks focus limit 0 ls (omega (arith, count)) new;
       horizon = 0;
-      last = 0;
       delay = 0;
       strata = replicate (length ls) empty;
       at = new_at (plans_of plans) ks focus limit (λ j. horizon_behind false 0 (behind (placed_of (plans_of plans) ks) j)) (λ j. at_none (behind (placed_of (plans_of plans) ks) j)) 0 (length ls) ls refl new;
+      each = unsaid (replicate (length ls) empty);
       within = omega arith;
       closed = λ e. absurd (true≢false (sym e));
     };

@@ -1,40 +1,35 @@
 -- What layers stand for once a line takes them on.
-use Rattle.std.proofs.Common.{◌≡◌, ℕ, ◌+◌, ◌<◌, ◌≤◌, ◌^◌, Bool, true, false, nat_lt, nat_le, cond, List, [], ◌∷◌, ◌++◌, length, map, refl, sym, ap, subst, ◌∙◌, arith}
+use Rattle.std.proofs.Common.{◌≡◌, ℕ, ◌+◌, ◌<◌, ◌^◌, Bool, true, false, nat_lt, nat_le, cond, List, [], ◌∷◌, ◌++◌, length, map, refl, sym, ap, subst, ◌∙◌}
 use Rattle.std.specs.List.{AllByRecursion, AllZip}
-use Rattle.std.proofs.lemmas.Bool.{ltb-false}
 use Rattle.std.proofs.lemmas.List.{map-append, length-map}
 use Rattle.crs_base.specs.declared.symbols.Sym.{Sym}
 use Rattle.crs_base.specs.Entry.{Entry}
 use Rattle.crs_base.specs.Symbols.{with_texts}
 use Rattle.crs_base.proofs.Alls.{all_append}
 use Rattle.crs_model.specs.declared.plan.Plan.{Plan}
-use Rattle.crs_model.specs.declared.recognition.Mark.{Mark}
-use Rattle.crs_model.specs.declared.recognition.Mark.TheVariants.{Clock as AtClock, Finish as AtEnd}
 use Rattle.crs_model.specs.Plans.{chronicle}
 use Rattle.crs_model.specs.Renaming.{text_in, renamed_entry, IsChronicleOf, IsEntryOf}
 use Rattle.crs_model.proofs.Agreed.{same_chronicle, same_entries, chronicle_more, entries_more}
 use Rattle.crs_log.proofs.Parts.{kept_all}
-use Rattle.crs_log.specs.ItemOf.{What, Empty, Is, Faulty, what_of}
-use Rattle.crs_log.specs.Items.{Item, Delay, Clock, Finish, Happens, Event}
+use Rattle.crs_log.specs.Items.{Happens, Event}
 use Rattle.crs_log.specs.Known.{Verdict, Other, Named, BadArity, BadValue, known_of, entry_of_event, texts_of, new_texts}
-use Rattle.crs_log.specs.Reading.{Given, Plain, Long}
 use Rattle.crs_log.specs.Run as run
-use Rattle.crs_log.specs.Run.{Outcome, Passed, Refused, Accepted, Marked, with_entry, horizon_at, end_date}
+use Rattle.crs_log.specs.Run.{Outcome, Passed, Refused, Accepted, with_entry}
 use Rattle.crs_engine.specs.Engines.{plans_of}
-use Rattle.crs_layers.specs.Strata.{Stratum, with_logged, behind, horizon_behind}
-use Rattle.crs_layers.specs.Runs.{Setting, State, Effect, is_full, after_verdict, after_ordered, after_what, after_line, horizon_of, IsAfter, IsStep}
+use Rattle.crs_layers.specs.Strata.{Stratum, with_logged}
+use Rattle.crs_layers.specs.Runs.{Setting, State, Effect, is_full, after_verdict, after_ordered, horizon_of, IsAfter, IsItemEffect}
 use Rattle.crs_layers.specs.declared.layer.Layer.{Layer}
 use Rattle.crs_layers.specs.LayerPlans.{placed_of}
 use Rattle.crs_layers.specs.Accepting.{IsSameLayer, IsDelayed, IsReady, HasLogged}
-use Rattle.crs_layers.specs.Standing.{LayersState, HasText, placed_in, stratum_in, IsRunOf, StandFor, IsItemOf, TakeDelay, TakeEntry}
+use Rattle.crs_layers.specs.LayerStates.{LayersState}
+use Rattle.crs_layers.specs.Standing.{HasText, placed_in, stratum_in, IsRunOf, StandFor}
+use Rattle.crs_layers.specs.Takes.{TakeDelay, TakeEntry}
 use Rattle.crs_layers.proofs.Logging.{logged_all, logged_of, delayed_all, delayed_of}
 
--- an accepted event adds its entry and its texts, in a state that no end came before
+-- an accepted event adds its entry and its texts
 record IsMore (s t : run.State) (y : Entry (List ℕ)) : Type 0 where
   event : Event
   is : t ≡ with_entry s y event
-  open_now : s.ended ≡ false
-  due : s.horizon ≤ y.date
 
 abbrev IsAdded : run.State → run.State × Outcome → Type 0
 IsAdded s r = (y : Entry (List ℕ)) → r.1 ≡ Accepted y → IsMore s r.0 y
@@ -46,61 +41,38 @@ module _ (c : run.Setting) (full : Bool) (s : run.State) where
   refuses : (after : run.State) (f : run.Fault) → IsAdded s (after, Refused f)
   refuses after f y h = absurd cc
 
-  marks_it : (after : run.State) (k : Mark) → IsAdded s (after, Marked k)
-  marks_it after k y h = absurd cc
-
-  either : (b : Bool) (r q : run.State × Outcome) → IsAdded s r → (b ≡ false → IsAdded s q) → IsAdded s (cond b r q)
+  either : (b : Bool) (r q : run.State × Outcome) → IsAdded s r → IsAdded s q → IsAdded s (cond b r q)
   either true r q h k = h
-  either false r q h k = k refl
+  either false r q h k = k
 
-  module _ (o : s.ended ≡ false) where
-    adds : (e : Event) → s.horizon ≤ e.date → IsAdded s (with_entry s (entry_of_event (length s.accepted) e) e, Accepted (entry_of_event (length s.accepted) e))
-    adds e l y h =
-        let same : entry_of_event (length s.accepted) e ≡ y = cc in
-        record { event = e; is = ap (λ (z : Entry (List ℕ)). with_entry s z e) same; open_now = o; due = subst (λ (z : Entry (List ℕ)). s.horizon ≤ z.date) same l }
+  adds : (e : Event) → IsAdded s (with_entry s (entry_of_event (length s.accepted) e) e, Accepted (entry_of_event (length s.accepted) e))
+  adds e y h =
+      let same : entry_of_event (length s.accepted) e ≡ y = cc in
+      record { event = e; is = ap (λ (z : Entry (List ℕ)). with_entry s z e) same }
 
-    named_adds : (e : Event) → s.horizon ≤ e.date → IsAdded s (run.after_named c s e)
-    named_adds e l = by (nat_lt (length s.accepted) c.entries) (nat_le (length s.texts + length (new_texts s.texts (texts_of e))) c.symbols)
-      where
-        by : (a b : Bool) → IsAdded s (cond {A = run.State × Outcome} a (cond b (with_entry s (entry_of_event (length s.accepted) e) e, Accepted (entry_of_event (length s.accepted) e)) (s, Refused (run.Values c.symbols))) (s, Refused (run.Full c.entries)))
-        by true true = adds e l
-        by true false = refuses s (run.Values c.symbols)
-        by false b = refuses s (run.Full c.entries)
+  named_adds : (e : Event) → IsAdded s (run.after_named c s e)
+  named_adds e = by (nat_lt (length s.accepted) c.entries) (nat_le (length s.texts + length (new_texts s.texts (texts_of e))) c.symbols)
+    where
+      by : (a b : Bool) → IsAdded s (cond {A = run.State × Outcome} a (cond b (with_entry s (entry_of_event (length s.accepted) e) e, Accepted (entry_of_event (length s.accepted) e)) (s, Refused (run.Values c.symbols))) (s, Refused (run.Full c.entries)))
+      by true true = adds e
+      by true false = refuses s (run.Values c.symbols)
+      by false b = refuses s (run.Full c.entries)
 
-    verdict_adds : (e : Event) → s.horizon ≤ e.date → (v : Verdict) → IsAdded s (after_verdict c full s e v)
-    verdict_adds e l Other = passes s
-    verdict_adds e l BadArity = refuses s run.Arity
-    verdict_adds e l BadValue = refuses s run.Value
-    verdict_adds e l (Named place) = either full (s, Refused (run.Full c.entries)) (run.after_named c s e) (refuses s (run.Full c.entries)) (λ _. named_adds e l)
+  verdict_adds : (e : Event) (v : Verdict) → IsAdded s (after_verdict c full s e v)
+  verdict_adds e Other = passes s
+  verdict_adds e BadArity = refuses s run.Arity
+  verdict_adds e BadValue = refuses s run.Value
+  verdict_adds e (Named place) = either full (s, Refused (run.Full c.entries)) (run.after_named c s e) (refuses s (run.Full c.entries)) (named_adds e)
 
-    ordered_adds : (item : Item) → IsAdded s (after_ordered c full s item)
-    ordered_adds (Delay d) = passes (record s { delay = d })
-    ordered_adds (Clock t) =
-        let now : run.State = record s { last = t; horizon = horizon_at s.delay s.horizon t; marked = length s.accepted } in
-        either (nat_lt t s.last) (s, Refused (run.Back t s.last)) (now, Marked (AtClock t)) (refuses s (run.Back t s.last)) (λ _. marks_it now (AtClock t))
-    ordered_adds Finish = marks_it (record s { last = end_date; horizon = end_date; ended = true; marked = length s.accepted }) AtEnd
-    ordered_adds (Happens e) =
-        either (nat_lt e.date s.horizon) (s, Refused (run.Late e.date s.horizon)) (after_verdict c full s e (known_of c.names e))
-        (refuses s (run.Late e.date s.horizon)) (λ q. verdict_adds e (ltb-false e.date s.horizon q) (known_of c.names e))
+  event_adds : (e : Event) → IsAdded s (after_ordered c full s (Happens e))
+  event_adds e =
+      either (nat_lt e.date s.horizon) (s, Refused (run.Late e.date s.horizon)) (after_verdict c full s e (known_of c.names e))
+      (refuses s (run.Late e.date s.horizon)) (verdict_adds e (known_of c.names e))
 
-  what_adds : (w : What) → IsAdded s (after_what c full s w)
-  what_adds Empty = passes s
-  what_adds Faulty = refuses s run.Form
-  what_adds (Is item) = either s.ended (s, Refused run.Order) (after_ordered c full s item) (refuses s run.Order) (λ q. ordered_adds q item)
-
-  line_adds : (g : Given) → IsAdded s (after_line c full s g)
-  line_adds (Long number) = refuses s run.TooLong
-  line_adds (Plain number bytes) = what_adds (what_of bytes)
-
-  -- what a line that is an item becomes, where no end came before
-  pub item_leaves : (item : Item) (g : Given) → IsItemOf item g → s.ended ≡ false → after_line c full s g ≡ after_ordered c full s item
-  item_leaves item (Long number) is o = absurd is
-  item_leaves item (Plain number bytes) is o = ap (after_what c full s) is ∙ (λ i. cond (o i) (s, Refused run.Order) (after_ordered c full s item))
-
-entry_step : (c : Setting) (s : State) (line : Given) (e : Effect) (t : State) → IsStep c s line e t → (y : Entry (List ℕ)) → e.outcome ≡ Accepted y → IsMore s.log t.log y
-entry_step c s line e t k y q =
+entry_step : (c : Setting) (s : State) (n : ℕ) (event : Event) (e : Effect) (t : State) → IsItemEffect c s n (Happens event) e t → (y : Entry (List ℕ)) → e.outcome ≡ Accepted y → IsMore s.log t.log y
+entry_step c s n event e t k y q =
     subst (λ (u : run.State). IsMore s.log u y) (ap (λ (r : run.State × Outcome). r.0) k.log)
-    (line_adds c.log (is_full c.log.entries s.strata) s.log line y (ap (λ (r : run.State × Outcome). r.1) k.log ∙ q))
+    (event_adds c.log (is_full c.log.entries s.strata) s.log event y (ap (λ (r : run.State × Outcome). r.1) k.log ∙ q))
 
 -- ---- more texts
 
@@ -151,20 +123,15 @@ module _ (T ts : List (List ℕ)) where
 
 -- ---- a logged entry
 
-low_everywhere : (b : Bool) (h d n : ℕ) → b ≡ false → h ≤ d → horizon_behind b h n ≤ d
-low_everywhere true h d n e l = absurd cc
-low_everywhere false h d n e l = omega (arith, l)
-
 pub entry_taken : (old : LayersState) (x : Entry Sym) (ms : List Layer) → x.date < 2 ^ 40 → AllByRecursion (IsReady x.date) old.layers → AllZip IsSameLayer old.layers ms → AllZip (HasLogged x) old.layers ms
     → TakeEntry old (record old { layers = ms }) x
-entry_taken old x ms date ready q z c s line e t b k a =
+entry_taken old x ms date ready q z c s n event e t b k a =
     let T : List (List ℕ) = s.log.texts in
-    let more : IsMore s.log t.log (renamed_entry (text_in t.log.texts) x) = entry_step c s line e t k (renamed_entry (text_in t.log.texts) x) a.accepted in
+    let more : IsMore s.log t.log (renamed_entry (text_in t.log.texts) x) = entry_step c s n event e t k (renamed_entry (text_in t.log.texts) x) a.accepted in
     let ts : List (List ℕ) = texts_of more.event in
     let same : t.log.texts ≡ with_texts T ts = ap (λ (u : run.State). u.texts) more.is in
     let y : Entry (List ℕ) = renamed_entry (text_in (with_texts T ts)) x in
     let known : IsEntryOf (HasText (with_texts T ts)) x = subst (λ (us : List (List ℕ)). IsEntryOf (HasText us) x) same a.known in
-    let due : (j : ℕ) → horizon_of c s.log j ≤ x.date = λ j. low_everywhere s.log.ended s.log.horizon x.date (behind c.placed j) more.open_now more.due in
     let log : t.log ≡ with_entry s.log y more.event = more.is ∙ (λ i. with_entry s.log (renamed_entry (text_in (same i)) x) more.event) in
     let after : (t.strata ≡ map (with_logged (renamed_entry (text_in t.log.texts) x)) s.strata) × (e.given ≡ []) = subst (λ (o : Outcome). IsAfter c s t.log o t.strata e.given) a.accepted k.strata in
     let strata : t.strata ≡ map (with_logged y) s.strata = after.0 ∙ (λ i. map (with_logged (renamed_entry (text_in (same i)) x)) s.strata) in
@@ -172,12 +139,14 @@ entry_taken old x ms date ready q z c s line e t b k a =
     let there : StandFor c now (record old { layers = ms }) = record {
       numbers = b.numbers;
       run = run_more T ts (plans_of old.plans) b.numbers c b.run;
-      of = logged_of (plans_of old.plans) b.numbers old.limit 0 x old.layers ms b.of q z;
+      of = logged_of (plans_of old.plans) b.numbers old.focus old.limit 0 x old.layers ms b.of q z;
       limit = b.limit;
+      last = b.last;
+      ended = b.ended;
       strata = map (with_logged x) b.strata;
       known = strata_known T ts x known b.strata b.known;
       seen = strata_seen T ts x known b.strata b.known ∙ ap (map (with_logged y)) b.seen;
-      at = logged_all (horizon_of c s.log) s.log.last s.log.delay 0 x due date b.strata old.layers ms b.at ready q z;
+      at = logged_all (horizon_of c s.log) s.log.last s.log.delay 0 x date b.strata old.layers ms b.at ready q z;
       running = b.running;
     } in
     subst (λ (u : State). StandFor c u (record old { layers = ms })) (sym (λ i. record { log = log i; strata = strata i })) there
@@ -185,8 +154,8 @@ entry_taken old x ms date ready q z c s line e t b k a =
 -- ---- another delay
 
 pub delay_taken : (old : LayersState) (d : ℕ) (ms : List Layer) → AllZip (IsDelayed d) old.layers ms → TakeDelay old (record old { layers = ms }) d
-delay_taken old d ms z c s line e t b o is k =
-    let leaves : (record s.log { delay = d }, Passed) ≡ (t.log, e.outcome) = sym (item_leaves c.log (is_full c.log.entries s.strata) s.log (Delay d) line is o) ∙ k.log in
+delay_taken old d ms z c s n e t b k =
+    let leaves : (record s.log { delay = d }, Passed) ≡ (t.log, e.outcome) = k.log in
     let log : t.log ≡ record s.log { delay = d } = sym (ap (λ (r : run.State × Outcome). r.0) leaves) in
     let passed : e.outcome ≡ Passed = sym (ap (λ (r : run.State × Outcome). r.1) leaves) in
     let after : (t.strata ≡ s.strata) × (e.given ≡ []) = subst (λ (u : Outcome). IsAfter c s t.log u t.strata e.given) passed k.strata in
@@ -194,8 +163,10 @@ delay_taken old d ms z c s line e t b o is k =
     let there : StandFor c now (record old { layers = ms }) = record {
       numbers = b.numbers;
       run = b.run;
-      of = delayed_of (plans_of old.plans) b.numbers old.limit d 0 old.layers ms b.of z;
+      of = delayed_of (plans_of old.plans) b.numbers old.focus old.limit d 0 old.layers ms b.of z;
       limit = b.limit;
+      last = b.last;
+      ended = b.ended;
       strata = b.strata;
       known = b.known;
       seen = b.seen;

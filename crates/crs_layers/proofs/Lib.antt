@@ -17,3 +17,12 @@ pub mod Dated
 pub mod Whole
 pub mod Passed
 pub mod PassedOn
+pub mod Renumbered
+pub mod Gathered
+pub mod TextSide
+pub mod MarkTaken
+pub mod Read
+pub mod Ending
+pub mod OneRun
+pub mod Alone
+pub mod StayingOn

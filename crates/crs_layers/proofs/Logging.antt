@@ -23,8 +23,8 @@ use Rattle.crs_layers.specs.Strata.{Stratum, behind, horizon_behind, with_logged
 use Rattle.crs_layers.specs.declared.layer.Layer.{Layer}
 use Rattle.crs_layers.specs.LayerPlans.{placed_of, AreLayersOf}
 use Rattle.crs_layers.specs.Accepting.{IsSameLayer, IsDelayed, IsReady, HasLogged}
-use Rattle.crs_layers.specs.Standing.{LayersState, IsLayerAt, AreLayersAt, AreStanding, AreLayers}
-use Rattle.crs_layers.specs.Halts.{horizon_in, is_full_in}
+use Rattle.crs_layers.specs.LayerStates.{LayersState, first_of, horizon_in, is_full_in}
+use Rattle.crs_layers.specs.Standing.{IsLayerAt, AreLayersAt, AreStanding, AreLayers}
 use Rattle.crs_layers.proofs.Parting.{before_last, since_last}
 use Rattle.crs_layers.proofs.Splitting.{numbered_append}
 
@@ -88,11 +88,11 @@ delayed_all h last delay d j (s ∷ ss) [] ms k z = absurd k
 delayed_all h last delay d j (s ∷ ss) (l ∷ ls) [] k z = absurd z
 delayed_all h last delay d j (s ∷ ss) (l ∷ ls) (m ∷ ms) k z = (delayed_at (h j) last delay d s l m k.0 z.0, delayed_all h last delay d (suc j) ss ls ms k.1 z.1)
 
-pub delayed_of : (ps : List Plan) (ks : List ℕ) (limit d j : ℕ) (ls ms : List Layer) → AreLayersOf ps ks limit j ls → AllZip (IsDelayed d) ls ms → AreLayersOf ps ks limit j ms
-delayed_of ps ks limit d j [] [] k z = tt
-delayed_of ps ks limit d j [] (m ∷ ms) k z = absurd z
-delayed_of ps ks limit d j (l ∷ ls) [] k z = absurd z
-delayed_of ps ks limit d j (l ∷ ls) (m ∷ ms) k z =
+pub delayed_of : (ps : List Plan) (ks : List ℕ) (focus : Bool) (limit d j : ℕ) (ls ms : List Layer) → AreLayersOf ps ks focus limit j ls → AllZip (IsDelayed d) ls ms → AreLayersOf ps ks focus limit j ms
+delayed_of ps ks focus limit d j [] [] k z = k
+delayed_of ps ks focus limit d j [] (m ∷ ms) k z = absurd z
+delayed_of ps ks focus limit d j (l ∷ ls) [] k z = absurd z
+delayed_of ps ks focus limit d j (l ∷ ls) (m ∷ ms) k z =
     let e : m.engine ≡ record l.engine { delay = d + l.behind } = z.0.value in
     let near = k.0.near in
     let same = z.0.same.behind in (
@@ -101,9 +101,10 @@ delayed_of ps ks limit d j (l ∷ ls) (m ∷ ms) k z =
         numbers = z.0.same.numbers ∙ k.0.numbers;
         own_behind = same ∙ k.0.own_behind;
         near = omega (arith, near, same);
+        own_focus = ap (λ (x : EngineState). x.focus) e ∙ k.0.own_focus;
         own_limit = ap (λ (x : EngineState). x.limit) e ∙ k.0.own_limit;
       },
-      delayed_of ps ks limit d (suc j) ls ms k.1 z.1,
+      delayed_of ps ks focus limit d (suc j) ls ms k.1 z.1,
     )
 
 -- ---- a logged entry
@@ -135,21 +136,21 @@ logged_at h last delay s l m x k room same g due date =
           (g.stands (dated_before h s.accepted) (in_key_order (since h s.accepted)) k.stands)));
     }
 
-pub logged_all : (h : ℕ → ℕ) (last delay j : ℕ) (x : Entry Sym) → ((i : ℕ) → h i ≤ x.date) → x.date < 2 ^ 40 → (ss : List (Stratum Sym)) (ls ms : List Layer)
+pub logged_all : (h : ℕ → ℕ) (last delay j : ℕ) (x : Entry Sym) → x.date < 2 ^ 40 → (ss : List (Stratum Sym)) (ls ms : List Layer)
     → AreLayersAt h last delay j ss ls → AllByRecursion (IsReady x.date) ls → AllZip IsSameLayer ls ms → AllZip (HasLogged x) ls ms → AreLayersAt h last delay j (map (with_logged x) ss) ms
-logged_all h last delay j x due date [] [] [] k r q z = tt
-logged_all h last delay j x due date [] [] (m ∷ ms) k r q z = absurd z
-logged_all h last delay j x due date [] (l ∷ ls) ms k r q z = absurd k
-logged_all h last delay j x due date (s ∷ ss) [] ms k r q z = absurd k
-logged_all h last delay j x due date (s ∷ ss) (l ∷ ls) [] k r q z = absurd z
-logged_all h last delay j x due date (s ∷ ss) (l ∷ ls) (m ∷ ms) k r q z =
-    (logged_at (h j) last delay s l m x k.0 r.0.room q.0 z.0 (due j) date, logged_all h last delay (suc j) x due date ss ls ms k.1 r.1 q.1 z.1)
+logged_all h last delay j x date [] [] [] k r q z = tt
+logged_all h last delay j x date [] [] (m ∷ ms) k r q z = absurd z
+logged_all h last delay j x date [] (l ∷ ls) ms k r q z = absurd k
+logged_all h last delay j x date (s ∷ ss) [] ms k r q z = absurd k
+logged_all h last delay j x date (s ∷ ss) (l ∷ ls) [] k r q z = absurd z
+logged_all h last delay j x date (s ∷ ss) (l ∷ ls) (m ∷ ms) k r q z =
+    (logged_at (h j) last delay s l m x k.0 r.0.room q.0 z.0 (let a = k.0.horizon in let b = r.0.due in omega (arith, a, b)) date, logged_all h last delay (suc j) x date ss ls ms k.1 r.1 q.1 z.1)
 
-pub logged_of : (ps : List Plan) (ks : List ℕ) (limit j : ℕ) (x : Entry Sym) (ls ms : List Layer) → AreLayersOf ps ks limit j ls → AllZip IsSameLayer ls ms → AllZip (HasLogged x) ls ms → AreLayersOf ps ks limit j ms
-logged_of ps ks limit j x [] [] k q z = tt
-logged_of ps ks limit j x [] (m ∷ ms) k q z = absurd z
-logged_of ps ks limit j x (l ∷ ls) [] k q z = absurd z
-logged_of ps ks limit j x (l ∷ ls) (m ∷ ms) k q z =
+pub logged_of : (ps : List Plan) (ks : List ℕ) (focus : Bool) (limit j : ℕ) (x : Entry Sym) (ls ms : List Layer) → AreLayersOf ps ks focus limit j ls → AllZip IsSameLayer ls ms → AllZip (HasLogged x) ls ms → AreLayersOf ps ks focus limit j ms
+logged_of ps ks focus limit j x [] [] k q z = k
+logged_of ps ks focus limit j x [] (m ∷ ms) k q z = absurd z
+logged_of ps ks focus limit j x (l ∷ ls) [] k q z = absurd z
+logged_of ps ks focus limit j x (l ∷ ls) (m ∷ ms) k q z =
     let near = k.0.near in
     let same = q.0.behind in (
       record {
@@ -157,10 +158,24 @@ logged_of ps ks limit j x (l ∷ ls) (m ∷ ms) k q z =
         numbers = q.0.numbers ∙ k.0.numbers;
         own_behind = same ∙ k.0.own_behind;
         near = omega (arith, near, same);
+        own_focus = z.0.accepted.same_focus ∙ k.0.own_focus;
         own_limit = z.0.accepted.same_limit ∙ k.0.own_limit;
       },
-      logged_of ps ks limit (suc j) x ls ms k.1 q.1 z.1,
+      logged_of ps ks focus limit (suc j) x ls ms k.1 q.1 z.1,
     )
+
+-- ---- how many stratum 0 accepted
+
+pub first_delayed : (d : ℕ) (ls ms : List Layer) → AllZip (IsDelayed d) ls ms → first_of (λ e. e.accepted) ms ≡ first_of (λ e. e.accepted) ls + 0
+first_delayed d [] [] z = refl
+first_delayed d [] (m ∷ ms) z = absurd z
+first_delayed d (l ∷ ls) [] z = absurd z
+first_delayed d (l ∷ ls) (m ∷ ms) z = let e = ap (λ (x : EngineState). x.accepted) z.0.value in omega (arith, e)
+
+pub first_logged : (x : Entry Sym) (ls ms : List Layer) → 0 < length ls → AllZip (HasLogged x) ls ms → first_of (λ e. e.accepted) ms ≡ first_of (λ e. e.accepted) ls + 1
+first_logged x [] ms l z = absurd (omega (arith, l))
+first_logged x (l ∷ ls) [] k z = absurd z
+first_logged x (l ∷ ls) (m ∷ ms) k z = z.0.accepted.one_more
 
 -- ---- no stratum refuses an entry that isn't late for stratum 0, where none is full
 
@@ -189,7 +204,7 @@ first_latest : (ended : Bool) (n b : ℕ) → horizon_behind ended n b ≤ horiz
 first_latest true n b = omega arith
 first_latest false n b = omega arith
 
-first_at : (h : ℕ → ℕ) (last delay : ℕ) (ss : List (Stratum Sym)) (x : LayersState) → 0 < length x.layers → AreLayersAt h last delay 0 ss x.layers → horizon_in x ≡ h 0
+pub first_at : (h : ℕ → ℕ) (last delay : ℕ) (ss : List (Stratum Sym)) (x : LayersState) → 0 < length x.layers → AreLayersAt h last delay 0 ss x.layers → horizon_in x ≡ h 0
 first_at h last delay ss x some k = by ss x.layers some k
   where
     by : (ss : List (Stratum Sym)) (ls : List Layer) → 0 < length ls → AreLayersAt h last delay 0 ss ls → horizon_in (record x { layers = ls }) ≡ h 0
@@ -198,46 +213,51 @@ first_at h last delay ss x some k = by ss x.layers some k
     by (s ∷ ss) [] l k = absurd k
     by (s ∷ ss) (m ∷ ms) l k = k.0.horizon
 
-module _ (x : LayersState) (some : 0 < length x.layers) (a : AreStanding x) (date : ℕ) (due : horizon_in x ≤ date) where
+module _ (x : LayersState) (some : 0 < length x.layers) (a : AreStanding (λ e. Unit {0}) x) (date : ℕ) (due : horizon_in x ≤ date) where
   abbrev horizons : ℕ → ℕ
-  horizons j = horizon_behind a.ended a.horizon (behind (placed_of (plans_of x.plans) a.numbers) j)
+  horizons j = horizon_behind x.ended a.horizon (behind (placed_of (plans_of x.plans) a.numbers) j)
 
   pub due_everywhere : (j : ℕ) → horizons j ≤ date
   due_everywhere j =
-      let e : horizon_in x ≡ horizons 0 = first_at horizons a.last a.delay a.strata x some a.at in
-      let l = first_latest a.ended a.horizon (behind (placed_of (plans_of x.plans) a.numbers) j) in
+      let e : horizon_in x ≡ horizons 0 = first_at horizons x.last a.delay a.strata x some a.at in
+      let l = first_latest x.ended a.horizon (behind (placed_of (plans_of x.plans) a.numbers) j) in
       omega (arith, e, l, due)
 
   pub standing_ready : is_full_in x ≡ false → AllByRecursion (IsReady date) x.layers
-  standing_ready e = ready_all horizons a.last a.delay 0 date due_everywhere a.strata x.layers a.at e
+  standing_ready e = ready_all horizons x.last a.delay 0 date due_everywhere a.strata x.layers a.at e
 
-pub standing_logged : (x : LayersState) (some : 0 < length x.layers) (a : AreStanding x) (e : Entry Sym) → horizon_in x ≤ e.date → e.date < 2 ^ 40 → is_full_in x ≡ false
-    → (ms : List Layer) → AllZip IsSameLayer x.layers ms → AllZip (HasLogged e) x.layers ms → AreStanding (record x { layers = ms })
+-- of what they accepted nothing is said
+pub unsaid : (ss : List (Stratum Sym)) → AllByRecursion (λ s. AllByRecursion (λ e. Unit {0}) s.accepted) ss
+unsaid [] = tt
+unsaid (s ∷ ss) = (unsaid_of s.accepted, unsaid ss)
+  where
+    unsaid_of : (es : List (Entry Sym)) → AllByRecursion (λ e. Unit {0}) es
+    unsaid_of [] = tt
+    unsaid_of (e ∷ es) = (tt, unsaid_of es)
+
+pub standing_logged : (x : LayersState) (some : 0 < length x.layers) (a : AreStanding (λ e. Unit {0}) x) (e : Entry Sym) → horizon_in x ≤ e.date → e.date < 2 ^ 40 → is_full_in x ≡ false
+    → (ms : List Layer) → AllZip IsSameLayer x.layers ms → AllZip (HasLogged e) x.layers ms → AreStanding (λ e. Unit {0}) (record x { layers = ms })
 standing_logged x some a e due date full ms q z = record {
   numbers = a.numbers;
-  of = logged_of (plans_of x.plans) a.numbers x.limit 0 e x.layers ms a.of q z;
-  placed = a.placed;
-  ended = a.ended;
+  of = logged_of (plans_of x.plans) a.numbers x.focus x.limit 0 e x.layers ms a.of q z;
   horizon = a.horizon;
-  last = a.last;
   delay = a.delay;
   strata = map (with_logged e) a.strata;
-  at = logged_all _ a.last a.delay 0 e (due_everywhere x some a e.date due) date a.strata x.layers ms a.at (standing_ready x some a e.date due full) q z;
+  at = logged_all _ x.last a.delay 0 e date a.strata x.layers ms a.at (standing_ready x some a e.date due full) q z;
+  each = unsaid _;
   within = a.within;
   closed = a.closed;
 }
 
-pub standing_delayed : (x : LayersState) (a : AreStanding x) (d : ℕ) (ms : List Layer) → AllZip (IsDelayed d) x.layers ms → AreStanding (record x { layers = ms })
+pub standing_delayed : (x : LayersState) (a : AreStanding (λ e. Unit {0}) x) (d : ℕ) (ms : List Layer) → AllZip (IsDelayed d) x.layers ms → AreStanding (λ e. Unit {0}) (record x { layers = ms })
 standing_delayed x a d ms z = record {
   numbers = a.numbers;
-  of = delayed_of (plans_of x.plans) a.numbers x.limit d 0 x.layers ms a.of z;
-  placed = a.placed;
-  ended = a.ended;
+  of = delayed_of (plans_of x.plans) a.numbers x.focus x.limit d 0 x.layers ms a.of z;
   horizon = a.horizon;
-  last = a.last;
   delay = d;
   strata = a.strata;
-  at = delayed_all _ a.last a.delay d 0 a.strata x.layers ms a.at z;
+  at = delayed_all _ x.last a.delay d 0 a.strata x.layers ms a.at z;
+  each = unsaid _;
   within = a.within;
   closed = a.closed;
 }
@@ -258,6 +278,8 @@ layers_delayed x d ms z a =
     record {
       some = same_some x.layers ms same a.some;
       near = same_near x.layers ms same a.near;
+      proper = a.proper;
+      lags = a.lags;
       standing = λ running. standing_delayed x (a.standing running) d ms z;
     }
 
@@ -266,6 +288,8 @@ pub layers_logged : (x : LayersState) (e : Entry Sym) → x.stopped ≡ false �
 layers_logged x e running due date full ms q z a = record {
   some = same_some x.layers ms q a.some;
   near = same_near x.layers ms q a.near;
+  proper = a.proper;
+  lags = a.lags;
   standing = λ _. standing_logged x a.some (a.standing running) e due date full ms q z;
 }
 
@@ -273,6 +297,8 @@ pub layers_stopped : (x : LayersState) (ms : List Layer) → AllZip IsSameLayer 
 layers_stopped x ms q a = record {
   some = same_some x.layers ms q a.some;
   near = same_near x.layers ms q a.near;
+  proper = a.proper;
+  lags = a.lags;
   standing = λ e. absurd (true≢false e);
 }
 

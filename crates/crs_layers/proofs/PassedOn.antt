@@ -80,8 +80,8 @@ swap false true false false = refl
 swap false false true d = refl
 swap false false false d = refl
 
-module _ (text_of : Sym → List ℕ) (cs : List (Placed Sym)) (limit : ℕ) (g h : ℕ → ℕ) (last delay : ℕ) (ps : List Plan) (ks : List ℕ) (ys : List (Entry Sym)) where
-  all_floods : (j : ℕ) (given : List (Entry Sym)) (ss news : List (Stratum Sym)) (all : List (List (Entry Sym))) (ls ts : List Layer) → AreLayersAt g last delay j ss ls → AreLayersOf ps ks limit j ls
+module _ (text_of : Sym → List ℕ) (cs : List (Placed Sym)) (limit : ℕ) (g h : ℕ → ℕ) (last delay : ℕ) (ps : List Plan) (ks : List ℕ) (focus : Bool) (ys : List (Entry Sym)) where
+  all_floods : (j : ℕ) (given : List (Entry Sym)) (ss news : List (Stratum Sym)) (all : List (List (Entry Sym))) (ls ts : List Layer) → AreLayersAt g last delay j ss ls → AreLayersOf ps ks focus limit j ls
       → AreLayersAt g last delay j (map (given_to limit ys) ss) ts → AllZip (HasTaken ys) ls ts → IsMarkFrom text_of cs limit g h j given (map (given_to limit ys) ss) news all
       → (list_any (is_flooded_by (length ys)) ls || some_flooded limit (map (given_to limit ys) ss) all) ≡ some_flooded limit ss (map (λ us. ys ++ us) all)
   all_floods j given [] news all [] ts k o q z m = refl
@@ -120,8 +120,8 @@ module _ (texts : List (List ℕ)) (mark : Mark) (w : Passing) (s : Stratum Sym)
       known_plans = r.known_plans;
       placed = r.placed;
       behind = r.behind;
-      of = taken_of w.plans w.numbers w.limit (suc w.stratum) gifts ls ts r.of.1 t.taken;
-      at = taken_at w.horizons w.last w.delay (suc w.stratum) w.limit w.plans w.numbers gifts ss ls ts r.at.1 r.of.1 t.taken;
+      of = taken_of w.plans w.numbers w.focus w.limit (suc w.stratum) gifts ls ts r.of.1 t.taken;
+      at = taken_at w.horizons w.last w.delay (suc w.stratum) w.focus w.limit w.plans w.numbers gifts ss ls ts r.at.1 r.of.1 t.taken;
       known = given_known texts w.limit gifts (gift_known texts mark w s ss l m ls answer first r same z) ss r.known.1;
       timely = r.timely;
     }
@@ -143,6 +143,7 @@ module _ (texts : List (List ℕ)) (mark : Mark) (w : Passing) (s : Stratum Sym)
               numbers = same.numbers ∙ r.of.0.numbers;
               own_behind = lies ∙ r.of.0.own_behind;
               near = omega (arith, near, lies);
+              own_focus = z.moved.same_focus ∙ r.of.0.own_focus;
               own_limit = z.moved.same_limit ∙ limit;
             },
             p.of,
@@ -152,13 +153,13 @@ module _ (texts : List (List ℕ)) (mark : Mark) (w : Passing) (s : Stratum Sym)
           answered = (answer, answers, refl, answers_here texts mark w s ss l m ls answer first r same z, answers_back w.plans w.numbers mark w.horizons (next_horizon mark w) w.limit (suc w.stratum) gifts ss p.news answers fed p.answered);
           flooded =
               (λ i. t.flood_is i || p.flooded i)
-              ∙ all_floods (text_in texts) (placed_of w.plans w.numbers) w.limit w.horizons (next_horizon mark w) w.last w.delay w.plans w.numbers gifts (suc w.stratum) [] ss p.news p.given ls ts r.at.1 r.of.1 ready_above.at t.taken p.is
+              ∙ all_floods (text_in texts) (placed_of w.plans w.numbers) w.limit w.horizons (next_horizon mark w) w.last w.delay w.plans w.numbers w.focus gifts (suc w.stratum) [] ss p.news p.given ls ts r.at.1 r.of.1 ready_above.at t.taken p.is
               ∙ (λ i. sym (le-ltb w.limit (length s.accepted + 0) (omega (arith, few, count, limit))) i || some_flooded w.limit ss (map (λ xs. gifts ++ xs) p.given));
         }
 
 -- ---- the layers as they are
 
-same_gift : (texts : List (List ℕ)) (mark : Mark) (w : Passing) (j : ℕ) (l m : Layer) (answer : List Recognition) → IsLayerOf w.plans w.numbers w.limit j l → HasMarked mark l.engine m.engine answer
+same_gift : (texts : List (List ℕ)) (mark : Mark) (w : Passing) (j : ℕ) (l m : Layer) (answer : List Recognition) → IsLayerOf w.plans w.numbers w.focus w.limit j l → HasMarked mark l.engine m.engine answer
     → plans_of m.engine.plans ≡ picked j w.plans w.numbers
 same_gift texts mark w j l m answer o z = ap plans_of z.moved.same_plans ∙ o.own_plans
 
@@ -205,7 +206,7 @@ passed_none texts mark w ready = by w.strata refl ready.at
     by : (strata : List (Stratum Sym)) → w.strata ≡ strata → AreLayersAt w.horizons w.last w.delay w.stratum strata [] → HavePassed texts mark w [] [] false
     by (s ∷ ss) e k = absurd k
     by [] e k = subst (λ (xs : List (Stratum Sym)). HavePassed texts mark (record w { strata = xs }) [] [] false) (sym e)
-        (record { news = []; given = []; is = (refl, refl); of = tt; at = tt; known = tt; answered = refl; flooded = refl })
+        (record { news = []; given = []; is = (refl, refl); of = ready.of; at = tt; known = tt; answered = refl; flooded = refl })
 
 in_time_at : (mark : Mark) (last : ℕ) (e : EngineState) → e.last ≡ last → IsTimely mark last → IsInTime mark e
 in_time_at (Clock t) last e q k = (k.0, let l = k.1 in omega (arith, q, l))

@@ -1,5 +1,5 @@
 -- The strata above one, as it gives them entries at a mark.
-use Rattle.std.proofs.Common.{ℕ, suc, ◌<◌, ◌≤◌, ◌^◌, List, [], ◌∷◌, map, ap, subst, ◌∙◌, arith}
+use Rattle.std.proofs.Common.{Bool, ℕ, suc, ◌<◌, ◌≤◌, ◌^◌, List, [], ◌∷◌, map, ap, subst, ◌∙◌, arith}
 use Rattle.std.specs.List.{AllByRecursion, AllZip}
 use Rattle.crs_base.specs.declared.symbols.Sym.{Sym}
 use Rattle.crs_base.specs.Entry.{Entry}
@@ -20,23 +20,23 @@ going_at g last delay j (s ∷ ss) [] k = absurd k
 going_at g last delay j (s ∷ ss) (l ∷ ls) k = (record { running = k.0.running; few = k.0.few }, going_at g last delay (suc j) ss ls k.1)
 
 -- what they stand for then
-pub taken_at : (g : ℕ → ℕ) (last delay j limit : ℕ) (ps : List Plan) (ks : List ℕ) (ys : List (Entry Sym)) (ss : List (Stratum Sym)) (ls ms : List Layer)
-    → AreLayersAt g last delay j ss ls → AreLayersOf ps ks limit j ls → AllZip (HasTaken ys) ls ms → AreLayersAt g last delay j (map (given_to limit ys) ss) ms
-taken_at g last delay j limit ps ks ys [] [] [] k o z = tt
-taken_at g last delay j limit ps ks ys [] [] (m ∷ ms) k o z = absurd z
-taken_at g last delay j limit ps ks ys [] (l ∷ ls) ms k o z = absurd k
-taken_at g last delay j limit ps ks ys (s ∷ ss) [] ms k o z = absurd k
-taken_at g last delay j limit ps ks ys (s ∷ ss) (l ∷ ls) [] k o z = absurd z
-taken_at g last delay j limit ps ks ys (s ∷ ss) (l ∷ ls) (m ∷ ms) k o z = (
+pub taken_at : (g : ℕ → ℕ) (last delay j : ℕ) (focus : Bool) (limit : ℕ) (ps : List Plan) (ks : List ℕ) (ys : List (Entry Sym)) (ss : List (Stratum Sym)) (ls ms : List Layer)
+    → AreLayersAt g last delay j ss ls → AreLayersOf ps ks focus limit j ls → AllZip (HasTaken ys) ls ms → AreLayersAt g last delay j (map (given_to limit ys) ss) ms
+taken_at g last delay j focus limit ps ks ys [] [] [] k o z = tt
+taken_at g last delay j focus limit ps ks ys [] [] (m ∷ ms) k o z = absurd z
+taken_at g last delay j focus limit ps ks ys [] (l ∷ ls) ms k o z = absurd k
+taken_at g last delay j focus limit ps ks ys (s ∷ ss) [] ms k o z = absurd k
+taken_at g last delay j focus limit ps ks ys (s ∷ ss) (l ∷ ls) [] k o z = absurd z
+taken_at g last delay j focus limit ps ks ys (s ∷ ss) (l ∷ ls) (m ∷ ms) k o z = (
   subst (λ (n : ℕ). IsLayerAt (g j) last delay (record s { accepted = with_given n s.accepted ys }) m) o.0.own_limit (z.0.at (g j) last delay s k.0),
-  taken_at g last delay (suc j) limit ps ks ys ss ls ms k.1 o.1 z.1,
+  taken_at g last delay (suc j) focus limit ps ks ys ss ls ms k.1 o.1 z.1,
 )
 
-pub taken_of : (ps : List Plan) (ks : List ℕ) (limit j : ℕ) (ys : List (Entry Sym)) (ls ms : List Layer) → AreLayersOf ps ks limit j ls → AllZip (HasTaken ys) ls ms → AreLayersOf ps ks limit j ms
-taken_of ps ks limit j ys [] [] o z = tt
-taken_of ps ks limit j ys [] (m ∷ ms) o z = absurd z
-taken_of ps ks limit j ys (l ∷ ls) [] o z = absurd z
-taken_of ps ks limit j ys (l ∷ ls) (m ∷ ms) o z =
+pub taken_of : (ps : List Plan) (ks : List ℕ) (focus : Bool) (limit j : ℕ) (ys : List (Entry Sym)) (ls ms : List Layer) → AreLayersOf ps ks focus limit j ls → AllZip (HasTaken ys) ls ms → AreLayersOf ps ks focus limit j ms
+taken_of ps ks focus limit j ys [] [] o z = o
+taken_of ps ks focus limit j ys [] (m ∷ ms) o z = absurd z
+taken_of ps ks focus limit j ys (l ∷ ls) [] o z = absurd z
+taken_of ps ks focus limit j ys (l ∷ ls) (m ∷ ms) o z =
     let near = o.0.near in
     let same = z.0.same.behind in (
       record {
@@ -44,9 +44,10 @@ taken_of ps ks limit j ys (l ∷ ls) (m ∷ ms) o z =
         numbers = z.0.same.numbers ∙ o.0.numbers;
         own_behind = same ∙ o.0.own_behind;
         near = omega (arith, near, same);
+        own_focus = z.0.same_focus ∙ o.0.own_focus;
         own_limit = z.0.same_limit ∙ o.0.own_limit;
       },
-      taken_of ps ks limit (suc j) ys ls ms o.1 z.1,
+      taken_of ps ks focus limit (suc j) ys ls ms o.1 z.1,
     )
 
 -- the horizons of higher strata aren't later

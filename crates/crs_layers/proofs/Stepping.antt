@@ -98,11 +98,12 @@ pub record IsReached (c : Setting) (s : State) : Type 0 where
   pub sound : AreSoundFrom (horizon_of c s.log) 0 s.strata
   pub within : s.log.horizon ≤ end_date
 
--- the state behind a line, and that nothing that it gives is late
-record IsFine (c : Setting) (s : State) (e : Effect) (t : State) : Type 0 where
-  reached : IsReached c t
-  due : NoneIsLate (horizon_of c s.log) 0 e.given
-  rise : Rise c s.log t.log
+-- the state behind a line that has this outcome, and that nothing that it gives or logs is late
+pub record IsFine (c : Setting) (s : State) (o : Outcome) (given : List (List LogEntry)) (t : State) : Type 0 where
+  pub reached : IsReached c t
+  pub due : NoneIsLate (horizon_of c s.log) 0 given
+  pub rise : Rise c s.log t.log
+  pub logged : (e : LogEntry) → o ≡ Accepted e → (j : ℕ) → horizon_of c s.log j ≤ e.date
 
 sound_at : {S : Type 0} (g h : ℕ → ℕ) → ((j : ℕ) → g j ≡ h j) → (j : ℕ) (ss : List (Stratum S)) → AreSoundFrom g j ss → AreSoundFrom h j ss
 sound_at g h e j [] k = tt
@@ -146,8 +147,8 @@ module _ (c : Setting) (all : AllByRecursion IsPlaced c.placed) where
       by false p = omega arith
 
   module _ (s t : State) (r : IsReached c s) where
-    idle : Stays s.log t.log → (given : List (List LogEntry)) (outcome : Outcome) (flood : Bool) → t.strata ≡ s.strata → given ≡ [] → IsFine c s (record { outcome = outcome; given = given; flood = flood }) t
-    idle k given outcome flood strata none =
+    idle : Stays s.log t.log → (o : Outcome) (given : List (List LogEntry)) → ((e : LogEntry) → o ≡ Accepted e → ⊥) → t.strata ≡ s.strata → given ≡ [] → IsFine c s o given t
+    idle k o given never strata none =
         let same = same_horizon s.log t.log k in
         record {
           reached = record {
@@ -156,12 +157,13 @@ module _ (c : Setting) (all : AllByRecursion IsPlaced c.placed) where
           };
           due = subst (NoneIsLate (horizon_of c s.log) 0) (sym none) tt;
           rise = λ j. let q = same j in omega (arith, q);
+          logged = λ e q. absurd (never e q);
         }
 
-    by_outcome : (o : Outcome) (given : List (List LogEntry)) (flood : Bool) → Fate s.log (t.log, o) → IsAfter c s t.log o t.strata given → IsFine c s (record { outcome = o; given = given; flood = flood }) t
-    by_outcome Passed given flood f k = idle f given Passed flood k.0 k.1
-    by_outcome (Refused x) given flood f k = idle f given (Refused x) flood k.0 k.1
-    by_outcome (Accepted x) given flood f k =
+    by_outcome : (o : Outcome) (given : List (List LogEntry)) → Fate s.log (t.log, o) → IsAfter c s t.log o t.strata given → IsFine c s o given t
+    by_outcome Passed given f k = idle f Passed given (λ e q. cc) k.0 k.1
+    by_outcome (Refused x) given f k = idle f (Refused x) given (λ e q. cc) k.0 k.1
+    by_outcome (Accepted x) given f k =
         let same = same_horizon s.log t.log f.0 in
         let date = f.2 in
         record {
@@ -173,15 +175,16 @@ module _ (c : Setting) (all : AllByRecursion IsPlaced c.placed) where
           };
           due = subst (NoneIsLate (horizon_of c s.log) 0) (sym k.1) tt;
           rise = λ j. let q = same j in omega (arith, q);
+          logged = λ e q j. let one : x ≡ e = cc in subst (λ (y : LogEntry). horizon_of c s.log j ≤ y.date) one (low s.log.ended s.log.horizon x.date (behind c.placed j) f.1 date);
         }
-    by_outcome (Marked m) given flood f k =
+    by_outcome (Marked m) given f k =
         let up = moved_on s.log t.log f in
         let d = marks_due (λ x. x) c.placed c.log.entries (horizon_of c s.log) (horizon_of c t.log) all up (lag_behind s.log f.open_was) 0 [] s.strata t.strata given r.sound tt k in
-        record { reached = record { sound = d.1; within = f.within }; due = d.0; rise = up }
+        record { reached = record { sound = d.1; within = f.within }; due = d.0; rise = up; logged = λ e q. absurd (cc) }
 
-  one_step : (s : State) (line : Given) (e : Effect) (t : State) → IsReached c s → IsStep c s line e t → IsFine c s e t
+  pub one_step : (s : State) (line : Given) (e : Effect) (t : State) → IsReached c s → IsStep c s line e t → IsFine c s e.outcome e.given t
   one_step s line e t r k =
-      by_outcome s t r e.outcome e.given e.flood (subst (Fate s.log) k.log (by_line c.log (is_full c.log.entries s.strata) s.log r.within line)) k.strata
+      by_outcome s t r e.outcome e.given (subst (Fate s.log) k.log (by_line c.log (is_full c.log.entries s.strata) s.log r.within line)) k.strata
 
   pub run_reached : (s : State) (lines : List Given) (effects : List Effect) (t : State) → IsReached c s → IsRun c s lines effects t → IsReached c t
   run_reached s [] [] t r k = subst (IsReached c) k r

@@ -66,6 +66,7 @@ pub taken_none : (l : Layer) → IsGoing l → HasTaken [] l l
 taken_none l g = record {
   same = same_layer l;
   same_plans = refl;
+  same_focus = refl;
   same_limit = refl;
   same_horizon = refl;
   running = g.running;
@@ -77,6 +78,7 @@ pub taken_full : (y : Entry Sym) (l : Layer) → IsGoing l → l.engine.accepted
 taken_full y l g e = record {
   same = same_layer l;
   same_plans = refl;
+  same_focus = refl;
   same_limit = refl;
   same_horizon = refl;
   running = g.running;
@@ -91,6 +93,7 @@ pub taken_logged : (x y : Entry Sym) (l m : Layer) → x ≡ record y { arrival 
 taken_logged x y l m is g room due date same z = record {
   same = same;
   same_plans = z.accepted.same_plans;
+  same_focus = z.accepted.same_focus;
   same_limit = z.accepted.same_limit;
   same_horizon = z.accepted.same_horizon;
   running = z.running;
@@ -124,6 +127,7 @@ taken_more ys zs a b c p q =
     record {
       same = record { numbers = q.same.numbers ∙ p.same.numbers; behind = q.same.behind ∙ p.same.behind };
       same_plans = q.same_plans ∙ p.same_plans;
+      same_focus = q.same_focus ∙ p.same_focus;
       same_limit = q.same_limit ∙ p.same_limit;
       same_horizon = q.same_horizon ∙ p.same_horizon;
       running = q.running;

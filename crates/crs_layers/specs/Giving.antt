@@ -32,6 +32,7 @@ AreDue ls ys = AllByRecursion (λ y. AllByRecursion (λ l. l.engine.horizon ≤ 
 pub record HasTaken (ys : List (Entry Sym)) (old new : Layer) : Type 0 where
   pub same : IsSameLayer old new
   pub same_plans : new.engine.plans ≡ old.engine.plans
+  pub same_focus : new.engine.focus ≡ old.engine.focus
   pub same_limit : new.engine.limit ≡ old.engine.limit
   pub same_horizon : new.engine.horizon ≡ old.engine.horizon
   pub running : new.engine.stopped ≡ false

@@ -1,5 +1,6 @@
 -- Which plans a stratum's engine has.
-use Rattle.std.specs.Prelude.{◌≡◌, ◌≤◌, ◌^◌, ℕ, suc, ◌+◌, ◌==◌, cond, Bool, false, List, [], ◌∷◌}
+use Rattle.std.specs.Prelude.{◌≡◌, ◌<◌, ◌≤◌, ◌^◌, ℕ, suc, ◌+◌, ◌==◌, cond, Bool, false, List, [], ◌∷◌}
+use Rattle.std.specs.List.{AllByRecursion}
 use Rattle.crs_base.specs.declared.symbols.Sym.{Sym}
 use Rattle.crs_model.specs.declared.plan.Plan.{Plan}
 use Rattle.crs_model.specs.Plans.{chronicle}
@@ -25,17 +26,18 @@ numbers_of j n [] = []
 numbers_of j n (k ∷ ks) = cond (k == j) (n ∷ numbers_of j (n + 1) ks) (numbers_of j (n + 1) ks)
 
 -- the layer is of stratum j of these plans, whose strata are given
-pub record IsLayerOf (plans : List Plan) (strata : List ℕ) (limit j : ℕ) (l : Layer) : Type 0 where
+pub record IsLayerOf (plans : List Plan) (strata : List ℕ) (focus : Bool) (limit j : ℕ) (l : Layer) : Type 0 where
   pub own_plans : plans_of l.engine.plans ≡ picked j plans strata
   pub numbers : l.numbers ≡ numbers_of j 0 strata
   pub own_behind : l.behind ≡ behind (placed_of plans strata) j
   pub near : l.behind ≤ 2 ^ 40
+  pub own_focus : l.engine.focus ≡ focus
   pub own_limit : l.engine.limit ≡ limit
 
--- the layers are of the strata from j on
-abbrev pub AreLayersOf : List Plan → List ℕ → ℕ → ℕ → List Layer → Type 0
-AreLayersOf plans strata limit j [] = Unit {0}
-AreLayersOf plans strata limit j (l ∷ ls) = IsLayerOf plans strata limit j l × AreLayersOf plans strata limit (suc j) ls
+-- the layers are of the strata from j on, and there is one for each of these
+abbrev pub AreLayersOf : List Plan → List ℕ → Bool → ℕ → ℕ → List Layer → Type 0
+AreLayersOf plans strata focus limit j [] = AllByRecursion (λ k. k < j) strata
+AreLayersOf plans strata focus limit j (l ∷ ls) = IsLayerOf plans strata focus limit j l × AreLayersOf plans strata focus limit (suc j) ls
 
 -- a new engine of these plans
 pub record IsStratumEngine (plans : List Plan) (focus : Bool) (limit : ℕ) (e : EngineState) : Type 0 where
@@ -51,7 +53,7 @@ pub record IsStratumEngine (plans : List Plan) (focus : Bool) (limit : ℕ) (e :
 
 -- the layer of stratum j at the start
 pub record IsNewLayer (plans : List Plan) (strata : List ℕ) (focus : Bool) (limit j : ℕ) (l : Layer) : Type 0 where
-  pub of : IsLayerOf plans strata limit j l
+  pub of : IsLayerOf plans strata focus limit j l
   pub engine : IsStratumEngine (picked j plans strata) focus limit l.engine
   pub delay : l.engine.delay ≡ l.behind
 

@@ -1,10 +1,15 @@
 pub mod Strata
+pub mod StrataViews
+pub mod StrataAnswers
 pub mod Runs
 pub mod Laws
 pub mod LayerPlans
 pub mod Accepting
+pub mod LayerStates
 pub mod Standing
+pub mod Takes
 pub mod Halts
 pub mod Giving
 pub mod Marks
 pub mod Passing
+pub mod Gathering

@@ -1,5 +1,5 @@
 -- What a mark does to a stratum.
-use Rattle.std.specs.Prelude.{◌≡◌, ◌<◌, ◌≤◌, ◌-◌, ◌^◌, false, ℕ, List}
+use Rattle.std.specs.Prelude.{◌≡◌, ◌<◌, ◌≤◌, ◌-◌, ◌^◌, Bool, true, false, ℕ, List}
 use Rattle.crs_base.specs.declared.symbols.Sym.{Sym}
 use Rattle.crs_base.specs.Entry.{Entry}
 use Rattle.crs_model.specs.declared.recognition.Mark.{Mark}
@@ -16,6 +16,11 @@ clock_of Finish = 2 ^ 42
 abbrev pub horizon_for : Mark → ℕ → ℕ
 horizon_for (Clock t) delay = t - delay
 horizon_for Finish delay = 2 ^ 42
+
+-- whether it is the end
+abbrev pub ends : Mark → Bool
+ends (Clock t) = false
+ends Finish = true
 
 -- a clock is a date, and isn't before the last one
 abbrev pub IsInTime : Mark → EngineState → Type 0

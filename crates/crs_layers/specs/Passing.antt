@@ -23,6 +23,7 @@ use Rattle.crs_layers.specs.declared.layer.Layer.{Layer}
 pub record Passing : Type 0 where
   pub plans : List Plan
   pub numbers : List ℕ
+  pub focus : Bool
   pub limit : ℕ
   pub horizons : ℕ → ℕ
   pub last : ℕ
@@ -46,7 +47,7 @@ pub record AreReadyFor (texts : List (List ℕ)) (mark : Mark) (w : Passing) (ls
   pub known_plans : AllByRecursion (λ p. IsChronicleOf (HasText texts) (chronicle p)) w.plans
   pub placed : AllByRecursion IsPlaced (placed_of w.plans w.numbers)
   pub behind : (i : ℕ) → w.horizons (suc i) ≤ (w.horizons i - lag_at i (map (λ c. (c.stratum, c.lag)) (placed_of w.plans w.numbers)))
-  pub of : AreLayersOf w.plans w.numbers w.limit w.stratum ls
+  pub of : AreLayersOf w.plans w.numbers w.focus w.limit w.stratum ls
   pub at : AreLayersAt w.horizons w.last w.delay w.stratum w.strata ls
   pub known : AllByRecursion (λ s. AllByRecursion (IsEntryOf (HasText texts)) s.accepted) w.strata
   pub timely : IsTimely mark w.last
@@ -65,7 +66,7 @@ pub record HavePassed (texts : List (List ℕ)) (mark : Mark) (w : Passing) (ls 
   pub news : List (Stratum Sym)
   pub given : List (List (Entry Sym))
   pub is : IsMarkFrom (text_in texts) (placed_of w.plans w.numbers) w.limit w.horizons (next_horizon mark w) w.stratum [] w.strata news given
-  pub of : AreLayersOf w.plans w.numbers w.limit w.stratum ls
+  pub of : AreLayersOf w.plans w.numbers w.focus w.limit w.stratum ls
   pub at : AreLayersAt (next_horizon mark w) (clock_of mark) w.delay w.stratum news ls
   pub known : AllByRecursion (λ s. AllByRecursion (IsEntryOf (HasText texts)) s.accepted) news
   pub answered : AnswerFrom w.plans w.numbers mark w.horizons (next_horizon mark w) w.stratum w.strata news answers

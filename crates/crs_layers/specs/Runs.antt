@@ -5,11 +5,15 @@ use Rattle.crs_base.specs.Entry.{Entry}
 use Rattle.crs_log.specs.ItemOf.{What, Empty, Is, Faulty, what_of}
 use Rattle.crs_log.specs.Items.{Item, Delay, Clock, Finish, Happens, Event}
 use Rattle.crs_log.specs.Known.{Verdict, Other, Named, BadArity, BadValue, known_of}
-use Rattle.crs_log.specs.Reading.{Given, Plain, Long}
+use Rattle.crs_log.specs.Reading.{Given, Plain, Long, number_of}
+use Rattle.crs_log.specs.Recognitions.{View}
 use Rattle.crs_log.specs.Run as run
 use Rattle.crs_log.specs.Run.{Outcome, Passed, Refused, Accepted, Marked}
+use Rattle.crs_log.specs.Trace.{Answer}
 use Rattle.crs_log.specs.Walks.{Walks}
 use Rattle.crs_layers.specs.Strata.{Placed, Stratum, empty, with_logged, strata_count, behind, horizon_behind, is_flooded, IsMarkFrom}
+use Rattle.crs_layers.specs.StrataViews.{views_from}
+use Rattle.crs_layers.specs.StrataAnswers.{AreAnswers}
 
 abbrev pub LogEntry : Type 0
 LogEntry = Entry (List ℕ)
@@ -67,11 +71,20 @@ some_flooded limit [] all = false
 some_flooded limit (s ∷ ss) [] = false
 some_flooded limit (s ∷ ss) (given ∷ all) = is_flooded limit s given || some_flooded limit ss all
 
--- what became of a line, what each stratum was given at it, and whether some stratum didn't accept all of that
+-- what recognition reads of each stratum
+abbrev pub views_of : Setting → State → List View
+views_of c s = views_from (horizon_of c s.log) 0 s.strata
+
+-- What a line brings: its number, what became of it, what each stratum was given at it and whether one didn't accept all of that, what recognition
+-- read of each stratum before it and reads behind it, and its answers.
 pub record Effect : Type 0 where
+  pub number : ℕ
   pub outcome : Outcome
   pub given : List (List LogEntry)
   pub flood : Bool
+  pub was : List View
+  pub now : List View
+  pub answers : List Answer
 
 -- what becomes of the strata at a line that has this outcome, and leaves the log's state: each accepts a logged entry, a mark gives entries, and nothing else changes them
 abbrev pub IsAfter : Setting → State → run.State → Outcome → List (Stratum (List ℕ)) → List (List LogEntry) → Type 0
@@ -80,11 +93,23 @@ IsAfter c s t (Refused fault) strata given = (strata ≡ s.strata) × (given ≡
 IsAfter c s t (Accepted e) strata given = (strata ≡ map (with_logged e) s.strata) × (given ≡ [])
 IsAfter c s t (Marked mark) strata given = IsMarkFrom (λ x. x) c.placed c.log.entries (horizon_of c s.log) (horizon_of c t) 0 [] s.strata strata given
 
--- the line, met in the state s, brings the effect and leaves the state t
-pub record IsStep (c : Setting) (s : State) (line : Given) (e : Effect) (t : State) : Type 0 where
-  pub log : after_line c.log (is_full c.log.entries s.strata) s.log line ≡ (t.log, e.outcome)
+-- the line of this number, met in the state s, which becomes of the log's state what `after` says, brings the effect and leaves the state t
+pub record IsEffect (c : Setting) (s : State) (n : ℕ) (after : run.State × Outcome) (e : Effect) (t : State) : Type 0 where
+  pub number : e.number ≡ n
+  pub log : after ≡ (t.log, e.outcome)
   pub strata : IsAfter c s t.log e.outcome t.strata e.given
   pub flood : e.flood ≡ some_flooded c.log.entries s.strata e.given
+  pub was : e.was ≡ views_of c s
+  pub now : e.now ≡ views_of c t
+  pub answers : AreAnswers c.placed e.was e.now e.outcome e.answers
+
+-- so a line that is this item, and doesn't stand behind the end
+abbrev pub IsItemEffect : Setting → State → ℕ → Item → Effect → State → Type 0
+IsItemEffect c s n item e t = IsEffect c s n (after_ordered c.log (is_full c.log.entries s.strata) s.log item) e t
+
+-- so each line
+abbrev pub IsStep : Setting → State → Given → Effect → State → Type 0
+IsStep c s line e t = IsEffect c s (number_of line) (after_line c.log (is_full c.log.entries s.strata) s.log line) e t
 
 -- the lines bring these effects, and leave the state t
 abbrev pub IsRun : Setting → State → List Given → List Effect → State → Type 0

@@ -1,30 +1,21 @@
 -- What layers stand for: the state of a run over strata.
-use Rattle.std.specs.Prelude.{◌≡◌, ◌<◌, ◌≤◌, ◌+◌, ◌^◌, ℕ, suc, true, false, Bool, List, [], ◌∷◌, length, map}
+use Rattle.std.specs.Prelude.{◌≡◌, ◌<◌, ◌≤◌, ◌+◌, ◌^◌, ℕ, suc, true, false, None, List, [], ◌∷◌, length, map}
 use Rattle.std.specs.List.{AllByRecursion}
 use Rattle.crs_base.specs.declared.symbols.Sym.{Sym}
 use Rattle.crs_base.specs.Entry.{Entry}
+use Rattle.crs_base.specs.Symbols.{AreDistinct}
+use Rattle.crs_base.specs.Words.{IsIn}
 use Rattle.crs_model.specs.declared.plan.Plan.{Plan}
-use Rattle.crs_model.specs.declared.plan.Plans.{Plans}
 use Rattle.crs_model.specs.Hierarchy.{AreStrata}
 use Rattle.crs_model.specs.Order.{in_key_order, dated_before}
-use Rattle.crs_model.specs.Plans.{chronicle}
+use Rattle.crs_model.specs.Plans.{IsProper, chronicle}
 use Rattle.crs_model.specs.Renaming.{text_in, renamed_chronicle, renamed_entry, IsChronicleOf, IsEntryOf}
-use Rattle.crs_log.specs.Items.{Item, Delay}
-use Rattle.crs_log.specs.ItemOf.{Is, what_of}
-use Rattle.crs_log.specs.Reading.{Given, Plain, Long}
-use Rattle.crs_log.specs.Run.{Accepted}
 use Rattle.crs_engine.specs.Engines.{StandsFor, plans_of, since}
-use Rattle.crs_layers.specs.Strata.{Placed, Stratum, IsPlaced, IsSoundAt, behind, horizon_behind}
-use Rattle.crs_layers.specs.Runs.{Setting, State, Effect, at_start, horizon_of, IsStep}
+use Rattle.crs_layers.specs.Strata.{Placed, Stratum, IsSoundAt, behind, horizon_behind}
+use Rattle.crs_layers.specs.Runs.{Setting, State, at_start, horizon_of}
 use Rattle.crs_layers.specs.declared.layer.Layer.{Layer}
 use Rattle.crs_layers.specs.LayerPlans.{placed_of, AreLayersOf}
-
--- layers, as contracts see them
-pub record LayersState : Type 0 where
-  pub plans : Plans
-  pub layers : List Layer
-  pub limit : ℕ
-  pub stopped : Bool
+use Rattle.crs_layers.specs.LayerStates.{LayersState}
 
 -- The layer's engine stands, at the horizon h, for what its stratum accepted. It has the clock, and the delay and as many ticks more as its horizon lies behind.
 pub record IsLayerAt (h last delay : ℕ) (s : Stratum Sym) (l : Layer) : Type 0 where
@@ -67,8 +58,10 @@ pub record IsRunOf (plans : List Plan) (numbers : List ℕ) (texts : List (List 
 pub record StandFor (c : Setting) (s : State) (x : LayersState) : Type 0 where
   pub numbers : List ℕ
   pub run : IsRunOf (plans_of x.plans) numbers s.log.texts c
-  pub of : AreLayersOf (plans_of x.plans) numbers x.limit 0 x.layers
+  pub of : AreLayersOf (plans_of x.plans) numbers x.focus x.limit 0 x.layers
   pub limit : x.limit ≡ c.log.entries
+  pub last : s.log.last ≡ x.last
+  pub ended : s.log.ended ≡ x.ended
   pub strata : List (Stratum Sym)
   pub known : AllByRecursion (λ t. AllByRecursion (IsEntryOf (HasText s.log.texts)) t.accepted) strata
   pub seen : map (stratum_in s.log.texts) strata ≡ s.strata
@@ -81,43 +74,28 @@ StandAtStart x =
     (c : Setting) (texts : List (List ℕ)) (numbers : List ℕ) → IsRunOf (plans_of x.plans) numbers texts c → x.limit ≡ c.log.entries
     → StandFor c (at_start c texts) x
 
--- the line is this item
-abbrev pub IsItemOf : Item → Given → Type 0
-IsItemOf item (Long number) = ⊥
-IsItemOf item (Plain number bytes) = what_of bytes ≡ Is item
-
--- from each state of a run that they stood for, and that no end came before, a line that sets this delay takes them on
-abbrev pub TakeDelay : LayersState → LayersState → ℕ → Type 0
-TakeDelay old new d =
-    (c : Setting) (s : State) (line : Given) (e : Effect) (t : State) → StandFor c s old → s.log.ended ≡ false → IsItemOf (Delay d) line → IsStep c s line e t
-    → StandFor c t new
-
--- the line is accepted as this entry, with numbers in place of the texts that are then known
-pub record IsAcceptedAs (x : Entry Sym) (e : Effect) (t : State) : Type 0 where
-  pub known : IsEntryOf (HasText t.log.texts) x
-  pub accepted : e.outcome ≡ Accepted (renamed_entry (text_in t.log.texts) x)
-
--- from each state of a run that they stood for, a line that is accepted as this entry takes them on
-abbrev pub TakeEntry : LayersState → LayersState → Entry Sym → Type 0
-TakeEntry old new x =
-    (c : Setting) (s : State) (line : Given) (e : Effect) (t : State) → StandFor c s old → IsStep c s line e t → IsAcceptedAs x e t
-    → StandFor c t new
-
--- while they run they stand for some strata, at horizons that lie behind that of stratum 0 as the lags of their plans have it
-pub record AreStanding (x : LayersState) : Type 0 where
+-- they stand for some strata, of whose entries P holds, at horizons that lie behind that of stratum 0 as the lags of their plans have it
+pub record AreStanding (P : Entry Sym → Type 0) (x : LayersState) : Type 0 where
   pub numbers : List ℕ
-  pub of : AreLayersOf (plans_of x.plans) numbers x.limit 0 x.layers
-  pub placed : AllByRecursion IsPlaced (placed_of (plans_of x.plans) numbers)
-  pub ended : Bool
+  pub of : AreLayersOf (plans_of x.plans) numbers x.focus x.limit 0 x.layers
   pub horizon : ℕ
-  pub last : ℕ
   pub delay : ℕ
   pub strata : List (Stratum Sym)
-  pub at : AreLayersAt (λ j. horizon_behind ended horizon (behind (placed_of (plans_of x.plans) numbers) j)) last delay 0 strata x.layers
+  pub at : AreLayersAt (λ j. horizon_behind x.ended horizon (behind (placed_of (plans_of x.plans) numbers) j)) x.last delay 0 strata x.layers
+  pub each : AllByRecursion (λ s. AllByRecursion P s.accepted) strata
   pub within : horizon ≤ 2 ^ 42
-  pub closed : ended ≡ true → horizon ≡ 2 ^ 42
+  pub closed : x.ended ≡ true → (horizon ≡ 2 ^ 42) × (x.last ≡ 2 ^ 42)
 
+-- each symbol of the plans, and of what the strata accepted, is the number of one of the texts, of which no two are equal
+pub record KnowSymbols (texts : List (List ℕ)) (x : LayersState) : Type 0 where
+  pub distinct : AreDistinct texts
+  pub plans : AllByRecursion (λ p. IsChronicleOf (HasText texts) (chronicle p)) (plans_of x.plans)
+  pub entries : x.stopped ≡ false → AreStanding (IsEntryOf (HasText texts)) x
+
+-- What holds of all layers. Each lag is finite. While they run they stand for some strata.
 pub record AreLayers (x : LayersState) : Type 0 where
   pub some : 0 < length x.layers
   pub near : AllByRecursion (λ l. l.behind ≤ 2 ^ 40) x.layers
-  pub standing : x.stopped ≡ false → AreStanding x
+  pub proper : AllByRecursion IsProper (plans_of x.plans)
+  pub lags : IsIn None (map (λ p. p.lag) (plans_of x.plans)) → ⊥
+  pub standing : x.stopped ≡ false → AreStanding (λ e. Unit {0}) x

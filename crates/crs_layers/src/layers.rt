@@ -1,23 +1,32 @@
-ghost use Rattle.std.specs.Prelude.{◌≡◌, ◌<◌, ◌≤◌, ◌↔◌, ◌⊎◌, ◌^◌, length, map, IsTrue, IsSome, IfOk, OnOk, Err};
+ghost use Rattle.std.specs.Prelude.{◌≡◌, ◌<◌, ◌≤◌, ◌↔◌, ◌⊎◌, ◌^◌, false, [], length, map, IsTrue, IsSome, IfOk, OnOk, Err};
 ghost use Rattle.std.specs.List.{AllByRecursion};
 ghost use Rattle.crs_base.specs.Seen.{entry_of};
 ghost use Rattle.crs_model.specs.Hierarchy.{AreInOrder};
 ghost use Rattle.crs_model.specs.Plans.{IsProper, chronicle};
 ghost use Rattle.crs_model.specs.ShortLags.{HaveShortLags};
+ghost use Rattle.crs_model.specs.declared.recognition.Mark.TheVariants.{Clock, Finish};
+ghost use Rattle.crs_log.specs.Items.{Clock as ClockItem, Finish as FinishItem};
 ghost use Rattle.crs_engine.specs.Engines.{plans_of};
 ghost use Rattle.crs_engine.specs.EngineRefusals.{answer_by, IsRefusedAs};
+ghost use Rattle.crs_engine.specs.declared.refused.Refused.{Refused as Refusal};
 ghost use Rattle.crs_engine.specs.declared.refused.Refused.TheVariants.{Memory};
-ghost use Rattle.crs_layers.specs.Standing.{StandAtStart, TakeDelay, TakeEntry};
-ghost use Rattle.crs_layers.specs.Halts.{horizon_in, accepted_in, is_full_in, kept_in, AreNew, test_refusal, accept_refusal};
+ghost use Rattle.crs_layers.specs.Halts.{AreNew, test_refusal, accept_refusal, clock_refusal, finish_refusal};
+ghost use Rattle.crs_layers.specs.LayerStates.{horizon_in, accepted_in, is_full_in, kept_in};
+ghost use Rattle.crs_layers.specs.Passing.{IsTimely};
+ghost use Rattle.crs_layers.specs.Standing.{StandAtStart, KnowSymbols};
+ghost use Rattle.crs_layers.specs.Takes.{GoOnBy, TakeDelay, TakeEntry, TakeMark, item_of};
 
 use crate::accepting::{log_all, set_delays};
+use crate::advancing::{clock_at, is_end, mark_all};
 use crate::layer::{Layer, is_some_full, kept_by};
+use crate::marked::Marked;
 use crate::starting::layers_of;
-use crs_base::Entry;
+use crs_base::{Entry, List, Steps, Symbols};
 use crs_engine::Refused;
-use crs_model::{Plans, strata_of};
+use crs_model::{Mark, Plans, strata_of};
 use std::alloc::{AllocError, Global};
 use std::marker::Model;
+use std::sync::ledger::Ledger;
 
 /// The recogniser of some plans over one stream of entries, stratum by stratum. There is at least one.
 /// Dates, clocks and horizons are ticks of the log's clock.
@@ -25,19 +34,23 @@ use std::marker::Model;
 pub struct Layers {
     plans: Plans,
     layers: Vec<Layer>,
+    focus: bool,
     limit: u32,
+    last: u64,
+    ended: bool,
     stopped: bool,
     alloc: Global,
 }
 
 impl Model for Layers {
-    ghost use Rattle.crs_layers.specs.Standing.{LayersState, AreLayers};
+    ghost use Rattle.crs_layers.specs.LayerStates.{LayersState};
+    ghost use Rattle.crs_layers.specs.Standing.{AreLayers};
 
     ghost Value = { LayersState };
 
-    ghost view = { λ x. record { plans = x.plans; layers = x.layers.items; limit = x.limit; stopped = x.stopped } };
+    ghost view = { λ x. record { plans = x.plans; layers = x.layers.items; focus = x.focus; limit = x.limit; last = x.last; ended = x.ended; stopped = x.stopped } };
 
-    ghost invariant = { λ x. AreLayers (record { plans = x.plans; layers = x.layers.items; limit = x.limit; stopped = x.stopped }) };
+    ghost invariant = { λ x. AreLayers (record { plans = x.plans; layers = x.layers.items; focus = x.focus; limit = x.limit; last = x.last; ended = x.ended; stopped = x.stopped }) };
 }
 
 impl Layers {
@@ -48,7 +61,7 @@ impl Layers {
         requires few { length plans.plans ≤ 64 }
         requires in_order { AreInOrder (map (λ r. chronicle r.value) plans.plans) }
         requires lags { HaveShortLags (plans_of plans) }
-        ensures new { IfOk result (AreNew plans limit) }
+        ensures new { IfOk result (AreNew plans focus limit) }
         ensures stands { IfOk result StandAtStart }
     {
         let strata = strata_of(alloc, plans.plans.as_slice())?;
@@ -62,7 +75,10 @@ impl Layers {
         Ok(Layers {
             plans,
             layers,
+            focus,
             limit,
+            last: 0,
+            ended: false,
             stopped: false,
             alloc,
         })
@@ -127,6 +143,7 @@ impl Layers {
     /// horizons of the higher strata lag as much more as they lie behind it.
     pub fn set_delay(&mut self, d: u64)
         requires small { d < 2 ^ 40 }
+        ensures goes_on { GoOnBy 0 self.old self.new }
         ensures stands { TakeDelay self.old self.new d }
     {
         set_delays(&mut self.layers, d);
@@ -140,6 +157,7 @@ impl Layers {
         ensures refused { IsRefusedAs (accept_refusal self.old entry.date) result }
         ensures unchanged { IsSome (accept_refusal self.old entry.date) → self.new ≡ self.old }
         ensures raised { IsTrue self.new.stopped ↔ (IsTrue self.old.stopped ⊎ (result ≡ Err Memory)) }
+        ensures goes_on { OnOk result (GoOnBy 1 self.old self.new) }
         ensures stands { OnOk result (TakeEntry self.old self.new (entry_of entry)) }
     {
         self.test_date(entry.date)?;
@@ -148,6 +166,91 @@ impl Layers {
         }
         match log_all(self.alloc, &mut self.layers, entry) {
             Ok(()) => Ok(()),
+            Err(_) => {
+                self.stopped = true;
+                Err(Refused::Memory)
+            }
+        }
+    }
+
+    /// Moves the clock on to `t`, and answers what is newly recognised, with this clock as the mark: the
+    /// recognitions of one chronicle after another, in the order of all plans, and of each in key order.
+    /// The strata move on from the lowest, and each recognition gives its entries to all strata above.
+    /// Their texts are made of the table's. After want of memory each further call answers `Stopped`.
+    pub fn clock<L: Ledger>(
+        &mut self,
+        t: u64,
+        symbols: &Symbols,
+        steps: &mut Steps<L>,
+    ) -> Result<Marked, Refused>
+        requires date { t < 2 ^ 40 }
+        requires known { KnowSymbols symbols.now.texts self.old }
+        ensures refused { IsRefusedAs (clock_refusal self.old t) result }
+        ensures unchanged { IsSome (clock_refusal self.old t) → self.new ≡ self.old }
+        ensures raised { IsTrue self.new.stopped ↔ (IsTrue self.old.stopped ⊎ (result ≡ Err Memory)) }
+        ensures goes_on { OnOk result (GoOnBy 0 self.old self.new) }
+        ensures stands { IfOk result (λ m. TakeMark symbols.now.texts (ClockItem t) (Clock t) self.old self.new m.list m.flood) }
+    {
+        if self.stopped {
+            return Err(Refused::Stopped);
+        }
+        if t < self.last {
+            return Err(Refused::Back { t, last: self.last });
+        }
+        self.mark(symbols, Mark::Clock(t), steps)
+    }
+
+    /// Settles all entries in all strata, and answers what is newly recognised. From then on each date
+    /// is late, each clock is back, and a further call answers nothing.
+    pub fn finish<L: Ledger>(
+        &mut self,
+        symbols: &Symbols,
+        steps: &mut Steps<L>,
+    ) -> Result<Marked, Refused>
+        requires known { KnowSymbols symbols.now.texts self.old }
+        ensures refused { IsRefusedAs (finish_refusal self.old) result }
+        ensures unchanged { IsSome (finish_refusal self.old) → self.new ≡ self.old }
+        ensures raised { IsTrue self.new.stopped ↔ (IsTrue self.old.stopped ⊎ (result ≡ Err Memory)) }
+        ensures goes_on { OnOk result (GoOnBy 0 self.old self.new) }
+        ensures stands { IfOk result (λ m. TakeMark symbols.now.texts FinishItem Finish self.old self.new m.list m.flood) }
+        ensures again { IsTrue self.old.ended → IfOk result (λ m. m.list ≡ []) }
+    {
+        if self.stopped {
+            return Err(Refused::Stopped);
+        }
+        if self.ended {
+            return Ok(Marked {
+                list: List::new(self.alloc),
+                flood: false,
+            });
+        }
+        self.mark(symbols, Mark::Finish, steps)
+    }
+
+    // Moves the strata on to a mark that isn't before the last clock.
+    fn mark<L: Ledger>(
+        &mut self,
+        symbols: &Symbols,
+        mark: Mark,
+        steps: &mut Steps<L>,
+    ) -> Result<Marked, Refused>
+        requires running { self.old.stopped ≡ false }
+        requires not_ended { self.old.ended ≡ false }
+        requires timely { IsTimely mark self.old.last }
+        requires known { KnowSymbols symbols.now.texts self.old }
+        ensures refused { (r : Refusal) → result ≡ Err r → r ≡ Memory }
+        ensures raised { IsTrue self.new.stopped ↔ (result ≡ Err Memory) }
+        ensures goes_on { OnOk result (GoOnBy 0 self.old self.new) }
+        ensures stands { IfOk result (λ m. TakeMark symbols.now.texts (item_of mark) mark self.old self.new m.list m.flood) }
+    {
+        match mark_all(self.alloc, &mut self.layers, symbols, mark, steps) {
+            Ok(marked) => {
+                let clock = clock_at(mark);
+                let ended = is_end(mark);
+                self.last = clock;
+                self.ended = ended;
+                Ok(marked)
+            }
             Err(_) => {
                 self.stopped = true;
                 Err(Refused::Memory)

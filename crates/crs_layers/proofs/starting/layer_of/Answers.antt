@@ -21,6 +21,7 @@ returns c =
         numbers = c.in_ok-push_numbers.ensures {u = tt} ∙ ap (λ (ns : List ℕ). ns ++ numbers_of c.args.stratum 0 ks) c.new-numbers.ensures;
         own_behind = b ∙ ap (λ (xs : List (Option ℤ)). lag_below (zip ks xs) c.args.stratum) (sym (lags_of_values c.args.plans.now)) ∙ sym (behind_placed ps ks c.args.stratum);
         near = omega (arith, b, near);
+        own_focus = ap (λ (x : EngineState). x.focus) v ∙ k.own_focus;
         own_limit = ap (λ (x : EngineState). x.limit) v ∙ k.own_limit;
       };
       engine = record {
