@@ -2,15 +2,19 @@
 ghost use Rattle.std.specs.Prelude.{◌≡◌, ◌<◌, ◌≤◌, ◌+◌, ◌^◌, length, IfOk};
 
 use crate::{Desk, DeskError};
-use std::fs;
-use std::io::{self, ErrorKind, Print, Read};
+use std::io::{self, ErrorKind, Input, Print, Read};
 use std::random::RandomSource;
-use std::rt::Files;
+use std::rt::{Clock, Files};
+use std::time::Duration;
+use std::{fs, thread};
 
 const SLOTS: usize = 16;
 
-/// How often a call that is only interrupted is made.
-const TRIES: usize = 1000;
+/// The name of standard input.
+const STANDARD_INPUT: &str = "-";
+
+/// How many milliseconds are waited before a call is made again that would have to wait.
+const PAUSE: u64 = 5;
 
 /// A call of the outside that failed.
 #[derive(Clone, Copy)]
@@ -22,13 +26,21 @@ pub struct Fault {
     pub error: Option<io::Error>,
 }
 
-/// The files of the system as inputs, and standard output.
+/// What an input reads.
+#[derive(Drop)]
+enum Source<F: Drop> {
+    File(F),
+    /// Standard input, of which each input of its name reads what is left.
+    Standard,
+}
+
+/// The files of the system as inputs, standard input by the name `-`, and standard output.
 ///
 /// It opens at most sixteen inputs, which stay open; a further open is `Failed`. A count of faults stands still at its last value.
 #[derive(Drop)]
-pub struct RealDesk<R: Files + Print + RandomSource + Drop> {
+pub struct RealDesk<R: Files + Input + Print + Clock + RandomSource + Drop> {
     rt: R,
-    inputs: [Option<R::File>; SLOTS],
+    inputs: [Option<Source<R::File>>; SLOTS],
     count: u32,
     in_faults: u64,
     out_faults: u64,
@@ -46,7 +58,7 @@ fn random_seed(rt: &impl RandomSource) -> u64 {
     }
 }
 
-impl<R: Files + Print + RandomSource + Drop> RealDesk<R> {
+impl<R: Files + Input + Print + Clock + RandomSource + Drop> RealDesk<R> {
     /// A desk that has opened nothing. Its seed is random.
     pub fn new(rt: R) -> RealDesk<R>
         ensures inputs { ⟦<RealDesk<R> as Desk>⟧.inputs result ≡ 0 }
@@ -69,40 +81,75 @@ impl<R: Files + Print + RandomSource + Drop> RealDesk<R> {
     }
 }
 
-/// Reads some bytes. A read that is only interrupted is made again.
-fn read_some<F: Read>(file: &mut F, buf: &mut [u8]) -> io::Result<usize>
+/// Whether a call is made again that failed so. One that would have to wait is made after a pause.
+fn is_tried_again(clock: &impl Clock, error: io::Error) -> bool {
+    match error.kind() {
+        ErrorKind::Interrupted => true,
+        ErrorKind::WouldBlock => {
+            thread::sleep(clock, Duration::from_millis(PAUSE));
+            true
+        }
+        _ => false,
+    }
+}
+
+/// Reads some bytes. A read that is only interrupted, or would have to wait, is made again.
+fn read_some<F: Read>(clock: &impl Clock, file: &mut F, buf: &mut [u8]) -> io::Result<usize>
     ensures { IfOk result (λ n. n ≤ length buf.new) }
 {
-    for _ in 0..TRIES {
+    for _ in 0..u64::MAX {
         match file.read(buf) {
-            Err(error) if error.kind() == ErrorKind::Interrupted => {}
+            Err(error) if is_tried_again(clock, error) => {}
             answer => return answer,
         }
     }
     Err(io::Error::from(ErrorKind::Interrupted))
 }
 
-/// Writes some bytes. A write that is only interrupted is made again.
-fn write_some<R: Print>(rt: &R, bytes: &[u8]) -> io::Result<usize>
+/// Writes some bytes. A write that is only interrupted, or would have to wait, is made again.
+fn write_some<R: Print + Clock>(rt: &R, bytes: &[u8]) -> io::Result<usize>
     ensures { IfOk result (λ n. n ≤ length bytes.now) }
 {
-    for _ in 0..TRIES {
+    for _ in 0..u64::MAX {
         match rt.write_some(bytes) {
-            Err(error) if error.kind() == ErrorKind::Interrupted => {}
+            Err(error) if is_tried_again(rt, error) => {}
             answer => return answer,
         }
     }
     Err(io::Error::from(ErrorKind::Interrupted))
 }
 
-impl<R: Files + Print + RandomSource + Drop> RealDesk<R> {
+/// Opens what a name stands for.
+fn open_source<R: Files>(rt: &R, name: &str) -> io::Result<Source<R::File>> {
+    if name == STANDARD_INPUT {
+        return Ok(Source::Standard);
+    }
+    let file = fs::open(rt, name)?;
+    Ok(Source::File(file))
+}
+
+/// Reads some bytes of a source.
+fn read_source<R: Files + Input + Clock>(
+    rt: &R,
+    source: &mut Source<R::File>,
+    buf: &mut [u8],
+) -> io::Result<usize>
+    ensures { IfOk result (λ n. n ≤ length buf.new) }
+{
+    match source {
+        Source::File(file) => read_some(rt, file, buf),
+        Source::Standard => read_some(rt, &mut rt.reader(), buf),
+    }
+}
+
+impl<R: Files + Input + Print + Clock + RandomSource + Drop> RealDesk<R> {
     /// The last call that failed, if one did.
     pub fn fault(&self) -> Option<Fault> {
         self.fault
     }
 }
 
-impl<R: Files + Print + RandomSource + Drop> Desk for RealDesk<R> {
+impl<R: Files + Input + Print + Clock + RandomSource + Drop> Desk for RealDesk<R> {
     ghost use Rattle.std.specs.Prelude.{false, []};
     ghost use Rattle.std.proofs.lemmas.Bool.{false≢true};
 
@@ -121,13 +168,13 @@ impl<R: Files + Print + RandomSource + Drop> Desk for RealDesk<R> {
     fn open(&mut self, name: &str) -> Result<u32, DeskError> {
         let number = self.count;
         let opened = if (number as usize) < SLOTS {
-            fs::open(&self.rt, name)
+            open_source(&self.rt, name)
         } else {
             Err(io::Error::from(ErrorKind::Other))
         };
         match opened {
-            Ok(file) => {
-                self.inputs[number as usize] = Some(file);
+            Ok(source) => {
+                self.inputs[number as usize] = Some(source);
                 self.count = number + 1;
                 Ok(number)
             }
@@ -144,8 +191,8 @@ impl<R: Files + Print + RandomSource + Drop> Desk for RealDesk<R> {
 
     fn read(&mut self, input: u32, buf: &mut [u8]) -> Result<usize, DeskError> {
         let mut said = None;
-        if let Some(file) = &mut self.inputs[input as usize] {
-            match read_some(file, buf) {
+        if let Some(source) = &mut self.inputs[input as usize] {
+            match read_source(&self.rt, source, buf) {
                 Ok(count) => return Ok(count),
                 Err(error) => said = Some(error),
             }
