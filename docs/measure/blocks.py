@@ -87,7 +87,7 @@ def shown_by(block, folder):
         (folder / named[1]).write_text(block.text)
         return []
     if told := re.search(r"`(crs (\w+)( --\w+)*)` prints:?$", block.before):
-        return [Shown(told[1] + (" models log" if told[2] == "run" else " models"), block.text)]
+        return [Shown(told[1] + (" models log 2>/dev/null" if told[2] == "run" else " models"), block.text)]
     if re.match(r"(message|attribute|derived|chronicle|prompt chronicle) ", block.text):
         return models(block, folder)
     if re.search(r"\bthe log:?$", block.before):

@@ -57,6 +57,9 @@ fn emit_sentence_of(word: ModelWord) -> Option<&'static str> {
 /// The sentence of a word that was given at this line.
 pub fn sentence_at(line: &[Piece<'_>], word: ModelWord) -> &'static str {
     match line {
+        _ if word == ModelWord::Point && joined_point(line).is_some() => {
+            "this is one name: blanks part a point from its offset, as in t1 - 3"
+        }
         [piece, ..] if piece.is_word(b"emit") => {
             emit_sentence_of(word).unwrap_or(sentence_of(word))
         }
@@ -129,6 +132,29 @@ fn up_to_bracket<'t, 'a>(line: &'t [Piece<'a>]) -> &'t [Piece<'a>] {
     }
 }
 
+/// Whether a word is a point and an offset without a blank between, as `t1-3`.
+fn is_joined(piece: &Piece<'_>) -> bool {
+    let Some(word) = piece.word() else {
+        return false;
+    };
+    match word.iter().rposition(|byte| *byte == b'-') {
+        Some(place) => place > 0 && number(word.get(place + 1..).unwrap_or(b"")).is_some(),
+        None => false,
+    }
+}
+
+/// Where a point of a window, or of a bound, is one name with its offset.
+fn joined_point(line: &[Piece<'_>]) -> Option<usize> {
+    let window = match line.iter().rposition(|piece| piece.is_mark(b'(')) {
+        Some(place) => line.get(place..).unwrap_or(line),
+        None => line,
+    };
+    window
+        .iter()
+        .find(|piece| is_joined(piece))
+        .map(|piece| piece.start)
+}
+
 /// Whether it is a number whose size is above that of every bound.
 fn is_too_large(piece: &Piece<'_>) -> bool {
     match piece.kind {
@@ -176,6 +202,7 @@ pub fn column_of(line: &[Piece<'_>], word: ModelWord) -> Option<usize> {
             start_at(line, place)
         }
         ModelWord::Window => start_at(line, place_of(line, b'*')?),
+        ModelWord::Point => joined_point(line),
         ModelWord::Limit => large_arity(line),
         _ => None,
     }

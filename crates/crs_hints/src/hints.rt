@@ -23,6 +23,8 @@ pub struct Hint<'a> {
     pub line: &'a [u8],
 }
 
+const MARKED: &str = "a byte order mark stands in front: save the file without one, as plain UTF-8";
+
 /// The line with a number from 1 on.
 pub(crate) fn nth_line<'a>(text: &'a [u8], number: u64) -> Option<RawLine<'a>> {
     let mut rest = text;
@@ -42,6 +44,12 @@ pub(crate) fn nth_line<'a>(text: &'a [u8], number: u64) -> Option<RawLine<'a>> {
 
 /// The hint of a line that is no statement.
 fn form_hint<'a>(line: &'a [u8], found: &[Piece<'a>]) -> Hint<'a> {
+    if line.starts_with(b"\xef\xbb\xbf") {
+        return Hint {
+            sentence: MARKED,
+            ..word_hint(line, ModelWord::Form, Some(0))
+        };
+    }
     match statement(found) {
         Err(
             Stop {

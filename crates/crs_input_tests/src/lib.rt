@@ -1,5 +1,5 @@
 //! The tests of what comes in: command lines, desks, tables, made logs, and hints at mistakes in
-//! models and in claims.
+//! models, logs, words and claims.
 #![tactic(auto)]
 
 #[cfg(test)]
@@ -11,6 +11,10 @@ mod desks;
 #[cfg(test)]
 mod drills;
 #[cfg(test)]
+mod log_mistakes;
+#[cfg(test)]
 mod mistakes;
 #[cfg(test)]
 mod tables;
+#[cfg(test)]
+mod wrong_words;

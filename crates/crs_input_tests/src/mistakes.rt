@@ -181,6 +181,7 @@ fn natural_mistakes_of_meaning_are_told(rt: HostRuntime) -> Result<(), Fail> {
         (
             ModelWord::Point,
             "- | t3 - t1 in [0, 5] | isn't declared above
+12 | noevent(b, (t1-3, t2)) | blanks part a point from its offset
 ",
         ),
         (
@@ -242,5 +243,7 @@ fn the_line_is_found(rt: HostRuntime) -> Result<(), Fail> {
     assert!(rt; hint.line.is_empty() && hint.sentence.contains("2^20"));
     let hint = hint_of(rt.alloc(), b"event(caf\xc3\xa9, t1)", 1, ModelWord::Form)?;
     assert!(rt; hint.byte == Some(0xc3) && hint.column == Some(9));
+    let hint = hint_of(rt.alloc(), b"\xef\xbb\xbfmessage a 0", 1, ModelWord::Form)?;
+    assert!(rt; hint.sentence.contains("byte order mark") && hint.column == Some(0));
     Ok(())
 }
