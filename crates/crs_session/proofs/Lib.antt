@@ -1,0 +1,13 @@
+pub mod Results
+pub mod Counting
+pub mod Taken
+pub mod ReadLayers
+pub mod Grown
+pub mod Accepting
+pub mod Renamed
+pub mod Living
+pub mod Told
+pub mod Marking
+pub mod Ordering
+pub mod OneText
+pub mod Lone

@@ -1,0 +1,14 @@
+//! A run between two lines of its log: what a line is worth, and what is written for it.
+#![tactic(auto)]
+
+mod laws;
+mod output;
+mod pieces;
+mod session;
+mod step;
+
+pub use laws::{log_text_is_one, traces_without_emits_are_lone};
+pub use output::{Output, push_lines};
+pub use pieces::{take_piece, take_rest};
+pub use session::{Counts, Session};
+pub use step::{is_blank, take_line};
