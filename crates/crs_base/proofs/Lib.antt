@@ -13,3 +13,4 @@ pub mod LineSteps
 pub mod Feeds
 pub mod TokenSteps
 pub mod Deciding
+pub mod Tags

@@ -11,3 +11,5 @@ pub mod SeenLines
 pub mod Tokens
 pub mod SeenTokens
 pub mod Numbers
+pub mod Tags
+pub mod Recent

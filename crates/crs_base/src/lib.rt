@@ -7,6 +7,7 @@ mod lines;
 mod list;
 mod numbers;
 mod output;
+mod recent;
 mod steps;
 mod sym_list;
 mod symbol_text;

@@ -1,10 +1,11 @@
-ghost use Rattle.std.specs.Prelude.{◌≡◌, ℕ, ◌<◌, ◌≤◌, ◌-◌, ◌^◌, List, [], ◌∷◌, ◌++◌, length, IfOk, OnErr, OnOk, IsTrue, position, bytes_eq, option_map, false, true, is_some, IfSome, IfErr, IsOk, Err, ◌+◌};
+ghost use Rattle.std.specs.Prelude.{◌≡◌, ℕ, ◌<◌, ◌≤◌, ◌-◌, ◌^◌, List, [], ◌∷◌, ◌++◌, length, IfOk, OnErr, OnOk, IsTrue, position, bytes_eq, option_map, false, true, is_some, IfSome, IfErr, IsOk, Some, Err, ◌+◌};
 ghost use Rattle.std.specs.List.{position_or_len, IsDistinct, list_all};
 ghost use Rattle.crs_base.specs.Symbols.{is_symbol, is_symbol_byte, is_known, with_text, text_at, AreDistinct};
 ghost use Rattle.crs_base.specs.TextSet.{texts_of};
 ghost use Rattle.crs_base.specs.Refusals.{IsRefusal};
 ghost use Rattle.crs_base.specs.declared.symbols.SymRefused.TheVariants.{Values};
 
+use crate::recent::Recent;
 use crate::symbol_text::{Seeded, Sought, SymbolText};
 use indexmap::IndexSet;
 use std::alloc::{AllocError, Global};
@@ -58,6 +59,7 @@ pub fn is_symbol_byte(b: u8) -> bool
 #[derive(Drop)]
 pub struct Symbols {
     set: IndexSet<SymbolText, Seeded>,
+    recent: Recent,
     limit: u32,
     alloc: Global,
 }
@@ -66,12 +68,13 @@ impl Model for Symbols {
     ghost use Rattle.std.specs.Prelude.{ℕ, List, map, ◌≤◌, ◌<◌, ◌^◌, length, bytes_eq};
     ghost use Rattle.std.specs.List.{IsDistinct};
     ghost use Rattle.crs_base.specs.Symbols.{Table};
+    ghost use Rattle.crs_base.specs.Recent.{AreTold};
 
     ghost Value = { Table };
 
     ghost view = { λ s. record { texts = map (λ t. t.bytes.items) s.set.keys; limit = s.limit } };
 
-    ghost invariant = { λ s. (length s.set.keys ≤ s.limit) × (s.limit < 2 ^ 32) };
+    ghost invariant = { λ s. (length s.set.keys ≤ s.limit) × (s.limit < 2 ^ 32) × AreTold (map (λ t. t.bytes.items) s.set.keys) s.recent };
 }
 
 /// The place of a text.
@@ -114,6 +117,7 @@ impl Symbols {
     {
         Symbols {
             set: IndexSet::with_hasher(alloc, Seeded::new(seed)),
+            recent: Recent::new(alloc),
             limit,
             alloc,
         }
@@ -138,6 +142,38 @@ impl Symbols {
 
     /// The number of a symbol that is there.
     pub fn find(&self, text: &[u8]) -> Option<Sym>
+        ensures number { option_map (λ s. s.0) result ≡ position (bytes_eq text.now) self.now.texts }
+        ensures known { is_some result ≡ is_known self.now.texts text.now }
+    {
+        match self.told(text) {
+            Some(s) => Some(s),
+            None => self.find_in_set(text),
+        }
+    }
+
+    /// The number of a text, where it is told without a look into the set.
+    #[inline(always)]
+    fn told(&self, text: &[u8]) -> Option<Sym>
+        ensures number { IfSome result (λ s. position (bytes_eq text.now) self.now.texts ≡ Some s.0) }
+        ensures place { IfSome result (λ s. s.0 ≡ position_or_len (bytes_eq text.now) self.now.texts) }
+        ensures known { IfSome result (λ s. is_known self.now.texts text.now ≡ true) }
+    {
+        match self.recent.find(text) {
+            Some(number) => Some(Sym(number)),
+            None => None,
+        }
+    }
+
+    /// Tells the number of a text from now on.
+    fn note(&mut self, text: &[u8], s: Sym)
+        requires { position (bytes_eq text.now) self.old.texts ≡ Some s.0 }
+        ensures { self.new ≡ self.old }
+    {
+        let count = self.set.len();
+        self.recent.note(self.alloc, text, s.0, count);
+    }
+
+    fn find_in_set(&self, text: &[u8]) -> Option<Sym>
         ensures number { option_map (λ s. s.0) result ≡ position (bytes_eq text.now) self.now.texts }
         ensures known { is_some result ≡ is_known self.now.texts text.now }
     {
@@ -170,15 +206,37 @@ impl Symbols {
         ensures room { is_known self.old.texts text.now ≡ false → length self.old.texts ≡ self.old.limit → result ≡ Err (Values self.old.limit) }
         ensures known { is_known self.old.texts text.now ≡ true → IsOk result }
     {
-        if let Some(s) = self.find(text) {
+        match self.told(text) {
+            Some(s) => Ok(s),
+            None => self.intern_in_set(text),
+        }
+    }
+
+    /// The same of a text of which nothing is told; from now on its number is told.
+    #[tactic(auto, using(crate::proofs::Lists::absent_place))]
+    fn intern_in_set(&mut self, text: &[u8]) -> Result<Sym, SymRefused>
+        requires { IsTrue (is_symbol text.now) }
+        ensures ok { OnOk result (self.new.texts ≡ with_text self.old.texts text.now) }
+        ensures number { IfOk result (λ s. s.0 ≡ position_or_len (bytes_eq text.now) self.old.texts) }
+        ensures limit { self.new.limit ≡ self.old.limit }
+        ensures err { OnErr result (self.new ≡ self.old) }
+        ensures refused { IfErr result (IsRefusal self.old text.now) }
+        ensures room { is_known self.old.texts text.now ≡ false → length self.old.texts ≡ self.old.limit → result ≡ Err (Values self.old.limit) }
+        ensures known { is_known self.old.texts text.now ≡ true → IsOk result }
+    {
+        if let Some(s) = self.find_in_set(text) {
+            self.note(text, s);
             return Ok(s);
         }
         if self.room() == 0 {
             return Err(SymRefused::Values { limit: self.limit });
         }
-        let number = self.len();
+        let s = Sym(self.len());
         match put_last(self.alloc, &mut self.set, text) {
-            Ok(()) => Ok(Sym(number)),
+            Ok(()) => {
+                self.note(text, s);
+                Ok(s)
+            }
             Err(_) => Err(SymRefused::Memory),
         }
     }
