@@ -1,12 +1,11 @@
 -- A tag is that of one text alone, and what is told of a text stays told behind further texts.
-use Rattle.std.proofs.Common.{◌≡◌, ℕ, zero, suc, ◌+◌, ◌*◌, ◌<◌, ◌≤◌, Bool, true, false, cond, not, List, [], ◌∷◌, ◌++◌, length, get_or, position, Option, Some, None, refl, sym, ap, subst, ◌∙◌, true≢false, one-add, ◌||◌, arith, length-append}
+use Rattle.std.proofs.Common.{◌≡◌, ℕ, zero, suc, ◌+◌, ◌*◌, ◌<◌, Bool, true, false, cond, not, List, [], ◌∷◌, ◌++◌, length, position, Some, None, refl, sym, ap, subst, ◌∙◌, true≢false, one-add, ◌||◌, arith, length-append}
 use borrow.Author.Tests.{ltb-true, lt-ltb}
 use Rattle.std.specs.Prelude.{bytes_eq, nat_lt}
-use Rattle.std.specs.List.{All, position_or_len, list_any}
+use Rattle.std.specs.List.{position_or_len, list_any}
 use Rattle.std.proofs.lemmas.List.Elements.{All-weaker}
 use Rattle.crs_base.specs.declared.recent.Tag.{Tag}
 use Rattle.crs_base.specs.declared.recent.Place.{Place}
-use Rattle.crs_base.specs.declared.recent.Pair.{Pair}
 use Rattle.crs_base.specs.declared.recent.Recent.{Recent}
 use Rattle.crs_base.specs.Tags.{tag_on}
 use Rattle.crs_base.specs.Recent.{AreBytes, IsTagOf, Tells, TellBoth, AreTold}

@@ -16,3 +16,4 @@ pub mod ReadEntries
 pub mod Walks
 pub mod Traces
 pub mod Staying
+pub mod Places

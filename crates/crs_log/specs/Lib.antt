@@ -10,3 +10,4 @@ pub mod Run
 pub mod Recognitions
 pub mod Walks
 pub mod Trace
+pub mod Places

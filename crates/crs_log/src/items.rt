@@ -3,6 +3,7 @@ mod numbers;
 pub mod parts;
 mod read;
 mod spans;
+mod walk;
 
 pub use read::read_item;
 pub use spans::Spans;

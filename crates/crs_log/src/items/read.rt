@@ -5,6 +5,7 @@ ghost use Rattle.crs_log.specs.ItemOf.{statement_of, what_is, what_of};
 
 use super::events::event;
 use super::numbers::lone_number;
+use super::walk::walk_event;
 use super::{Item, ItemRefused};
 use crs_base::{Marks, Token, fill_tokens, passed_over, word_bytes};
 use std::alloc::{AllocError, Global};
@@ -54,6 +55,20 @@ fn statement(alloc: Global, line: &[u8], tokens: &[Token]) -> Result<Option<Item
 
 /// What a line of at most 4096 bytes is.
 fn read_what(alloc: Global, line: &[u8], tokens: &mut Vec<Token>) -> Result<Item, ItemRefused>
+    requires { length line.now ≤ 4096 }
+    ensures exact { IfOk result (λ item. what_seen line.now item ≡ what_of line.now) }
+    ensures range { IfOk result IsInRange }
+    ensures err { IfErr result (Refuses line.now) }
+{
+    match walk_event(alloc, line) {
+        Ok(Some(raw)) => Ok(Item::Event(raw)),
+        Ok(None) => read_other(alloc, line, tokens),
+        Err(_) => Err(ItemRefused::Memory),
+    }
+}
+
+/// The same, by the line's tokens.
+fn read_other(alloc: Global, line: &[u8], tokens: &mut Vec<Token>) -> Result<Item, ItemRefused>
     requires { length line.now ≤ 4096 }
     ensures exact { IfOk result (λ item. what_seen line.now item ≡ what_of line.now) }
     ensures range { IfOk result IsInRange }

@@ -1,4 +1,4 @@
-use Rattle.std.proofs.Common.{◌≡◌, List, ℕ}
+use Rattle.std.proofs.Common.{List, ℕ}
 use Rattle.crs_base.specs.Recent.{AreTold}
 use Rattle.crs_base.proofs.recent.Recent.wider.Given as goal
 

@@ -1,4 +1,4 @@
-use Rattle.std.proofs.Common.{◌≡◌, ◌≤◌, ◌<◌, ◌+◌, position, bytes_eq, map, length, [], ◌∷◌, ◌++◌, false, Some, subst, sym, ap, ◌∙◌, arith}
+use Rattle.std.proofs.Common.{◌≡◌, ◌≤◌, ◌<◌, ◌+◌, position, bytes_eq, map, length, [], ◌∷◌, false, Some, subst, sym, ap, ◌∙◌, arith}
 use Rattle.std.proofs.lemmas.List.{length-map}
 use Rattle.crs_base.specs.Recent.{AreTold}
 use Rattle.crs_base.specs.Symbols.{is_known}
