@@ -17,3 +17,4 @@ pub mod Walks
 pub mod Traces
 pub mod Staying
 pub mod Places
+pub mod Whole

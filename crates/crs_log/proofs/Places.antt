@@ -18,7 +18,7 @@ use Rattle.crs_log.specs.SeenItems.{text_of, event_seen, change_in}
 use Rattle.crs_log.specs.Places.{tokens_from, is_plain_mark, Stands, IsSymbolAt, AreArgumentsAt, IsChangeOf, led_tokens}
 use Rattle.crs_log.proofs.ItemLaw.{item_again}
 
-front : (line : List ℕ) (i : ℕ) → i < length line → drop i line ≡ get_or line i 0 ∷ drop (i + 1) line
+pub front : (line : List ℕ) (i : ℕ) → i < length line → drop i line ≡ get_or line i 0 ∷ drop (i + 1) line
 front line i l = rw add-one (drop-cons line i 0 l)
 
 pub blank_step : (line : List ℕ) (i : ℕ) → i < length line → is_blank (get_or line i 0) ≡ true → tokens_from line (i + 1) ≡ tokens_from line i

@@ -1,6 +1,7 @@
 mod adding;
 mod making;
 mod texts;
+mod whole;
 
 use crs_base::Sym;
 pub use making::{make_entry, make_named};

@@ -3,6 +3,7 @@ ghost use Rattle.crs_log.specs.SeenItems.{text_of, event_seen, change_in};
 ghost use Rattle.crs_base.specs.Entry.{canonical, args_text, more_text, change_text};
 ghost use Rattle.crs_log.specs.Known.{texts_of};
 
+use super::whole::whole_text;
 use crate::items::parts::span_text;
 use crate::items::{Raw, Span};
 use crs_base::Text;
@@ -74,6 +75,16 @@ fn text_len(raw: &Raw) -> usize {
 
 /// The canonical text of an event.
 pub fn canonical_text(alloc: Global, line: &[u8], raw: &Raw) -> Result<Text, AllocError>
+    ensures { IfOk result (λ t. t ≡ canonical (text_of line.now raw.now.name) (map (text_of line.now) raw.now.args) (change_in line.now raw.now.change)) }
+{
+    match whole_text(line, raw) {
+        Some(text) => Text::new(alloc, text),
+        None => parted_text(alloc, line, raw),
+    }
+}
+
+/// The same, put together from its parts.
+fn parted_text(alloc: Global, line: &[u8], raw: &Raw) -> Result<Text, AllocError>
     ensures { IfOk result (λ t. t ≡ canonical (text_of line.now raw.now.name) (map (text_of line.now) raw.now.args) (change_in line.now raw.now.change)) }
 {
     let mut out = SmallVec::with_capacity(alloc, text_len(raw))?;

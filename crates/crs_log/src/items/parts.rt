@@ -1,4 +1,4 @@
-ghost use Rattle.std.specs.Prelude.{◌≡◌, [], List, ℕ, map, IfOk, IfSome, option_map, ◌&&◌, true};
+ghost use Rattle.std.specs.Prelude.{◌≡◌, [], List, ℕ, map, ◌+◌, IfOk, IfSome, option_map, ◌&&◌, true};
 ghost use Rattle.crs_base.specs.SeenTokens.{token_of, tokens_seen, IsWordIn, AreWordsIn};
 ghost use Rattle.crs_base.specs.Symbols.{is_symbol, is_symbol_byte};
 ghost use Rattle.std.specs.List.{list_all};
@@ -14,6 +14,13 @@ pub fn span_text<'a>(line: &'a [u8], span: Span) -> &'a [u8]
     ensures { result.now ≡ text_of line.now span }
 {
     word_bytes(line, span.start, span.len as u16)
+}
+
+/// Where a span ends.
+pub fn end_of(span: Span) -> usize
+    ensures { result ≡ span.start + span.len }
+{
+    span.start as usize + span.len as usize
 }
 
 /// Whether symbol bytes are a symbol, which they are unless they are none or too many.

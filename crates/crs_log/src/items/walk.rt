@@ -9,6 +9,7 @@ ghost use Rattle.crs_log.specs.ItemOf.{Is, what_of};
 ghost use Rattle.crs_log.specs.Places.{tokens_from, is_plain_mark, Stands, IsSymbolAt, AreArgumentsAt, IsChangeOf};
 
 use super::numbers::{DATES, log_number};
+use super::parts::end_of;
 use super::{Raw, Span, Spans};
 use crs_base::{is_blank, is_symbol_byte};
 use std::alloc::{AllocError, Global};
@@ -78,13 +79,6 @@ fn symbol(line: &[u8], at: usize) -> Option<Span>
     } else {
         None
     }
-}
-
-/// Where a span ends.
-fn end_of(span: Span) -> usize
-    ensures { result ≡ span.start + span.len }
-{
-    span.start as usize + span.len as usize
 }
 
 /// Reads the arguments behind their bracket, and tells where they end.
