@@ -9,7 +9,7 @@ ghost use Rattle.crs_log.specs.Known.{new_texts, one_if_new};
 
 use crate::items::Span;
 use crate::items::parts::span_text;
-use crs_base::{Sym, SymRefused, Symbols};
+use crs_base::{Sym, SymList, SymRefused, Symbols};
 use smallvec::SmallVec;
 use std::alloc::{AllocError, Global};
 
@@ -113,4 +113,30 @@ pub fn intern_all(
         };
     }
     Ok(out)
+}
+
+/// The numbers of the texts of arguments, of which there are at most 8.
+pub fn intern_args(
+    line: &[u8],
+    spans: &[Span],
+    symbols: &mut Symbols,
+) -> Result<SymList, AllocError>
+    requires arity { length spans.now ≤ 8 }
+    requires symbols { AreSymbols (map (text_of line.now) spans.now) }
+    requires room { length symbols.old.texts + length (new_texts symbols.old.texts (map (text_of line.now) spans.now)) ≤ symbols.old.limit }
+    ensures texts { OnOk result (symbols.new.texts ≡ with_texts symbols.old.texts (map (text_of line.now) spans.now)) }
+    ensures numbers { IfOk result (λ v. map (text_in symbols.new.texts) v ≡ map (text_of line.now) spans.now) }
+    ensures within { IfOk result (λ v. AreKnown symbols.new.texts v) }
+    ensures limit { symbols.new.limit ≡ symbols.old.limit }
+    ensures err { OnErr result ((k : ℕ) × (symbols.new.texts ≡ with_texts symbols.old.texts (take k (map (text_of line.now) spans.now)))) }
+{
+    let mut all = [Sym(0); 8];
+    for (i, span) in spans.iter().enumerate() {
+        let Ok(s) = intern_one(span_text(line, *span), symbols) else {
+            return Err(AllocError);
+        };
+        all[i] = s;
+    }
+    let (front, _) = all.split_at(spans.len());
+    Ok(SymList::from_slice(front))
 }

@@ -1,4 +1,4 @@
-ghost use Rattle.std.specs.Prelude.{◌≡◌, ◌<◌, ◌≤◌, ◌+◌, length, map, IfOk, OnOk, IfErr, List, ℕ, true};
+ghost use Rattle.std.specs.Prelude.{◌≡◌, ◌<◌, ◌≤◌, ◌+◌, length, map, IfOk, OnOk, IfErr, List, ℕ, None, true};
 ghost use Rattle.crs_base.specs.Symbols.{is_known, with_texts};
 ghost use Rattle.crs_log.specs.SeenItems.{text_of, event_seen, change_in};
 ghost use Rattle.crs_model.specs.Renaming.{text_in};
@@ -9,7 +9,7 @@ ghost use Rattle.crs_log.specs.Items.{IsItem, Happens};
 ghost use Rattle.crs_log.specs.Known.{new_texts, texts_of, change_texts, entry_of_event};
 
 use super::EntryRefused;
-use super::adding::{are_beyond, intern_all};
+use super::adding::{are_beyond, intern_all, intern_args};
 use super::texts::{canonical_text, value_spans};
 use crate::items::parts::span_text;
 use crate::items::{Raw, Span};
@@ -59,6 +59,83 @@ fn entry_with(arrival: u32, raw: &Raw, name: Sym, numbers: &[Sym], text: Text) -
     }
 }
 
+/// The entry of an event without a change, whose name has this number and whose canonical text this is.
+fn make_message(
+    line: &[u8],
+    raw: &Raw,
+    name: Sym,
+    arrival: u32,
+    symbols: &mut Symbols,
+    text: Text,
+) -> Result<Entry, EntryRefused>
+    requires none { raw.now.change ≡ None }
+    requires item { IsItem line.now (Happens (event_seen line.now raw.now)) }
+    requires name { IsTextAt symbols.old.texts (text_of line.now raw.now.name) name }
+    requires arity { length raw.now.args ≤ 8 }
+    requires text { text ≡ canonical (event_seen line.now raw.now).name (event_seen line.now raw.now).args (event_seen line.now raw.now).change }
+    ensures entry { IfOk result (λ e. entry_seen symbols.new.texts e ≡ entry_of_event arrival (event_seen line.now raw.now)) }
+    ensures within { IfOk result (IsEntryIn symbols.new.texts) }
+    ensures texts { OnOk result (symbols.new.texts ≡ with_texts symbols.old.texts (texts_of (event_seen line.now raw.now))) }
+    ensures room { OnOk result (length symbols.old.texts + length (new_texts symbols.old.texts (texts_of (event_seen line.now raw.now))) ≤ symbols.old.limit) }
+    ensures limit { symbols.new.limit ≡ symbols.old.limit }
+    ensures err { IfErr result (IsEntryRefusal symbols.old symbols.new (texts_of (event_seen line.now raw.now))) }
+{
+    let spans = raw.args.as_slice();
+    let room = symbols.room();
+    if are_beyond(line, spans, symbols, room) {
+        return Err(EntryRefused::Values {
+            limit: symbols.len() + room,
+        });
+    }
+    let Ok(args) = intern_args(line, spans, symbols) else {
+        return Err(EntryRefused::Memory);
+    };
+    Ok(Entry {
+        arrival,
+        date: raw.date,
+        name,
+        args,
+        change: None,
+        text,
+    })
+}
+
+/// The same of an event with a change.
+fn make_change(
+    alloc: Global,
+    line: &[u8],
+    raw: &Raw,
+    name: Sym,
+    arrival: u32,
+    symbols: &mut Symbols,
+    text: Text,
+) -> Result<Entry, EntryRefused>
+    requires item { IsItem line.now (Happens (event_seen line.now raw.now)) }
+    requires name { IsTextAt symbols.old.texts (text_of line.now raw.now.name) name }
+    requires arity { length raw.now.args ≤ 8 }
+    requires text { text ≡ canonical (event_seen line.now raw.now).name (event_seen line.now raw.now).args (event_seen line.now raw.now).change }
+    ensures entry { IfOk result (λ e. entry_seen symbols.new.texts e ≡ entry_of_event arrival (event_seen line.now raw.now)) }
+    ensures within { IfOk result (IsEntryIn symbols.new.texts) }
+    ensures texts { OnOk result (symbols.new.texts ≡ with_texts symbols.old.texts (texts_of (event_seen line.now raw.now))) }
+    ensures room { OnOk result (length symbols.old.texts + length (new_texts symbols.old.texts (texts_of (event_seen line.now raw.now))) ≤ symbols.old.limit) }
+    ensures limit { symbols.new.limit ≡ symbols.old.limit }
+    ensures err { IfErr result (IsEntryRefusal symbols.old symbols.new (texts_of (event_seen line.now raw.now))) }
+{
+    let Ok(spans) = value_spans(alloc, raw) else {
+        return Err(EntryRefused::Memory);
+    };
+    let room = symbols.room();
+    if are_beyond(line, spans.as_slice(), symbols, room) {
+        return Err(EntryRefused::Values {
+            limit: symbols.len() + room,
+        });
+    }
+    let Ok(numbers) = intern_all(alloc, line, spans.as_slice(), symbols) else {
+        return Err(EntryRefused::Memory);
+    };
+    Ok(entry_with(arrival, raw, name, numbers.as_slice(), text))
+}
+
 /// The entry of an event line whose name has this number.
 pub fn make_named(
     alloc: Global,
@@ -81,19 +158,10 @@ pub fn make_named(
     let Ok(text) = canonical_text(alloc, line, raw) else {
         return Err(EntryRefused::Memory);
     };
-    let Ok(spans) = value_spans(alloc, raw) else {
-        return Err(EntryRefused::Memory);
-    };
-    let room = symbols.room();
-    if are_beyond(line, spans.as_slice(), symbols, room) {
-        return Err(EntryRefused::Values {
-            limit: symbols.len() + room,
-        });
+    match raw.change {
+        Some(_) => make_change(alloc, line, raw, name, arrival, symbols, text),
+        None => make_message(line, raw, name, arrival, symbols, text),
     }
-    let Ok(numbers) = intern_all(alloc, line, spans.as_slice(), symbols) else {
-        return Err(EntryRefused::Memory);
-    };
-    Ok(entry_with(arrival, raw, name, numbers.as_slice(), text))
 }
 
 /// The entry of an event line whose name is declared.

@@ -7,7 +7,7 @@ use Rattle.crs_model.specs.Renaming.{AreKnown}
 use Rattle.crs_log.specs.Known.{texts_of, new_texts}
 use Rattle.crs_log.proofs.Parts.{kept_all, count_of, room_left, symbols_of_item}
 use Rattle.crs_log.specs.Items.{AreSymbols}
-use Rattle.crs_log.proofs.entries.making.make_named.Goals as goal
+use Rattle.crs_log.proofs.entries.making.make_change.Goals as goal
 
 pub intern_all-requires-clause-room : goal.intern_all-requires-clause-room
 intern_all-requires-clause-room c =
@@ -21,18 +21,18 @@ entry_with-requires-clause-count c =
     ap length c.as_slice-3.ensures
     ∙ sym (length-map c.in-Ok-intern_all.numbers.items (text_in c.intern_all.new.symbols.texts)) ∙ ap length c.in-Ok-intern_all.ensures.numbers
     ∙ ap (λ xs. length (map f xs)) c.as_slice-2.ensures
-    ∙ ap length (c.in-Ok-value_spans.ensures.texts c.args.line.now) ∙ count_of c.args.line.now c.args.raw.now
+    ∙ ap length (c.in-Ok.ensures.texts c.args.line.now) ∙ count_of c.args.line.now c.args.raw.now
 
 pub returns-clause-entry : goal.returns-clause-entry
 returns-clause-entry c =
     let T = c.args.symbols.now.texts in let f = text_of c.args.line.now in
     let ts = texts_of (event_seen c.args.line.now c.args.raw.now) in
-    let spans : map f c.as_slice-2.result.now ≡ ts = ap (map f) c.as_slice-2.ensures ∙ c.in-Ok-value_spans.ensures.texts c.args.line.now in
+    let spans : map f c.as_slice-2.result.now ≡ ts = ap (map f) c.as_slice-2.ensures ∙ c.in-Ok.ensures.texts c.args.line.now in
     let k = kept_all (map f c.as_slice-2.result.now) T c.args.name.0 c.requires.name.0 in
     c.entry_with.ensures.entry c.args.line.now c.intern_all.new.symbols.texts
     (ap (λ U. text_at U c.args.name.0) c.in-Ok-intern_all.ensures.texts ∙ k.1 ∙ c.requires.name.1)
     (ap (map (text_in c.intern_all.new.symbols.texts)) c.as_slice-3.ensures ∙ c.in-Ok-intern_all.ensures.numbers ∙ spans)
-    c.in-Ok.ensures
+    c.requires.text
 
 pub returns-clause-within : goal.returns-clause-within
 returns-clause-within c =
@@ -45,10 +45,10 @@ returns-clause-within c =
 pub returns-clause-room : goal.returns-clause-room
 returns-clause-room c =
     let T = c.args.symbols.now.texts in let f = text_of c.args.line.now in
-    subst (λ ts. length T + length (new_texts T ts) ≤ c.args.symbols.now.limit) (ap (map f) c.as_slice.ensures ∙ c.in-Ok-value_spans.ensures.texts c.args.line.now)
+    subst (λ ts. length T + length (new_texts T ts) ≤ c.args.symbols.now.limit) (ap (map f) c.as_slice.ensures ∙ c.in-Ok.ensures.texts c.args.line.now)
     (room_left (length (new_texts T (map f c.as_slice.result.now))) (length T) c.args.symbols.now.limit c.room-room.result c.room-room.ensures.value c.room-room.ensures.within (c.are_beyond.ensures.no c.if-are_beyond.false))
 
 pub intern_all-requires-clause-symbols : goal.intern_all-requires-clause-symbols
 intern_all-requires-clause-symbols c =
-    subst AreSymbols (sym (ap (map (text_of c.args.line.now)) c.as_slice-2.ensures ∙ c.in-Ok-value_spans.ensures.texts c.args.line.now))
+    subst AreSymbols (sym (ap (map (text_of c.args.line.now)) c.as_slice-2.ensures ∙ c.in-Ok.ensures.texts c.args.line.now))
     (symbols_of_item c.args.line.now (event_seen c.args.line.now c.args.raw.now) c.requires.item)
