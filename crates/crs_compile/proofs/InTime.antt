@@ -20,7 +20,7 @@ use Rattle.crs_model.specs.SeenModels.{event_of, chronicle_of}
 use Rattle.crs_model.specs.ShortLags.{AreSlow, AreLags, AreInTime, ClosesSlow, first_lags, HaveShortLags}
 use Rattle.crs_compile.specs.Compiled.{plans_in, chronicles_in, IsRefusal, IsLagRefusal, IsModelsRefusal}
 
-lags_are : (ps : List Plan) → AllByRecursion IsProper ps → AreLags (map chronicle ps) (map (λ p. p.lag) ps)
+pub lags_are : (ps : List Plan) → AllByRecursion IsProper ps → AreLags (map chronicle ps) (map (λ p. p.lag) ps)
 lags_are [] h = tt
 lags_are (p ∷ ps) h =
     let points : p.network.points ≡ length (map event_of p.chronicle.events) + length p.chronicle.free = h.0.points ∙ ap (λ n. n + length p.chronicle.free) (sym (length-map p.chronicle.events event_of)) in

@@ -36,11 +36,12 @@ use Rattle.crs_store.specs.Answers.{IsAnswer, IsRecognitionOf}
 use Rattle.crs_engine.specs.Marks.{ListsAllNew}
 use Rattle.crs_report.specs.OutputLines.{recognition_line}
 use Rattle.crs_report.specs.Printed.{chronicle_at, AreBound, IsPrintable, line_seen}
-use Rattle.crs_top.specs.Session.{HasText, chronicle_in, entries_in, line_in, ArePrintable}
+use Rattle.crs_layers.specs.Standing.{HasText}
+use Rattle.crs_session.specs.Session.{chronicle_in, entries_in, line_in, ArePrintable}
 use Rattle.crs_report.specs.Listeners.{notice_of}
-use Rattle.crs_top.specs.Notices.{notice_in}
-use Rattle.crs_top.specs.Texts.{answer_line, LogEntry}
-use Rattle.crs_top.specs.Written.{HasEntry}
+use Rattle.crs_session.specs.Notices.{notice_in}
+use Rattle.crs_session.specs.Texts.{answer_line, LogEntry}
+use Rattle.crs_session.specs.Written.{HasEntry}
 
 -- The recognitions of a mark's answer stand for assignments, with the symbols' texts: exactly those that are new, printed as the answer is,
 -- and listeners are told the same of both.

@@ -1,29 +1,26 @@
 -- Claims are judged by plans as by the models that they were made of.
-use Rattle.std.proofs.Common.{◌≡◌, ◌∙◌, ap, sym, refl, ℕ, ◌≤◌, true, List, [], ◌∷◌, map, length, arith, Global}
+use Rattle.std.proofs.Common.{◌≡◌, ◌∙◌, ap, sym, refl, ℕ, true, List, [], ◌∷◌, map, length, arith, Global}
 use Rattle.std.specs.Prelude.{Result, Ok, Err, IfOk}
 use Rattle.std.specs.List.{AllByRecursion}
 use Rattle.crs_model.specs.declared.models.ModelRefused.{ModelRefused}
 use Rattle.std.specs.declared.rc.Rc.{Rc}
 use Rattle.std.proofs.lemmas.List.{length-map}
 use Rattle.crs_audit.specs.Audited.{CanAudit, ground_in, chronicle_in as audited_in}
-use Rattle.crs_audit.specs.Audits.{Ground}
-use Rattle.crs_base.specs.declared.symbols.Sym.{Sym}
 use Rattle.crs_base.specs.Symbols.{Table}
 use Rattle.crs_model.specs.declared.models.Models.{Models as CodeModels}
 use Rattle.crs_model.specs.declared.plan.Plan.{Plan}
 use Rattle.crs_model.specs.declared.plan.Plans.{Plans}
-use Rattle.crs_model.specs.Models.{Chronicle, Models}
+use Rattle.crs_model.specs.Models.{Chronicle}
 use Rattle.crs_model.specs.Plans.{IsProper, chronicle}
 use Rattle.crs_model.specs.Renaming.{IsChronicleOf}
-use Rattle.crs_model.specs.SeenModels.{chronicle_of, models_of}
-use Rattle.crs_model.specs.ShortLags.{AreInTime}
+use Rattle.crs_model.specs.SeenModels.{chronicle_of}
+use Rattle.crs_model.specs.ShortLags.{HaveShortLags}
 use Rattle.crs_compile.specs.Compiled.{chronicles_in}
 use Rattle.crs_engine.specs.Engines.{plans_of}
 use Rattle.crs_top.specs.AuditOutcomes.{ground_of, AreAuditPlans}
-use Rattle.crs_top.specs.ModelTexts.{IsAccepted}
-use Rattle.crs_top.specs.Prepared.{AreReadIn, ArePlansIn}
-use Rattle.crs_top.specs.Session.{HasText, HasModels, chronicle_in}
-use Rattle.crs_top.specs.Texts.{Frame}
+use Rattle.crs_top.specs.Prepared.{AreReadIn, ArePlansIn, AreLonePlans}
+use Rattle.crs_layers.specs.Standing.{HasText}
+use Rattle.crs_session.specs.Session.{HasModels, chronicle_in}
 use Rattle.crs_top.proofs.Preparing.{by_value, frame, accepted, has_models}
 
 -- the chronicles are the same, behind their references or not
@@ -37,9 +34,9 @@ plans_count plans = length-map (map (λ p. p.value) plans) (λ p. p.chronicle) �
 
 module _ (symbols : ℕ) (text : List ℕ) (m : CodeModels) (table : Table) (plans : Plans) (is : AreReadIn symbols text m table)
     (names : plans.names ≡ m.names) (chronicles : chronicles_in plans.plans ≡ m.chronicles) (made : AllByRecursion IsProper (plans_of plans))
-    (in_time : AreInTime Sym (map chronicle_of m.chronicles)) (none_emits : AllByRecursion (λ c. c.emits ≡ []) (map chronicle_of m.chronicles)) where
-  models_for : (entries : ℕ) → HasModels (frame true symbols entries text m table plans is names chronicles made in_time none_emits) plans table
-  models_for entries = has_models true symbols entries text m table plans is names chronicles made in_time none_emits
+    (lags : HaveShortLags (plans_of plans)) (lone : AreLonePlans plans) where
+  models_for : (entries : ℕ) → HasModels (frame true symbols entries text m table plans is names chronicles made lags) plans table
+  models_for entries = has_models true symbols entries text m table plans is names chronicles made lags
 
   can_audit : CanAudit plans table
   can_audit =
@@ -58,7 +55,7 @@ module _ (symbols : ℕ) (text : List ℕ) (m : CodeModels) (table : Table) (pla
       }
 
   same_ground : (entries : ℕ) (log : List ℕ)
-      → ground_in plans entries table log ≡ ground_of (frame true symbols entries text m table plans is names chronicles made in_time none_emits) log
+      → ground_in plans entries table log ≡ ground_of (frame true symbols entries text m table plans is names chronicles made lags) log
   same_ground entries log =
       let h = models_for entries in
       λ i. record {
@@ -72,17 +69,18 @@ module _ (symbols : ℕ) (text : List ℕ) (m : CodeModels) (table : Table) (pla
   is_read = record {
     can = can_audit;
     meant = λ entries. (
-      frame true symbols entries text m table plans is names chronicles made in_time none_emits,
-      accepted true symbols entries text m table plans is names chronicles made in_time none_emits,
+      frame true symbols entries text m table plans is names chronicles made lags,
+      accepted true symbols entries text m table plans is names chronicles made lags (λ e. lone),
       same_ground entries,
     );
   }
 
 -- by plans that were read claims are judged as by the models
-pub plans_read : (symbols : ℕ) (text : List ℕ) (plans : Plans) (table : Table) → ArePlansIn symbols text plans table → AreAuditPlans symbols text plans table
-plans_read symbols text plans table r = is_read symbols text r.models table plans r.read r.names r.chronicles r.proper r.in_time r.none_emits
+pub plans_read : (symbols : ℕ) (text : List ℕ) (plans : Plans) (table : Table) → ArePlansIn symbols text plans table → AreLonePlans plans
+    → AreAuditPlans symbols text plans table
+plans_read symbols text plans table r lone = is_read symbols text r.models table plans r.read r.names r.chronicles r.proper r.lags lone
 
-pub plans_all : (symbols : ℕ) (text : List ℕ) (r : Result (Plans × Table) ModelRefused) → IfOk r (λ read. ArePlansIn symbols text read.0 read.1)
+pub plans_all : (symbols : ℕ) (text : List ℕ) (r : Result (Plans × Table) ModelRefused) → IfOk r (λ read. ArePlansIn symbols text read.0 read.1 × AreLonePlans read.0)
     → IfOk r (λ read. AreAuditPlans symbols text read.0 read.1)
-plans_all symbols text (Ok read) h = plans_read symbols text read.0 read.1 h
+plans_all symbols text (Ok read) h = plans_read symbols text read.0 read.1 h.0 h.1
 plans_all symbols text (Err e) h = tt

@@ -1,6 +1,5 @@
 -- The whole of an audit, by its parts.
-use Rattle.std.proofs.Common.{◌≡◌, ◌⊎◌, ◌∙◌, ap, sym, refl, subst, inl, inr, ℕ, ◌+◌, ◌<◌, ◌≤◌, ◌^◌, true, List, [], ◌∷◌, ◌++◌, length, take, arith, append-nil, append_assoc, add-one, length-append, Ok, Err, Vec}
-use Rattle.std.specs.declared.alloc.Global.{Global}
+use Rattle.std.proofs.Common.{◌≡◌, ◌∙◌, ap, sym, refl, subst, inl, inr, ℕ, ◌+◌, ◌<◌, ◌≤◌, ◌^◌, true, List, [], ◌∷◌, ◌++◌, length, take, arith, append-nil, append_assoc, add-one, length-append, Err}
 use Rattle.std.specs.Option.{unwrap_or}
 use Rattle.std.proofs.Math.Seq.{take-length}
 use Rattle.std.proofs.lemmas.List.{take-append-le}
@@ -9,13 +8,13 @@ use Rattle.crs_desk.specs.Desk.{Told, Stream, file_of, Wrote}
 use Rattle.crs_desk.specs.declared.turn.Turn.{Turn}
 use Rattle.crs_top.specs.declared.status.Status.{Status}
 use Rattle.crs_top.specs.declared.status.Status.TheVariants.{Done, Refusals, Words, Rejected, ReadFault, WriteFault, Memory, TooLong}
-use Rattle.crs_top.specs.AuditOutcomes.{most_checked, ground_of, IsOkLine, IsFaultLine, IsAuditLine, AreTakenWhole, Judges, AuditOutcome, DidAudit, Audits, EndsUnread, LoadsChecked, SaysAudit}
+use Rattle.crs_top.specs.AuditOutcomes.{most_checked, ground_of, IsAuditLine, AreTakenWhole, Judges, AuditOutcome, Audits, EndsUnread, LoadsChecked, SaysAudit}
 use Rattle.crs_top.specs.Inputs.{bytes_of, after, Opened, IsRead}
 use Rattle.crs_top.specs.Loads.{IsModelLine, LoadOutcome, EndsWithInput, Loaded}
 use Rattle.crs_top.specs.Logs.{AppendsFront, Says}
 use Rattle.crs_top.specs.ModelTexts.{IsAccepted, IsFaulty}
 use Rattle.crs_top.specs.RunOutcomes.{Most}
-use Rattle.crs_top.specs.Texts.{Frame}
+use Rattle.crs_session.specs.Texts.{Frame}
 use Rattle.crs_top.proofs.Loads.{nothing_read_of}
 
 -- no further name was handed to open

@@ -1,7 +1,7 @@
 -- The text of a log whose recognitions cite their entries has no audit fault.
 use Rattle.std.proofs.lemmas.List.{length-map}
-use Rattle.std.proofs.Common.{◌≡◌, ◌≢◌, ◌⊎◌, ◌∙◌, ap, sym, refl, subst, ℕ, zero, suc, ◌+◌, ◌<◌, ◌≤◌, ◌^◌, ◌==◌, Bool, true, false, cond, List, [], ◌∷◌, ◌++◌, length, map, Option, Some, None, Result, Ok, Err, inl, inr, arith, append_assoc, length-append, Ordering, Less, Equal, Greater, nat_lt, eq-eqb}
-use Rattle.std.specs.Prelude.{flat_map, slice_get, if◌then◌else◌}
+use Rattle.std.proofs.Common.{◌≡◌, ◌≢◌, ◌⊎◌, ◌∙◌, ap, sym, refl, subst, ℕ, suc, ◌+◌, ◌<◌, ◌^◌, ◌==◌, Bool, true, false, cond, List, [], ◌∷◌, ◌++◌, length, map, Option, Some, None, Ok, inl, inr, arith, append_assoc, length-append, Less, Equal, nat_lt, eq-eqb}
+use Rattle.std.specs.Prelude.{flat_map, if◌then◌else◌}
 use Rattle.std.specs.List.{AllByRecursion, AllZip}
 use Rattle.std.specs.Option.{option_or}
 use Rattle.std.specs.Ordering.{ordering_then}
@@ -11,33 +11,36 @@ use Rattle.crs_base.specs.Words.{IsIn, Ordered}
 use Rattle.crs_base.proofs.Alls.{all_append, all_each, all_both}
 use Rattle.crs_base.proofs.KeyOrder.{entry_total}
 use Rattle.crs_base.proofs.LineSteps.{whole}
-use Rattle.crs_base.proofs.Words.{in_filter_back, each_from_in, in_from_each, in_map, in_map_back, in_append, ordered_append, ordered_map}
+use Rattle.crs_base.proofs.Words.{in_filter_back, in_from_each, in_map_back, in_append, ordered_append, ordered_map}
 use Rattle.crs_drill.proofs.MadeLines.{split_line, plain_whole}
 use Rattle.crs_model.specs.declared.recognition.Mark.{Mark}
-use Rattle.crs_model.specs.Models.{Chronicle, Window}
-use Rattle.crs_model.specs.Matching.{Assignment, IsAssignment, AreDistinct}
-use Rattle.crs_model.specs.Open.{pool_among}
-use Rattle.crs_model.specs.Order.{arrived, Lists, assignment_cmp, entries_cmp}
-use Rattle.crs_model.specs.Scopes.{IsNewIn, ListsNew}
+use Rattle.crs_model.specs.Models.{Chronicle}
+use Rattle.crs_model.specs.Matching.{Assignment, AreDistinct}
+use Rattle.crs_model.specs.Order.{arrived, assignment_cmp, entries_cmp}
+use Rattle.crs_model.specs.Scopes.{IsNewIn}
 use Rattle.crs_model.proofs.Marks.{same_values}
 use Rattle.crs_model.proofs.Settled.{of_settled}
 use Rattle.crs_model.proofs.Ties.{key_itself, ordered_members}
 use Rattle.crs_model.proofs.TwinPools.{one_arrival}
 use Rattle.crs_log.specs.Reading.{Given, numbered}
 use Rattle.crs_log.specs.Recognitions.{View, view_of, scope_in, IsRecognisedIn, Stays}
-use Rattle.crs_log.specs.Run as run
 use Rattle.crs_log.specs.Run.{Setting, State, Outcome, Passed, Refused, Accepted, Marked, at_start, after_line, settled, marked_entries}
-use Rattle.crs_log.specs.Trace.{Answer, answer_of, AreNew, AreAnswers, Effect, IsEffect, IsTrace, answers_in}
+use Rattle.crs_log.specs.Trace.{Answer, answer_of, AreNew, AreAnswers, Effect, IsTrace, answers_in}
 use Rattle.crs_log.proofs.ReadEntries.{IsRead}
 use Rattle.crs_log.proofs.Staying.{IsSound, Leads, by_line, all_stay, begins_sound}
 use Rattle.crs_audit.specs.Audits as audit
 use Rattle.crs_audit.specs.Audits.{Ground, Earlier, AreCited, Unless, IsVerdict, IsLineAudit, IsAuditFrom, view_at}
-use Rattle.crs_audit.specs.Claims.{Claim, Claims, Other, Said, said_of}
+use Rattle.crs_audit.specs.Claims.{Said}
 use Rattle.crs_audit.specs.Notes.{Note, note_of, notes_of, number_of, last_view}
 use Rattle.crs_top.specs.AuditOutcomes.{ground_of}
 use Rattle.crs_top.specs.CitedTexts.{CitedTextsHaveNoFault}
-use Rattle.crs_top.specs.Texts.{Frame, setting_of, fault_of, answer_line, line_text, text_of}
-use Rattle.crs_top.proofs.CitedLines.{IsText, arrivals, cited_line, line_is, of_read, HasLine, has_line, line_said, line_plain, line_some}
+use Rattle.crs_layers.specs.Laws.{flat}
+use Rattle.crs_session.proofs.Lone.{traces_without_emits_are_lone}
+use Rattle.crs_session.specs.Laws.{lone_text}
+use Rattle.crs_session.specs.Tallies as session
+use Rattle.crs_session.specs.Texts.{Frame, log_setting, fault_of, answer_line, line_text}
+use Rattle.crs_top.proofs.Accepted.{are_placed}
+use Rattle.crs_top.proofs.CitedLines.{arrivals, cited_line, line_is, of_read, HasLine, has_line, line_said, line_plain, line_some}
 use Rattle.crs_top.proofs.CitedMarks.{IsSmallEntry, AreSmallEntries, Leaves, leaves}
 use Rattle.crs_top.proofs.CitedModels.{IsCitable, HaveOwnNames, models_citable, found_by_name, one_of_a_name}
 use Rattle.crs_top.proofs.CitedRefusals.{refusal_body, refusal_is, refusal_plain, refusal_said}
@@ -353,16 +356,16 @@ module _ (f : Frame) (log : List ℕ) (own : HaveOwnNames f.models.chronicles) (
   cs = f.models.chronicles
 
   abbrev all_notes : List Note
-  all_notes = notes_of (setting_of f) (at_start f.texts) (numbered (lines_of log))
+  all_notes = notes_of (log_setting f) (at_start f.texts) (numbered (lines_of log))
 
   -- the audit of what further lines bring
   abbrev Passes : State → List Given → List Effect → State → Type 0
   Passes s gs es last = (n : ℕ) (earlier : List Earlier) → AreRecorded cs own citable f.entries small (view_of s) earlier
-      → IsAuditFrom (ground_of f log) n earlier (lines_of (text_of true es)) (Ok (length earlier + length (answers_in es)))
+      → IsAuditFrom (ground_of f log) n earlier (lines_of (lone_text true es)) (Ok (length earlier + length (answers_in es)))
 
   -- so it passes behind whatever marks
   abbrev Further : State → List Given → List Effect → State → Type 0
-  Further s gs es last = (marks : List Note) → all_notes ≡ marks ++ notes_of (setting_of f) s gs → Passes s gs es last
+  Further s gs es last = (marks : List Note) → all_notes ≡ marks ++ notes_of (log_setting f) s gs → Passes s gs es last
 
   refusal_passes : (number : ℕ) (fault : _) (n : ℕ) (earlier : List Earlier) (rest : List ℕ) (answer : audit.Answer)
       → IsAuditFrom (ground_of f log) (n + 1) earlier (lines_of rest) answer
@@ -375,8 +378,8 @@ module _ (f : Frame) (log : List ℕ) (own : HaveOwnNames f.models.chronicles) (
       (subst (λ (x : Said). IsLineAudit (ground_of f log) n earlier (bytes_of (whole body)) x answer (λ claims. IsAuditFrom (ground_of f log) (n + 1) claims (lines_of rest) answer))
       (sym (refusal_said number (fault_of fault))) more)
 
-  passes_from : (s : State) → IsSound s → AreSmallEntries f.entries s.accepted → (before : List Note) (gs : List Given) → all_notes ≡ before ++ notes_of (setting_of f) s gs
-      → (es : List Effect) (last : State) → IsTrace (setting_of f) cs s gs es last → Passes s gs es last
+  passes_from : (s : State) → IsSound s → AreSmallEntries f.entries s.accepted → (before : List Note) (gs : List Given) → all_notes ≡ before ++ notes_of (log_setting f) s gs
+      → (es : List Effect) (last : State) → IsTrace (log_setting f) cs s gs es last → Passes s gs es last
   passes_from s sound read before [] notes [] last trace n earlier recorded = ap Ok (omega arith)
   passes_from s sound read before [] notes (e ∷ es) last trace n earlier recorded = absurd trace
   passes_from s sound read before (g ∷ gs) notes [] last trace n earlier recorded = absurd trace
@@ -384,10 +387,10 @@ module _ (f : Frame) (log : List ℕ) (own : HaveOwnNames f.models.chronicles) (
       by (λ b k. passes_from next leads.0 read_next b gs k es last rest) e.outcome e.answers (ap (λ (r : State × Outcome). r.1) step.becomes) (subst (λ (v : View). AreAnswers cs v (view_of next) e.outcome e.answers) step.was (subst (λ (v : View). AreAnswers cs e.was v e.outcome e.answers) step.now step.answers))
     where
       leads : Leads s next
-      leads = subst (Leads s) (ap (λ (r : State × Outcome). r.0) step.becomes) (by_line (setting_of f) s sound g)
+      leads = subst (Leads s) (ap (λ (r : State × Outcome). r.0) step.becomes) (by_line (log_setting f) s sound g)
 
-      left : Leaves f.entries s (after_line (setting_of f) s g)
-      left = leaves (setting_of f) s g
+      left : Leaves f.entries s (after_line (log_setting f) s g)
+      left = leaves (log_setting f) s g
 
       read_next : AreSmallEntries f.entries next.accepted
       read_next = subst (AreSmallEntries f.entries) (ap (λ (r : State × Outcome). r.0.accepted) step.becomes) (left.small read)
@@ -399,25 +402,25 @@ module _ (f : Frame) (log : List ℕ) (own : HaveOwnNames f.models.chronicles) (
       recorded_next = recorded_on cs own citable f.entries small (view_of s) (view_of next) earlier on recorded
 
       -- the notes behind this line
-      noted : (o : Outcome) → (after_line (setting_of f) s g).1 ≡ o → all_notes ≡ before ++ (note_of next o ++ notes_of (setting_of f) next gs)
-      noted o becomes = notes ∙ (λ i. before ++ (note_of (ap (λ (r : State × Outcome). r.0) step.becomes i) (becomes i) ++ notes_of (setting_of f) (ap (λ (r : State × Outcome). r.0) step.becomes i) gs))
+      noted : (o : Outcome) → (after_line (log_setting f) s g).1 ≡ o → all_notes ≡ before ++ (note_of next o ++ notes_of (log_setting f) next gs)
+      noted o becomes = notes ∙ (λ i. before ++ (note_of (ap (λ (r : State × Outcome). r.0) step.becomes i) (becomes i) ++ notes_of (log_setting f) (ap (λ (r : State × Outcome). r.0) step.becomes i) gs))
 
-      on_with : Further next gs es last → (o : Outcome) → (after_line (setting_of f) s g).1 ≡ o → Passes next gs es last
-      on_with further o becomes = further (before ++ note_of next o) (noted o becomes ∙ sym (append_assoc before (note_of next o) (notes_of (setting_of f) next gs)))
+      on_with : Further next gs es last → (o : Outcome) → (after_line (log_setting f) s g).1 ≡ o → Passes next gs es last
+      on_with further o becomes = further (before ++ note_of next o) (noted o becomes ∙ sym (append_assoc before (note_of next o) (notes_of (log_setting f) next gs)))
 
-      by : Further next gs es last → (o : Outcome) (news : List Answer) → (after_line (setting_of f) s g).1 ≡ o → AreAnswers cs (view_of s) (view_of next) o news
-          → IsAuditFrom (ground_of f log) n earlier (lines_of (line_text true e.number o news ++ text_of true es)) (Ok (length earlier + length (news ++ answers_in es)))
+      by : Further next gs es last → (o : Outcome) (news : List Answer) → (after_line (log_setting f) s g).1 ≡ o → AreAnswers cs (view_of s) (view_of next) o news
+          → IsAuditFrom (ground_of f log) n earlier (lines_of (line_text true e.number o news ++ lone_text true es)) (Ok (length earlier + length (news ++ answers_in es)))
       by further Passed news becomes h =
-          subst (λ (xs : List Answer). IsAuditFrom (ground_of f log) n earlier (lines_of (line_text true e.number Passed xs ++ text_of true es)) (Ok (length earlier + length (xs ++ answers_in es)))) (sym h)
+          subst (λ (xs : List Answer). IsAuditFrom (ground_of f log) n earlier (lines_of (line_text true e.number Passed xs ++ lone_text true es)) (Ok (length earlier + length (xs ++ answers_in es)))) (sym h)
           (on_with further Passed becomes n earlier recorded_next)
       by further (Refused fault) news becomes h =
-          subst (λ (xs : List Answer). IsAuditFrom (ground_of f log) n earlier (lines_of (line_text true e.number (Refused fault) xs ++ text_of true es)) (Ok (length earlier + length (xs ++ answers_in es)))) (sym h)
-          (refusal_passes e.number fault n earlier (text_of true es) (Ok (length earlier + length (answers_in es))) (on_with further (Refused fault) becomes (n + 1) earlier recorded_next))
+          subst (λ (xs : List Answer). IsAuditFrom (ground_of f log) n earlier (lines_of (line_text true e.number (Refused fault) xs ++ lone_text true es)) (Ok (length earlier + length (xs ++ answers_in es)))) (sym h)
+          (refusal_passes e.number fault n earlier (lone_text true es) (Ok (length earlier + length (answers_in es))) (on_with further (Refused fault) becomes (n + 1) earlier recorded_next))
       by further (Accepted entry) news becomes h =
-          subst (λ (xs : List Answer). IsAuditFrom (ground_of f log) n earlier (lines_of (line_text true e.number (Accepted entry) xs ++ text_of true es)) (Ok (length earlier + length (xs ++ answers_in es)))) (sym h)
+          subst (λ (xs : List Answer). IsAuditFrom (ground_of f log) n earlier (lines_of (line_text true e.number (Accepted entry) xs ++ lone_text true es)) (Ok (length earlier + length (xs ++ answers_in es)))) (sym h)
           (on_with further (Accepted entry) becomes n earlier recorded_next)
       by further (Marked m) news becomes h =
-          let view = mark_view (setting_of f) before m next leads.0 gs in
+          let view = mark_view (log_setting f) before m next leads.0 gs in
           let seen : view_at (ground_of f log) m ≡ Some view.0 = ap (λ (ns : List Note). last_view ns (number_of m)) (noted (Marked m) becomes) ∙ view.1 in
           let fresh = fresh_answers cs own citable f.entries small (view_of s) (view_of next) 0 cs (λ d i. i) news h in
           let apart = answers_apart cs own citable f.entries small next leads.0 (view_of s) 0 cs own news h in
@@ -427,14 +430,18 @@ module _ (f : Frame) (log : List ℕ) (own : HaveOwnNames f.models.chronicles) (
           let sum : length (with_keys earlier news) + length (answers_in es) ≡ length earlier + length (news ++ answers_in es) = omega (arith, many, both) in
           all_pass cs own citable f.entries small next leads.0 read_next (ground_of f log) refl m early view.0 seen view.2 (view_of s) news fresh apart n earlier
           (all_each news (λ a fr. unheard cs own citable f.entries small next leads.0 s on earlier recorded a fr) fresh)
-          (text_of true es) (Ok (length earlier + length (news ++ answers_in es)))
-          (λ k. subst (λ (x : ℕ). IsAuditFrom (ground_of f log) k (with_keys earlier news) (lines_of (text_of true es)) (Ok x)) sum
+          (lone_text true es) (Ok (length earlier + length (news ++ answers_in es)))
+          (λ k. subst (λ (x : ℕ). IsAuditFrom (ground_of f log) k (with_keys earlier news) (lines_of (lone_text true es)) (Ok x)) sum
           (on_with further (Marked m) becomes k (with_keys earlier news) (recorded_then cs own citable f.entries small next leads.0 (view_of s) earlier recorded_next news fresh)))
 
 pub cited_texts_have_no_fault : CitedTextsHaveNoFault
 cited_texts_have_no_fault symbols entries models log f effects last few reads trace =
-    let m = models_citable symbols models f.models f.texts reads.read in
-    let limit : f.entries ≡ entries = reads.entries_are in
-    let none : 0 + length (answers_in effects) ≡ length (answers_in effects) = omega arith in
-    subst (λ (n : ℕ). IsAuditFrom (ground_of f log) 1 [] (lines_of (text_of true effects)) (Ok n)) none
-    (passes_from f log m.1 m.0 (omega (arith, limit)) (at_start f.texts) (begins_sound f.texts) tt [] (numbered (lines_of log)) refl effects last trace 1 [] (λ k i. absurd i))
+    let a = reads in
+    let m = models_citable symbols models f.models f.texts a.read in
+    let limit : f.entries ≡ entries = a.entries_are in
+    let lone = traces_without_emits_are_lone f (lines_of log) effects last (are_placed true symbols entries models f a) (reads.cited_alone refl) trace in
+    let answers : List Answer = answers_in (map flat effects) in
+    let none : 0 + length answers ≡ length (session.answers_in effects) = omega (arith, ap length lone.answers_are) in
+    subst (λ (text : List ℕ). IsAuditFrom (ground_of f log) 1 [] (lines_of text) (Ok (length (session.answers_in effects)))) (sym (lone.text_is true))
+    (subst (λ (n : ℕ). IsAuditFrom (ground_of f log) 1 [] (lines_of (lone_text true (map flat effects))) (Ok n)) none
+    (passes_from f log m.1 m.0 (omega (arith, limit)) (at_start f.texts) (begins_sound f.texts) tt [] (numbered (lines_of log)) refl (map flat effects) last.log lone.trace_is 1 [] (λ k i. absurd i)))

@@ -1,6 +1,6 @@
 -- The line of a recognition whose entries are cited, and what it says to an audit.
-use Rattle.std.proofs.Common.{◌≡◌, ◌∙◌, ap, sym, refl, subst, ℕ, zero, suc, ◌+◌, ◌*◌, ◌<◌, ◌≤◌, ◌^◌, nat_le, ◌==◌, ◌&&◌, ◌||◌, Bool, true, false, le-leb, leb-true, eqb-true}
-use Rattle.std.proofs.Common.{List, [], ◌∷◌, ◌++◌, length, map, Option, Some, None, inl, inr, arith, append_assoc, length-append, append-nil}
+use Rattle.std.proofs.Common.{◌≡◌, ◌∙◌, ap, sym, refl, subst, ℕ, zero, suc, ◌+◌, ◌<◌, ◌≤◌, ◌^◌, nat_le, ◌==◌, ◌&&◌, ◌||◌, true, le-leb, leb-true, eqb-true}
+use Rattle.std.proofs.Common.{List, [], ◌∷◌, ◌++◌, length, map, Option, Some, None, inl, inr, arith, append_assoc, length-append}
 use Rattle.std.specs.Prelude.{codes, decimal, flat_map, zip, slice_get, IfSome, option_map}
 use Rattle.std.specs.List.{AllByRecursion, AllZip, list_all}
 use Rattle.std.proofs.lemmas.Bool.{and_parts, or_cases}
@@ -9,21 +9,17 @@ use Rattle.std.proofs.lemmas.List.{length-map}
 use Rattle.std.proofs.lemmas.List.Folds.{list_all-append}
 use Rattle.crs_base.specs.Entry.{Entry}
 use Rattle.crs_base.specs.Symbols.{is_symbol, is_symbol_byte}
-use Rattle.crs_base.specs.Words.{IsIn}
 use Rattle.crs_base.proofs.LineSteps.{whole}
-use Rattle.crs_base.proofs.Words.{in_from_each}
 use Rattle.crs_drill.proofs.MadeLines.{numeral, is_plain}
 use Rattle.crs_model.specs.declared.recognition.Mark.{Mark}
 use Rattle.crs_model.specs.Models.{EventDef, Chronicle}
-use Rattle.crs_model.specs.Matching.{Binding, PatternIs, Assignment, IsAssignment}
-use Rattle.crs_model.specs.Proper.{pattern_has}
+use Rattle.crs_model.specs.Matching.{Assignment, IsAssignment}
 use Rattle.crs_model.specs.Renaming.{IsEntryOf}
 use Rattle.crs_model.proofs.Renamed.{renamed_look, of_events, patterns_on}
-use Rattle.crs_log.specs.Items.{Event, AreSymbols, IsChange}
-use Rattle.crs_log.specs.Known.{entry_of_event}
+use Rattle.crs_log.specs.Items.{Event, IsChange}
 use Rattle.crs_log.proofs.ReadEntries.{IsRead}
 use Rattle.crs_report.specs.OutputLines.{mark_text, point_text, value_text, number_text, cites_text, recognition_line}
-use Rattle.crs_audit.specs.Claims.{Claim, Claims, said_of}
+use Rattle.crs_audit.specs.Claims.{Claims, said_of}
 use Rattle.crs_top.proofs.CitedModels.{IsCitable}
 use Rattle.crs_top.proofs.CitedWords.{is_dark, IsWord, AreWords, spaced, spaced_few, number_word, number_words, AreSmall, IsEarly, mark_few, claim_words, claim_line, IsClaimLine, claim_said, claim_plain}
 

@@ -1,5 +1,5 @@
 -- What each line of a log leaves to a cited line: entries with few digits, and a mark that is early.
-use Rattle.std.proofs.Common.{◌≡◌, ◌∙◌, ap, sym, refl, subst, ℕ, ◌+◌, ◌<◌, ◌≤◌, ◌^◌, nat_lt, nat_le, Bool, true, false, cond, List, [], ◌∷◌, ◌++◌, length, Option, Some, None, inl, inr, arith, ltb-true}
+use Rattle.std.proofs.Common.{◌≡◌, ◌∙◌, ap, sym, refl, subst, ℕ, ◌+◌, ◌<◌, ◌^◌, nat_lt, nat_le, Bool, true, false, cond, List, length, Option, Some, None, ltb-true}
 use Rattle.std.specs.List.{AllByRecursion}
 use Rattle.crs_base.specs.Entry.{Entry}
 use Rattle.crs_base.specs.Lines.{is_passed_over}
@@ -10,7 +10,7 @@ use Rattle.crs_log.specs.Items.{Item, Delay, Clock, Finish, Happens, Event}
 use Rattle.crs_log.specs.ItemOf.{What, Empty, Is, Faulty, what_of, what_is, item_of}
 use Rattle.crs_log.specs.Known.{Verdict, Other, Named, BadArity, BadValue, known_of, entry_of_event, texts_of, new_texts}
 use Rattle.crs_log.specs.Reading.{Given, Plain, Long}
-use Rattle.crs_log.specs.Run.{Setting, State, Outcome, Passed, Refused, Accepted, Marked, TooLong, Form, Order, Back, Late, Arity, Value, Full, Values, horizon_at, end_date, with_entry, after_named, after_verdict, after_ordered, after_item, after_what, after_line}
+use Rattle.crs_log.specs.Run.{Setting, State, Outcome, Passed, Refused, Accepted, Marked, TooLong, Form, Order, Back, Late, Arity, Value, Full, Values, horizon_at, with_entry, after_named, after_verdict, after_ordered, after_what, after_line}
 use Rattle.crs_log.proofs.ItemLaw.{item_sound}
 use Rattle.crs_log.proofs.Staying.{in_range, clock_read}
 use Rattle.crs_top.proofs.CitedWords.{IsEarly}

@@ -1,7 +1,7 @@
 -- What accepted models give to a cited line: symbols, few of each kind, and names that no two chronicles share.
-use Rattle.std.proofs.Common.{◌≡◌, ◌≢◌, ◌∙◌, ap, sym, refl, subst, ℕ, ◌<◌, ◌≤◌, Bool, true, false, true≢false, nat_lt, ◌||◌, cond, List, [], ◌∷◌, ◌++◌, length, map, Option, Some, None, Result, Ok, Err, inl, inr, arith, append_assoc}
+use Rattle.std.proofs.Common.{◌≡◌, ◌≢◌, ◌∙◌, ap, sym, refl, subst, ℕ, ◌<◌, ◌≤◌, Bool, true, false, true≢false, nat_lt, List, [], ◌∷◌, ◌++◌, length, map, Some, Ok, inl, inr}
 use Rattle.std.specs.Prelude.{if◌then◌else◌}
-use Rattle.std.specs.List.{AllByRecursion, list_any}
+use Rattle.std.specs.List.{AllByRecursion}
 use Rattle.std.specs.Str.{bytes_eq}
 use Rattle.std.proofs.lemmas.Bool.{or_parts}
 use Rattle.std.proofs.lemmas.List.Folds.{list_any-append}
@@ -10,12 +10,12 @@ use Rattle.crs_base.specs.Symbols.{is_symbol}
 use Rattle.crs_base.specs.Words.{IsIn, Ordered}
 use Rattle.crs_base.proofs.Alls.{all_both, all_each}
 use Rattle.crs_base.proofs.Texts.{bytes_same, same_bytes}
-use Rattle.crs_base.proofs.Words.{each_from_in, in_from_each, ordered_map}
+use Rattle.crs_base.proofs.Words.{in_from_each}
 use Rattle.crs_model.specs.Models.{Chronicle, Models}
 use Rattle.crs_model.specs.Proper.{IsNamed}
 use Rattle.crs_parse.specs.Faults.{Name, Written, Reading, is_of, after_lines, nothing_read, reading_of}
 use Rattle.crs_parse.specs.HeldStatements.{IsHeldChronicle}
-use Rattle.crs_parse.specs.Meant.{event_of, chronicle_of, models_in, models_read}
+use Rattle.crs_parse.specs.Meant.{event_of, chronicle_of, models_read}
 use Rattle.crs_parse.proofs.HeldReading.{lines_read}
 use Rattle.crs_parse.proofs.Numbered.{each_made}
 use Rattle.crs_parse.proofs.Properly.{chronicle_proper}

@@ -1,5 +1,5 @@
 -- The line of a refusal, which makes no claim.
-use Rattle.std.proofs.Common.{◌≡◌, ◌∙◌, ap, sym, refl, subst, ℕ, zero, suc, ◌+◌, ◌/◌, ◌%◌, ◌<◌, ◌≤◌, ◌==◌, ◌&&◌, nat_le, nat_lt, Bool, true, false, le-leb, List, [], ◌∷◌, ◌++◌, length, arith, append_assoc, mod-lt}
+use Rattle.std.proofs.Common.{◌≡◌, ◌∙◌, ap, refl, ℕ, zero, suc, ◌+◌, ◌/◌, ◌%◌, ◌<◌, ◌==◌, ◌&&◌, nat_lt, Bool, true, false, le-leb, List, [], ◌∷◌, ◌++◌, length, arith, append_assoc, mod-lt}
 use Rattle.std.specs.Prelude.{codes, decimal, if◌then◌else◌}
 use Rattle.std.specs.List.{list_all}
 use Rattle.std.specs.Fmt.{digits, digits_onto, digit_glyph}
@@ -10,7 +10,7 @@ use Rattle.crs_report.specs.declared.refusals.Fault.{Fault}
 use Rattle.crs_report.specs.declared.refusals.Fault.TheVariants.{Long, Form, Order, Back, Late, Arity, Value, Full, Values, Flood}
 use Rattle.crs_report.specs.OutputLines.{fault_text, refusal_line}
 use Rattle.crs_audit.specs.Claims.{Other, said_of}
-use Rattle.crs_top.proofs.CitedWords.{is_dark, digits_said, digits_plain, plain_both}
+use Rattle.crs_top.proofs.CitedWords.{digits_said, digits_plain, plain_both}
 
 -- ---- the digits of any number
 

@@ -1,25 +1,24 @@
 -- A line of words that single blanks part, and what it says to an audit.
-use Rattle.std.proofs.Common.{◌≡◌, ◌∙◌, ap, sym, refl, subst, ℕ, zero, suc, ◌+◌, ◌*◌, ◌<◌, ◌≤◌, ◌^◌, nat_le, ◌==◌, ◌&&◌, ◌||◌, Bool, true, false, true≢false, leb-true, lt-ltb, le-ltb}
-use Rattle.std.proofs.Common.{append-nil, cond, List, [], ◌∷◌, ◌++◌, length, map, Option, Some, None, arith, append_assoc, length-append, All}
+use Rattle.std.proofs.Common.{◌≡◌, ◌∙◌, ap, sym, refl, ℕ, suc, ◌+◌, ◌*◌, ◌<◌, ◌≤◌, ◌^◌, nat_le, ◌==◌, ◌&&◌, ◌||◌, Bool, true, false, true≢false, leb-true, lt-ltb, le-ltb}
+use Rattle.std.proofs.Common.{append-nil, List, [], ◌∷◌, ◌++◌, length, map, Option, Some, None, arith, length-append, All}
 use Rattle.std.specs.Prelude.{codes, decimal, not, flat_map, if◌then◌else◌}
 use Rattle.std.specs.List.{AllByRecursion, list_all, list_any, slice_split}
 use Rattle.std.specs.Option.{option_and_then, option_map, option_or}
 use Rattle.std.specs.Str.{bytes_eq}
-use Rattle.std.specs.Str.Lines.{strip_carriage_return}
 use Rattle.std.proofs.lemmas.Bool.{and_parts, ne_eqb}
 use Rattle.std.proofs.lemmas.List.Elements.{All-from_recursion}
 use Rattle.std.proofs.lemmas.List.Folds.{list_all-append}
 use Rattle.std.proofs.lemmas.List.Splits.{slice_split_none, slice_split_at}
-use Rattle.crs_base.specs.Lines.{Line, bytes_of, is_blank, is_long}
-use Rattle.crs_base.specs.Numbers.{is_digit, number_of}
-use Rattle.crs_base.specs.Symbols.{is_symbol, is_symbol_byte}
+use Rattle.crs_base.specs.Lines.{bytes_of, is_blank}
+use Rattle.crs_base.specs.Numbers.{is_digit}
+use Rattle.crs_base.specs.Symbols.{is_symbol}
 use Rattle.crs_base.proofs.LineSteps.{whole}
 use Rattle.crs_base.proofs.Texts.{bytes_same, same_bytes}
 use Rattle.crs_drill.proofs.MadeLines.{IsNumeral, numeral, is_plain, plain_whole}
 use Rattle.crs_model.specs.declared.recognition.Mark.{Mark}
 use Rattle.crs_model.specs.declared.recognition.Mark.TheVariants.{Clock, Finish}
 use Rattle.crs_report.specs.OutputLines.{mark_text}
-use Rattle.crs_audit.specs.Claims.{Claim, Said, Other, Formless, Claims, words_of, is_claim, below, number_below, mark_of, behind_cites, put_first, numbers_of, some_numbers, claim_with, is_empty, has_empty, claim_in, said_as, is_tab, is_unfit, said_of}
+use Rattle.crs_audit.specs.Claims.{Other, Formless, Claims, words_of, is_claim, below, number_below, mark_of, behind_cites, put_first, numbers_of, some_numbers, claim_with, has_empty, claim_in, said_as, is_tab, is_unfit, said_of}
 
 -- ---- words
 

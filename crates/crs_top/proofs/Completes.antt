@@ -1,5 +1,5 @@
 -- A run that meets no fault ends well.
-use Rattle.std.proofs.Common.{◌≡◌, ◌⊎◌, ◌∙◌, ◌<◌, ◌≤◌, sym, refl, subst, ap, inl, inr, ℕ, Bool, true, List, [], ◌∷◌, ◌++◌, length, Some, arith}
+use Rattle.std.proofs.Common.{◌≡◌, ◌⊎◌, ◌∙◌, ◌<◌, ◌≤◌, sym, refl, subst, ap, inl, inr, ℕ, Bool, true, false, List, [], ◌∷◌, ◌++◌, length, Some, arith}
 use Rattle.std.specs.List.{AllByRecursion}
 use Rattle.crs_audit.specs.Audits.{Ground, IsAudit}
 use Rattle.crs_audit.specs.declared.words.AuditWord.{AuditWord}
@@ -12,14 +12,15 @@ use Rattle.crs_model.specs.declared.models.ModelWord.{ModelWord}
 use Rattle.crs_top.specs.declared.status.Status.{Status}
 use Rattle.crs_top.specs.declared.status.Status.TheVariants.{Done, Refusals, Words, Rejected, ReadFault, WriteFault, Memory, TooLong}
 use Rattle.crs_model.specs.ProperModels.{AreProper}
-use Rattle.crs_model.specs.ShortLags.{AreInTime, ClosesSlow}
+use Rattle.crs_model.specs.ShortLags.{ClosesSlow}
 use Rattle.crs_compile.proofs.UniqueLags as lags
 use Rattle.crs_parse.proofs.ReadProper.{read_proper}
-use Rattle.crs_top.specs.ModelTexts.{AreModelsIn, IsAccepted, ClosesInconsistent, BreaksRule, IsFaulty}
+use Rattle.crs_top.specs.ModelTexts.{GiveNothing, AreModelsIn, IsAccepted, IsAcceptedAlone, ClosesInconsistent, BreaksRule, IsFaulty, IsRunFaulty}
 use Rattle.crs_top.specs.Inputs.{bytes_of}
 use Rattle.crs_top.specs.Logs.{Tail}
 use Rattle.crs_top.specs.RunOutcomes.{Most, Runs, Completes}
-use Rattle.crs_top.specs.Texts.{Frame}
+use Rattle.crs_session.specs.Texts.{Frame}
+use Rattle.crs_top.proofs.Accepted.{one_frame}
 use Rattle.crs_words.specs.declared.command.Listing.{Listing}
 use Rattle.crs_top.specs.Listings.{Prints, CompletesPrint}
 use Rattle.crs_top.specs.Imports.{Imports, CompletesImport}
@@ -56,12 +57,25 @@ one_reading symbols text m n texts more h k =
     let pair : (m, texts) ≡ (n, more) = (let e = sym h ∙ k in cc) in
     ap (λ (p : Models (List ℕ) × List (List ℕ)). p.0.chronicles) pair
 
--- a text that is accepted isn't refused
-pub not_both : (cite : Bool) (symbols entries : ℕ) (text : List ℕ) (f : Frame) (line : ℕ) (word : ModelWord) → IsAccepted cite symbols entries text f → IsFaulty symbols text line word → ⊥
-not_both cite symbols entries text f line word a (inl h) = not_broken symbols text f.models line word (record { texts = f.texts; read = a.read; consistent = a.consistent; in_time = a.in_time }) h
-not_both cite symbols entries text f line word a (inr h) =
+-- a text that is accepted breaks no rule
+breaks_none : (cite : Bool) (symbols entries : ℕ) (text : List ℕ) (f : Frame) (line : ℕ) (word : ModelWord) → IsAccepted cite symbols entries text f → BreaksRule symbols text line word → ⊥
+breaks_none cite symbols entries text f line word a h = not_broken symbols text f.models line word (record { texts = f.texts; read = a.read; consistent = a.consistent; in_time = a.in_time }) h
+
+-- nor is it refused where no chronicle of it gives entries
+faults_none : (cite : Bool) (symbols entries : ℕ) (text : List ℕ) (f : Frame) (line : ℕ) (word : ModelWord) → IsAccepted cite symbols entries text f → GiveNothing f → IsFaulty symbols text line word → ⊥
+faults_none cite symbols entries text f line word a alone (inl h) = breaks_none cite symbols entries text f line word a h
+faults_none cite symbols entries text f line word a alone (inr h) =
     let same = one_reading symbols text h.1.0 f.models h.1.1.texts f.texts h.1.1.read a.read in
-    none_gives f.models.chronicles line a.none_emits (subst (λ (cs : List (Chronicle (List ℕ))). IsEmitLine cs (Some line)) same h.1.2)
+    none_gives f.models.chronicles line alone (subst (λ (cs : List (Chronicle (List ℕ))). IsEmitLine cs (Some line)) same h.1.2)
+
+-- a text that is accepted for a run isn't refused for it
+pub not_both : (cite : Bool) (symbols entries : ℕ) (text : List ℕ) (f : Frame) (line : ℕ) (word : ModelWord) → IsAccepted cite symbols entries text f → IsRunFaulty cite symbols text line word → ⊥
+not_both true symbols entries text f line word a h = faults_none true symbols entries text f line word a (a.cited_alone refl) h
+not_both false symbols entries text f line word a h = breaks_none false symbols entries text f line word a h
+
+-- nor one that is accepted for several logs
+pub not_both_alone : (symbols entries : ℕ) (text : List ℕ) (f : Frame) (line : ℕ) (word : ModelWord) → IsAcceptedAlone symbols entries text f → IsFaulty symbols text line word → ⊥
+not_both_alone symbols entries text f line word a h = faults_none false symbols entries text f line word a.accepted a.alone h
 
 module _ (base now : ℕ) (cite : Bool) (tail : Tail) (most : Most) (old new : Told) (models log : List ℕ) (fault : Type 0) where
   abbrev Text : List ℕ
@@ -133,13 +147,7 @@ module _ (base now : ℕ) (old new : Told) (table : List ℕ) (fault : Type 0) w
 one_ground : (cite : Bool) (symbols entries : ℕ) (text : List ℕ) (f g : Frame) → IsAccepted cite symbols entries text f → IsAccepted cite symbols entries text g
     → (log : List ℕ) → ground_of f log ≡ ground_of g log
 one_ground cite symbols entries text f g a b log =
-    let pair : ◌≡◌ {A = Models (List ℕ) × List (List ℕ)} (f.models, f.texts) (g.models, g.texts) = (let p = a.read in let q = b.read in cc) in
-    λ i. record {
-      chronicles = (pair i).0.chronicles;
-      setting = record { names = (pair i).0.names; symbols = (a.symbols_are ∙ sym b.symbols_are) i; entries = (a.entries_are ∙ sym b.entries_are) i };
-      texts = (pair i).1;
-      log = log;
-    }
+    ap (λ (x : Frame). ground_of x log) (one_frame cite symbols entries text f g a b)
 
 -- what was taken whole isn't too long
 not_too_long : (bytes : List ℕ) (k : ℕ) → AreTakenWhole bytes k → most_checked < length bytes → ⊥

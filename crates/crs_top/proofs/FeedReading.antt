@@ -1,6 +1,6 @@
 -- Several logs, read by read.
-use Rattle.std.proofs.Common.{◌≡◌, ◌∙◌, ap, sym, refl, subst, inl, inr, ℕ, zero, suc, ◌+◌, ◌-◌, ◌<◌, ◌≤◌, min, Bool, true, false, cond, ◌==◌, List, [], ◌∷◌, ◌++◌, length, take, drop, get_or, set, map, filter}
-use Rattle.std.proofs.Common.{arith, append-nil, append_assoc, add-zero, length-append, length-take-le, Ok, Err}
+use Rattle.std.proofs.Common.{◌≡◌, ◌∙◌, ap, sym, refl, subst, inl, inr, ℕ, zero, suc, ◌+◌, ◌-◌, ◌<◌, ◌≤◌, min, Bool, true, false, cond, ◌==◌, List, [], ◌∷◌, ◌++◌, length, take, drop, get_or, set, map}
+use Rattle.std.proofs.Common.{arith, append-nil, append_assoc, add-zero, length-append, Ok, Err}
 use Rattle.std.proofs.lemmas.Bool.{cases_eq, eq-eqb, ne_eqb}
 use Rattle.std.proofs.lemmas.List.{length-set, get_or-set_same, get_or-set_other, set-get_or, get_or-append-add, drop-drop, length-drop, take-append-le}
 use Rattle.std.proofs.lemmas.List.Elements.{filter-append}
@@ -13,10 +13,9 @@ use Rattle.crs_desk.specs.declared.desk.DeskError.TheVariants as errors
 use Rattle.crs_desk.proofs.Calls.{rises_push, rises_weaker}
 use Rattle.crs_top.specs.FeedOutcomes.{AreRead, ArePrompt, IsPromptTurn, left_of, turns_of}
 use Rattle.crs_top.specs.Inputs.{bytes_of, after, IsRead}
-use Rattle.crs_top.specs.Logs.{Appends}
 use Rattle.crs_top.specs.PairTexts.{IsTextAtRead}
 use Rattle.crs_top.specs.Sources.{HaveRead}
-use Rattle.crs_top.specs.Texts.{Frame}
+use Rattle.crs_session.specs.Texts.{Frame}
 
 eqb_same : (n : ℕ) → (n == n) ≡ true
 eqb_same n = eq-eqb n n refl

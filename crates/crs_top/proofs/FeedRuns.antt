@@ -1,21 +1,20 @@
 -- The whole of a call over several logs, by its parts.
-use Rattle.std.proofs.Common.{false, ◌≡◌, ◌⊎◌, ◌∙◌, ap, sym, refl, subst, inl, inr, ℕ, ◌+◌, ◌<◌, ◌≤◌, ◌^◌, List, [], ◌∷◌, ◌++◌, length, map, take, get_or, arith, append-nil, append_assoc, add-one, zero, suc}
+use Rattle.std.proofs.Common.{◌≡◌, ◌⊎◌, ◌∙◌, ap, sym, refl, inl, inr, ℕ, ◌+◌, ◌<◌, ◌≤◌, ◌^◌, List, [], ◌∷◌, ◌++◌, length, map, get_or, arith, append-nil, append_assoc, add-one, zero, suc}
 use Rattle.std.specs.Option.{unwrap_or}
 use Rattle.std.specs.List.{AllByRecursion}
-use Rattle.std.proofs.lemmas.List.{take-append-le, length-map, get_or-map}
+use Rattle.std.proofs.lemmas.List.{take-append-le}
 use Rattle.crs_desk.specs.Desk.{Told, Stream, file_of}
 use Rattle.crs_desk.specs.declared.turn.Turn.{Turn}
-use Rattle.crs_model.specs.declared.models.ModelWord.{ModelWord}
 use Rattle.crs_top.specs.declared.status.Status.{Status}
 use Rattle.crs_top.specs.declared.status.Status.TheVariants.{Done, Refusals, Words, Rejected, ReadFault, WriteFault, Memory, TooLong}
-use Rattle.crs_top.specs.FeedOutcomes.{AreRead, FeedsOutcome, IsUnwritten, RefusalOutcome, DidFollow, DidFeeds, RunsFeeds, CompletesFeeds, left_of}
-use Rattle.crs_top.specs.Inputs.{bytes_of, after, Opened, IsRead}
+use Rattle.crs_top.specs.FeedOutcomes.{AreRead, FeedsOutcome, IsUnwritten, RefusalOutcome, DidFollow, RunsFeeds, CompletesFeeds, left_of}
+use Rattle.crs_top.specs.Inputs.{bytes_of, after}
 use Rattle.crs_top.specs.Loads.{AreTaken, IsModelLine, LoadOutcome, EndsWithInput, Loaded}
-use Rattle.crs_top.specs.ModelTexts.{IsAccepted, IsFaulty}
+use Rattle.crs_top.specs.ModelTexts.{IsAcceptedAlone, IsFaulty}
 use Rattle.crs_top.specs.Opening.{none_taken}
-use Rattle.crs_top.specs.RunOutcomes.{Most, WithModels}
-use Rattle.crs_top.specs.Texts.{Frame}
-use Rattle.crs_top.proofs.Completes.{not_both}
+use Rattle.crs_top.specs.RunOutcomes.{Most}
+use Rattle.crs_session.specs.Texts.{Frame}
+use Rattle.crs_top.proofs.Completes.{not_both_alone}
 use Rattle.crs_top.proofs.RoundEnds.{nothing_read}
 
 -- a call that ended with the models wrote nothing, or their refusal
@@ -110,7 +109,7 @@ read_later base limit P Q logs ts turns f h = record {
 
 pub feeds_followed : (base mid_count now : ℕ) (most : Most) (f : Frame) (old mid new : Told) (models : List ℕ) (logs : List (List ℕ)) (k n i : ℕ) (ts : List ℕ)
     (more turns : List Turn) (status : Status) → Loaded base mid_count (2 ^ 20) old models 1 1 k more mid
-    → k ≡ length (bytes_of old models) → IsAccepted false most.symbols most.entries (bytes_of old models) f
+    → k ≡ length (bytes_of old models) → IsAcceptedAlone most.symbols most.entries (bytes_of old models) f
     → DidFollow mid_count now f most.bytes mid logs n i ts turns status new → RunsFeeds base now most old models logs status new
 feeds_followed base mid_count now most f old mid new models logs k n i ts more turns status l e a h =
     let o = l.did in
@@ -163,7 +162,7 @@ module _ (base now : ℕ) (most : Most) (old new : Told) (models : List ℕ) (lo
   refused_by status (inl h) wf =
       let o = h.1.1 in
       record {
-        accepted = λ f a l n. absurd (not_both false most.symbols most.entries text f o.0 o.1 a o.2);
+        accepted = λ f a l n. absurd (not_both_alone most.symbols most.entries text f o.0 o.1 a o.2);
         refused = λ line word k n. inl h.0;
       }
   refused_by status (inr h) wf = elim h.0 [
@@ -177,12 +176,12 @@ module _ (base now : ℕ) (most : Most) (old new : Told) (models : List ℕ) (lo
     | inr e ↦ record { accepted = λ f a l n. inr (inr e); refused = λ line word k n. inr e }
   ]
 
-  read_by : (status : Status) (ts : List ℕ) (f : Frame) (turns : List Turn) (missing : Type 0) → IsAccepted false most.symbols most.entries text f
+  read_by : (status : Status) (ts : List ℕ) (f : Frame) (turns : List Turn) (missing : Type 0) → IsAcceptedAlone most.symbols most.entries text f
       → AreRead (base + 1) most.bytes missing (map (bytes_of old) logs) ts turns
       → FeedsOutcome f (map (bytes_of old) logs) most.bytes ts old.written status new.written → (status ≡ ReadFault → fault) → (status ≡ WriteFault → fault)
       → CompletesFeeds most old models logs fault status
-  read_by Done ts f turns missing a read o rf wf = record { accepted = λ g b l n. inl refl; refused = λ line word k n. absurd (not_both false most.symbols most.entries text f line word a k) }
-  read_by Refusals ts f turns missing a read o rf wf = record { accepted = λ g b l n. inr (inl refl); refused = λ line word k n. absurd (not_both false most.symbols most.entries text f line word a k) }
+  read_by Done ts f turns missing a read o rf wf = record { accepted = λ g b l n. inl refl; refused = λ line word k n. absurd (not_both_alone most.symbols most.entries text f line word a k) }
+  read_by Refusals ts f turns missing a read o rf wf = record { accepted = λ g b l n. inr (inl refl); refused = λ line word k n. absurd (not_both_alone most.symbols most.entries text f line word a k) }
   read_by Words ts f turns missing a read o rf wf = absurd o
   read_by Rejected ts f turns missing a read o rf wf = absurd o
   read_by ReadFault ts f turns missing a read o rf wf = record { accepted = λ g b l n. absurd (n (rf refl)); refused = λ line word k n. absurd (n (rf refl)) }
@@ -193,7 +192,7 @@ module _ (base now : ℕ) (most : Most) (old new : Told) (models : List ℕ) (lo
         let within = (read.each o.0 o.1).within in
         let short = each_at old most.bytes logs o.0 o.1 l in
         let full = o.2 in absurd (omega (arith, within, short, full));
-    refused = λ line word k n. absurd (not_both false most.symbols most.entries text f line word a k);
+    refused = λ line word k n. absurd (not_both_alone most.symbols most.entries text f line word a k);
   }
 
   pub completes_feeds : (status : Status) → RunsFeeds base now most old models logs status new → (status ≡ ReadFault → fault) → (status ≡ WriteFault → fault)

@@ -1,6 +1,6 @@
 -- A turn of a feed, step by step.
-use Rattle.std.proofs.Common.{◌≡◌, ◌⊎◌, ◌∙◌, ap, sym, refl, subst, inl, inr, ℕ, ◌+◌, ◌-◌, ◌<◌, ◌≤◌, min, Bool, true, false, List, [], ◌∷◌, ◌++◌, length, take, drop, get_or, set, map}
-use Rattle.std.proofs.Common.{arith, append-nil, true≢false, length-take-le, Result, Ok, Err}
+use Rattle.std.proofs.Common.{◌≡◌, ◌∙◌, ap, sym, refl, subst, inl, inr, ℕ, ◌+◌, ◌-◌, ◌<◌, ◌≤◌, min, true, false, List, [], ◌∷◌, ◌++◌, length, take, drop, get_or, set, map}
+use Rattle.std.proofs.Common.{arith, append-nil, true≢false, length-take-le, Ok, Err}
 use Rattle.std.proofs.lemmas.Bool.{cases_eq}
 use Rattle.std.proofs.lemmas.List.{length-set, get_or-set_same, get_or-set_other, set-get_or, map-set}
 use Rattle.std.proofs.Math.ListN as listn
@@ -17,8 +17,8 @@ use Rattle.crs_top.specs.declared.status.Status.TheVariants as stops
 use Rattle.crs_top.specs.FeedOutcomes.{FeedsOutcome, IsFront, turns_of}
 use Rattle.crs_top.specs.Inputs.{bytes_of}
 use Rattle.crs_top.specs.PairTexts.{IsTextBefore, IsTextAtRead}
-use Rattle.crs_top.specs.Sources.{StandsAt, IsFilled, IsSourceOf, AreAt, HaveRead, HaveStopped, HasRead, ReadsSource, IsSpent, TakesHeld, source_at, taken_of, turns_before, new_source, closed}
-use Rattle.crs_top.specs.Texts.{Frame}
+use Rattle.crs_top.specs.Sources.{StandsAt, IsFilled, IsSourceOf, AreAt, HaveRead, HaveStopped, ReadsSource, IsSpent, TakesHeld, source_at, taken_of, turns_before, new_source}
+use Rattle.crs_session.specs.Texts.{Frame}
 use Rattle.crs_top.proofs.FeedReading.{have_read, failed_read, refused_read, rises_now, other_turns, piece_is, end_is}
 use Rattle.crs_top.proofs.FeedTurns.{turns_own, few, within, of, same_taken, turn_gave, turn_spent, spent}
 use Rattle.crs_top.proofs.SourcePlaces.{whole_are, stand_filled, filled_input, filled_taken}

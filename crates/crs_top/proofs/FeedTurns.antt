@@ -1,35 +1,30 @@
 -- Several logs, turn by turn.
-use Rattle.std.proofs.Common.{◌≡◌, ◌⊎◌, ◌∙◌, ap, sym, refl, subst, inl, inr, ℕ, ◌+◌, ◌-◌, ◌<◌, ◌≤◌, min, Bool, true, false, cond, nat_lt, List, [], ◌∷◌, ◌++◌, length, take, drop, get_or, set, slice_get, map}
-use Rattle.std.proofs.Common.{arith, append-nil, append_assoc, lt-ltb, true≢false, Option, Some, None, Result, Ok, Err}
+use Rattle.std.proofs.Common.{◌≡◌, ◌⊎◌, ◌∙◌, ap, sym, refl, subst, inl, inr, ℕ, ◌+◌, ◌<◌, ◌≤◌, true, false, cond, nat_lt, List, [], ◌∷◌, ◌++◌, length, take, drop, get_or, set, slice_get, map}
+use Rattle.std.proofs.Common.{arith, append-nil, append_assoc, lt-ltb, Some, Err}
 use Rattle.std.specs.Prelude.{◌||◌}
 use Rattle.std.proofs.lemmas.Bool.{cases_eq, cases_Bool, le-ltb, ltb-true, ltb-false}
-use Rattle.std.proofs.lemmas.List.{length-set, get_or-set_same, get_or-set_other, set-get_or, map-set, get_or-map, length-map, length-drop, take-append-drop}
-use Rattle.std.proofs.lemmas.Option.{slice_get_past}
-use Rattle.std.proofs.Math.Seq.{take-length, take-append-add, take-add, map-set_same}
+use Rattle.std.proofs.lemmas.List.{length-set, get_or-set_same, get_or-set_other, get_or-map, length-map, length-drop, take-append-drop}
+use Rattle.std.proofs.Math.Seq.{take-length, take-append-add, map-set_same}
 use Rattle.crs_base.specs.Lines.{lines_of}
-use Rattle.crs_desk.specs.Desk.{Told, Reads, Wrote, Rises}
-use Rattle.crs_desk.specs.declared.turn.Turn.{Turn}
-use Rattle.crs_desk.specs.declared.desk.DeskError.TheVariants as errors
-use Rattle.crs_desk.proofs.Calls.{rises_weaker}
-use Rattle.crs_log.specs.Reading.{Given, Gives, HasNoLine, ahead, given, numbered, whole_lines}
-use Rattle.crs_feeds.specs.Merged.{Pair, after_pair, after_pairs, at_start}
+use Rattle.crs_desk.specs.Desk.{Told, Wrote, Rises}
+use Rattle.crs_log.specs.Reading.{Given, Gives, HasNoLine, ahead, given, numbered}
+use Rattle.crs_feeds.specs.Merged.{Pair, after_pair, at_start}
 use Rattle.crs_feeds.specs.Standing.{run_behind}
 use Rattle.crs_top.specs.declared.merged.MergedSession.{MergedSession}
 use Rattle.crs_top.specs.declared.source.Source.{Source}
 use Rattle.crs_top.specs.declared.status.Status.{Status}
 use Rattle.crs_top.specs.declared.status.Status.TheVariants as stops
-use Rattle.crs_top.specs.FeedOutcomes.{AtTurn, FeedsOutcome, IsFront, turns_of}
-use Rattle.crs_top.specs.FeedRounds.{pairs_before, turn_of, lines_in}
+use Rattle.crs_top.specs.FeedOutcomes.{FeedsOutcome, IsFront, turns_of}
+use Rattle.crs_top.specs.FeedRounds.{pairs_before, lines_in}
 use Rattle.crs_top.specs.Inputs.{bytes_of}
-use Rattle.crs_top.specs.Logs.{Appends}
-use Rattle.crs_top.specs.MergedSession.{StandsBehind, BringsLine, BringsPair, feeds_of, run_at}
-use Rattle.crs_top.specs.PairTexts.{IsTextBefore, IsTextOfPairs, IsTextAtRead, IsPairText, refuses_some}
-use Rattle.crs_top.specs.Sources.{Follows, StandsAt, IsFed, IsFilled, IsSourceOf, AreAt, HaveRead, HaveStopped, HasRead, ReadsSource, IsSpent, Flushes, source_at, taken_of, turns_before, new_source, closed}
-use Rattle.crs_top.specs.Texts.{Frame, setting_of, is_refused}
-use Rattle.crs_top.proofs.FeedOrder.{pair, turn_gives, turn_none, before_more, before_next}
-use Rattle.crs_top.proofs.FeedReading.{have_written, have_read, failed_read, refused_read, rises_now, other_turns, piece_is, end_is}
+use Rattle.crs_top.specs.MergedSession.{StandsBehind, BringsLine, BringsPair, feeds_of}
+use Rattle.crs_top.specs.PairTexts.{IsTextBefore, IsTextOfPairs, refuses_some}
+use Rattle.crs_top.specs.Sources.{Follows, StandsAt, IsSourceOf, AreAt, HaveRead, HaveStopped, IsSpent, Flushes, source_at, taken_of, turns_before, new_source}
+use Rattle.crs_session.specs.Texts.{Frame, log_setting, is_refused}
+use Rattle.crs_top.proofs.FeedOrder.{pair, turn_gives, turn_none, before_more}
+use Rattle.crs_top.proofs.FeedReading.{have_written}
 use Rattle.crs_top.proofs.PairTexts.{text_more, refused_more}
-use Rattle.crs_top.proofs.SourcePlaces.{line_at, is_going, stand_given, stand_spent, all_told, few_told, whole_are, stand_filled, filled_input, filled_taken}
+use Rattle.crs_top.proofs.SourcePlaces.{line_at, is_going, stand_given, stand_spent, all_told, few_told}
 
 empty_by : (xs : List ℕ) → length xs ≡ 0 → xs ≡ []
 empty_by [] e = refl
@@ -183,7 +178,7 @@ module _ (f : Frame) (base limit : ℕ) (old : Told) (names : List (List ℕ)) w
         b = brings f (pairs_before round n (lines_in logs)) a.state
 
         text_now : IsTextOfPairs f (feeds_of x) (pairs_before round n (lines_in logs) ++ pair n g ∷ []) ((a.written ++ out) ++ b.text)
-        text_now = text_more (setting_of f) f.models.chronicles (at_start f.texts (feeds_of x)) (pairs_before round n (lines_in logs)) (pair n g) (a.written ++ out) b.text text_is b.is_text
+        text_now = text_more (log_setting f) f.models.chronicles (at_start f.texts (feeds_of x)) (pairs_before round n (lines_in logs)) (pair n g) (a.written ++ out) b.text text_is b.is_text
 
         pub turn_gave : AreAt f base limit old names round (n + 1) (set ss n t) y more now
         turn_gave = record {
@@ -201,8 +196,8 @@ module _ (f : Frame) (base limit : ℕ) (old : Told) (names : List (List ℕ)) w
           written_is = a.written_is;
           refused =
               b.refused
-              ∙ (λ i. a.refused i || is_refused (after_pair (setting_of f) (run_behind (setting_of f) f.texts (a.feeds i) (pairs_before round n (lines_in logs))) (pair n g)).1)
-              ∙ sym (refused_more (setting_of f) (at_start f.texts (length names)) (pairs_before round n (lines_in logs)) (pair n g))
+              ∙ (λ i. a.refused i || is_refused (after_pair (log_setting f) (run_behind (log_setting f) f.texts (a.feeds i) (pairs_before round n (lines_in logs))) (pair n g)).1)
+              ∙ sym (refused_more (log_setting f) (at_start f.texts (length names)) (pairs_before round n (lines_in logs)) (pair n g))
               ∙ ap (refuses_some f (length names)) (sym pairs_are);
         }
 

@@ -8,7 +8,7 @@ use Rattle.crs_top.specs.declared.status.Status.TheVariants.{ReadFault, Memory}
 use Rattle.crs_top.specs.Inputs.{bytes_of}
 use Rattle.crs_top.specs.Logs.{Tail, HasReadLog}
 use Rattle.crs_top.specs.RunOutcomes.{Follows}
-use Rattle.crs_top.specs.Texts.{Frame}
+use Rattle.crs_session.specs.Texts.{Frame}
 use Rattle.crs_top.proofs.Loads.{opened_stream, opened_left, failed_open, refused_open, nothing_read_of}
 
 module _ (base now : ℕ) (tail : Tail) (f : Frame) (limit : ℕ) (old : Told) (log : List ℕ) where

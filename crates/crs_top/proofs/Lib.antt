@@ -1,13 +1,7 @@
-pub mod Results
 pub mod Answered
-pub mod States
-pub mod Counting
-pub mod Living
-pub mod Grown
-pub mod Marking
-pub mod Accepting
 pub mod Ordering
-pub mod Taken
+pub mod StrataOn
+pub mod Accepted
 pub mod Summing
 pub mod LogReading
 pub mod Follows
@@ -21,7 +15,6 @@ pub mod MadeLogs
 pub mod Unrefused
 pub mod Preparing
 pub mod Tables
-pub mod OneText
 pub mod Parting
 pub mod Rearranging
 pub mod CitedWords

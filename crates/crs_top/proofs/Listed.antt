@@ -6,7 +6,7 @@ use Rattle.crs_base.specs.declared.symbols.Sym.{Sym}
 use Rattle.crs_model.specs.Models.{Chronicle, EventDef, Window, Anchor}
 use Rattle.crs_model.specs.Renaming.{AreKnown, IsChronicleOf, renamed_event, renamed_window, renamed_chronicle}
 use Rattle.crs_compile.specs.Minimal.{points_of, point_count, IsChronicleText, IsMinimalText, IsPrintable}
-use Rattle.crs_top.specs.Session.{HasText}
+use Rattle.crs_layers.specs.Standing.{HasText}
 
 -- with other symbols the points are the same, and so are the starts of windows
 module _ {S : Type 0} (f : S → List ℕ) where

@@ -1,5 +1,5 @@
 -- An input that is read whole, and of which a text is then printed, or which is refused.
-use Rattle.std.proofs.Common.{◌≡◌, ◌⊎◌, ◌∙◌, ap, sym, refl, inl, inr, ℕ, ◌+◌, ◌<◌, ◌≤◌, ◌^◌, List, [], ◌∷◌, ◌++◌, length, arith, append-nil, Result, Ok, Err, Vec, codes, cond, lt-ltb}
+use Rattle.std.proofs.Common.{◌≡◌, ◌⊎◌, ◌∙◌, ap, sym, refl, inl, inr, ℕ, Bool, true, false, ◌+◌, ◌<◌, ◌≤◌, ◌^◌, List, [], ◌∷◌, ◌++◌, length, arith, append-nil, Result, Ok, Err, Vec, codes, cond, lt-ltb}
 use Rattle.std.proofs.Math.Seq.{take-length, get_or-append_seam, set-append_seam}
 use Rattle.std.specs.Fmt.{digits}
 use Rattle.std.specs.declared.alloc.Global.{Global}
@@ -23,7 +23,7 @@ use Rattle.crs_top.specs.Inputs.{bytes_of, after, Opened, IsRead}
 use Rattle.crs_top.specs.AuditOutcomes.{most_checked, LoadsChecked}
 use Rattle.crs_top.specs.Loads.{AreTaken, IsModelLine, LoadOutcome, EndsWithInput, Loaded, IsTooLong, ReadsWhole, Loads, Refuses}
 use Rattle.crs_top.specs.Logs.{AppendsFront, Says}
-use Rattle.crs_top.specs.ModelTexts.{BreaksRule, IsFaulty}
+use Rattle.crs_top.specs.ModelTexts.{BreaksRule, IsFaulty, IsRunFaulty}
 
 size_line : model_line 0 Size ≡ codes "model line 0 size\n"
 unfolding digits
@@ -40,6 +40,10 @@ long_breaks_rule symbols models text h = (
 
 pub long_is_faulty : (symbols : ℕ) (models text : List ℕ) → IsTooLong (2 ^ 20) (codes "model line 0 size\n") models text → IsModelLine (IsFaulty symbols models) text
 long_is_faulty symbols models text h = let b = long_breaks_rule symbols models text h in (b.0, b.1, inl b.2, b.3)
+
+pub long_is_run_faulty : (cite : Bool) (symbols : ℕ) (models text : List ℕ) → IsTooLong (2 ^ 20) (codes "model line 0 size\n") models text → IsModelLine (IsRunFaulty cite symbols models) text
+long_is_run_faulty true symbols models text h = long_is_faulty symbols models text h
+long_is_run_faulty false symbols models text h = long_breaks_rule symbols models text h
 
 -- the input that was just opened
 pub opened_stream : (old mid : Told) (name : List ℕ) (i : ℕ) → i ≡ length old.left → Opens old name (Ok i) mid → stream_at mid.left i ≡ record { taken = 0; rest = bytes_of old name }

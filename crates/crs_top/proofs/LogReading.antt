@@ -12,29 +12,28 @@ use Rattle.crs_desk.specs.declared.turn.Turn.{Turn}
 use Rattle.crs_desk.specs.declared.desk.DeskError.TheVariants as errors
 use Rattle.crs_desk.proofs.Calls.{took_none, stream_after, advanced_twice, rises_push, rises_weaker}
 use Rattle.crs_log.specs.Reading.{Reader, Given, given, given_lines, whole_lines}
-use Rattle.crs_log.specs.Run.{at_start}
-use Rattle.crs_log.specs.Trace.{IsTrace}
+use Rattle.crs_layers.specs.Runs.{IsRun}
 use Rattle.crs_log.proofs.Prompt.{told_whole}
 use Rattle.crs_top.specs.declared.status.Status.TheVariants as stops
 use Rattle.crs_top.specs.declared.status.Status.{Status}
-use Rattle.crs_top.specs.declared.session.Session.{Session}
-use Rattle.crs_top.specs.declared.session.Counts.{Counts}
-use Rattle.crs_top.specs.Session.{Represents, IsUncounted}
-use Rattle.crs_top.specs.Tallies.{IsSummary}
-use Rattle.crs_top.specs.Taking.{Takes}
-use Rattle.crs_top.specs.Texts.{Frame, setting_of, IsWholeText, IsLogText, some_refused}
+use Rattle.crs_session.specs.declared.session.Session.{Session}
+use Rattle.crs_session.specs.declared.session.Counts.{Counts}
+use Rattle.crs_session.specs.Session.{Represents, IsUncounted}
+use Rattle.crs_session.specs.Tallies.{IsSummary}
+use Rattle.crs_session.specs.Taking.{Takes}
+use Rattle.crs_session.specs.Texts.{Frame, setting_of, start_of, IsWholeText, IsLogText, SomeRefused}
 use Rattle.crs_top.specs.Logs.{tail_of, summary_of, IsSummaryPart, ArePages, IsSummaryOf, has_refused, IsEndedText, Appends, IsPrompt}
 use Rattle.crs_top.specs.Logs.{IsPromptAt, IsCutShort}
 use Rattle.crs_top.specs.Logs.{LogOutcome, HasReadLog, TellsPiece, TakesEnd, ended_as, Finishes}
-use Rattle.crs_top.specs.Notices.{AreLogNotices}
-use Rattle.crs_top.specs.Written.{Written, unwritten, joined}
+use Rattle.crs_session.specs.Notices.{AreLogNotices}
+use Rattle.crs_session.specs.Written.{Written, unwritten, joined}
 use Rattle.crs_model.specs.declared.recognition.Recognition.{Recognition}
 use Rattle.crs_report.specs.Listeners.{Notice, Member, notice_of, members_after, page_of}
 use Rattle.crs_report.proofs.After.{after_none, after_more}
 use Rattle.std.proofs.lemmas.List.{map-append}
 use Rattle.std.specs.Prelude.{map, flat_map}
 use Rattle.crs_top.proofs.Summing.{IsAt, at_none, at_more, HasBegun, begun_by, text_is, notices_are, summary_is, refused_is}
-use Rattle.crs_top.proofs.Taken.{takes_none, takes_append}
+use Rattle.crs_session.proofs.Taken.{takes_none, takes_append}
 
 -- t bytes of the log were read, in these turns
 pub record Base (f : Frame) (old : Told) (i t : ℕ) (more : List Turn) (now : Told) : Type 0 where
@@ -58,16 +57,16 @@ pub record Reading (focus : Bool) (members heard : List Member) (f : Frame) (old
   pub all : Written
   pub start : Counts
   pub begun : HasBegun f focus start
-  pub takes : Takes f focus start x (at_start f.texts) told unwritten all
+  pub takes : Takes f focus start x (start_of f) told unwritten all
   pub written : now.written ≡ old.written ++ all.text
   pub heard_is : heard ≡ members_after (map notice_of all.found) members
 
 whole_of : (f : Frame) (focus : Bool) (start : Counts) (t : ℕ) (bytes : List ℕ) (x : Session) (lines : Reader) (told : List Given)
     (all : Written)
-    → IsAt t bytes lines told → Takes f focus start x (at_start f.texts) told unwritten all → IsWholeText f bytes all.text
+    → IsAt t bytes lines told → Takes f focus start x (start_of f) told unwritten all → IsWholeText f bytes all.text
 whole_of f focus start t bytes x lines told all a k =
     let is : told ≡ given_lines 4096 0 (whole_lines bytes) = told_whole 4096 bytes told lines a.given a.none.1 in
-    (k.effects, k.last, subst (λ (gs : List Given). IsTrace (setting_of f) f.models.chronicles (at_start f.texts) gs k.effects k.last) is k.trace, k.written)
+    (k.effects, k.last, subst (λ (gs : List Given). IsRun (setting_of f) (start_of f) gs k.effects k.last) is k.trace, k.written)
 
 -- what is written so far is the text of the whole lines
 appends : (focus : Bool) (members heard : List Member) (f : Frame) (old : Told) (i limit t : ℕ) (x : Session) (lines : Reader) (now : Told)
@@ -76,9 +75,9 @@ appends : (focus : Bool) (members heard : List Member) (f : Frame) (old : Told) 
 appends focus members heard f old i limit t x lines now h =
     (h.all.text, whole_of f focus h.start t (take t (stream_at old.left i).rest) x lines h.told h.all h.at h.takes, h.written)
 
-pub reading_none : (members : List Member) (f : Frame) (t : Told) (i limit : ℕ) (x : Session) (lines : Reader) → Represents f x (at_start f.texts) → IsUncounted x
+pub reading_none : (members : List Member) (f : Frame) (t : Told) (i limit : ℕ) (x : Session) (lines : Reader) → Represents f x (start_of f) → IsUncounted x
     → lines ≡ record { limit = 4096; number = 0; rest = []; finished = false; fed = 0 }
-    → Reading x.engine.focus members members f t i limit 0 x lines t
+    → Reading x.layers.focus members members f t i limit 0 x lines t
 reading_none members f t i limit x lines r u new = record {
   more = [];
   base = record { files = refl; opened = refl; left = (took_none t i).left; within = omega arith; turns = sym (append-nil t.turns); prompt = tt };
@@ -90,7 +89,7 @@ reading_none members f t i limit x lines r u new = record {
   all = unwritten;
   start = x.counts;
   begun = begun_by f x r u;
-  takes = takes_none f x (at_start f.texts) unwritten r;
+  takes = takes_none f x (start_of f) unwritten r;
   written = sym (append-nil t.written);
   heard_is = sym (after_none members);
 }
@@ -198,7 +197,7 @@ module _ (focus summary : Bool) (members heard : List Member) (f : Frame) (old :
         all = joined h.all tells.all;
         start = h.start;
         begun = h.begun;
-        takes = takes_append f focus h.start x y (at_start f.texts) h.told p.told h.all tells.all h.takes
+        takes = takes_append f focus h.start x y (start_of f) h.told p.told h.all tells.all h.takes
             (p.takes f h.takes.last h.takes.state);
         written = w.written ∙ rw (r.written, h.written, append_assoc) (ap (λ (y : List ℕ). old.written ++ (h.all.text ++ y)) (take-length text ∙ tells.text_is));
         heard_is = heard_more members heard then h.all.found tells.all.found h.heard_is tells.heard;
@@ -281,7 +280,7 @@ module _ (focus summary : Bool) (members heard : List Member) (f : Frame) (old :
       let p = tells.piece_is in
       let at : IsAt (t + n) (take (t + n) log) now (h.told ++ p.told) =
       subst (λ (bs : List ℕ). IsAt (t + n) bs now (h.told ++ p.told)) (sym piece) (at_more t n lines now h.told (take t log) (take n buf) x y tells.all (length-take-le n buf few) h.at p) in
-      let takes = takes_append f focus h.start x y (at_start f.texts) h.told p.told h.all tells.all h.takes
+      let takes = takes_append f focus h.start x y (start_of f) h.told p.told h.all tells.all h.takes
       (p.takes f h.takes.last h.takes.state) in
       (cut_short mid new last limit t n x y lines buf text stop either h r room few pos k w)
       (inl (
@@ -352,8 +351,8 @@ module _ (focus summary : Bool) (members heard : List Member) (f : Frame) (old :
       abbrev all : Written
       all = joined h.all p.0
 
-      all_takes : Takes f focus h.start y (at_start f.texts) (h.told ++ p.2.told) unwritten all
-      all_takes = takes_append f focus h.start x y (at_start f.texts) h.told p.2.told h.all p.0 h.takes
+      all_takes : Takes f focus h.start y (start_of f) (h.told ++ p.2.told) unwritten all
+      all_takes = takes_append f focus h.start x y (start_of f) h.told p.2.told h.all p.0 h.takes
           (p.2.takes f h.takes.last h.takes.state)
 
       log_text : IsLogText f log all.text
@@ -383,17 +382,17 @@ module _ (focus summary : Bool) (members heard : List Member) (f : Frame) (old :
       ended_text =
           (all.text, p.1, log_text, tail_is, ap (λ (z : List ℕ). h.all.text ++ z) p.4 ∙ sym (append_assoc h.all.text p.0.text p.1))
 
-      log_refused : has_refused y ≡ some_refused f log
+      log_refused : SomeRefused f log (has_refused y)
       log_refused = refused_is f log focus h.start h.begun y (h.told ++ p.2.told) all all_told all_takes
 
       written_front : (last : Told) (k : ℕ) → Wrote new text k last → last.written ≡ old.written ++ take (length h.all.text + k) (h.all.text ++ text)
       written_front last k w = w.written ∙ rw (r.written, h.written, append_assoc) (ap (λ (y : List ℕ). old.written ++ y) (sym (take-append-add h.all.text text k)))
 
-      done_outcome : (refused : Bool) → refused ≡ some_refused f log → (last : List ℕ) → t < limit
+      done_outcome : (refused : Bool) → SomeRefused f log refused → (last : List ℕ) → t < limit
           → Appends (IsEndedText (tail_of focus summary members) f log) old.written last
           → LogOutcome (tail_of focus summary members) f log limit t old.written (ended_as refused) last
-      done_outcome true e last below a = (all_read, below, a, sym e)
-      done_outcome false e last below a = (all_read, below, a, sym e)
+      done_outcome true e last below a = (all_read, below, a, e)
+      done_outcome false e last below a = (all_read, below, a, e)
 
       pub end_done : (last : Told) → t < limit → Wrote new text (length text) last
           → HasReadLog (tail_of focus summary members) f old i limit (ended_as (has_refused y)) last
@@ -434,7 +433,7 @@ stop_before focus summary members f t i limit = (
     rooms = tt;
     most = omega arith;
     prompt = tt;
-    outcome = inl (0, omega arith, ([], 0, ([], at_start f.texts, refl, refl), sym (append-nil t.written)));
+    outcome = inl (0, omega arith, ([], 0, ([], start_of f, refl, refl), sym (append-nil t.written)));
   },
 )
 

@@ -1,9 +1,10 @@
 -- At the limits of the program no line of a made log is refused.
 use Rattle.std.proofs.Common.{◌≡◌, ◌∙◌, ap, sym, refl, subst, ℕ, zero, suc, ◌+◌, ◌-◌, ◌*◌, ◌%◌, ◌<◌, ◌≤◌, ◌^◌, ◌==◌, ◌||◌, Bool, true, false}
 use Rattle.std.proofs.Common.{cond, List, [], ◌∷◌, ◌++◌, length, Some, None, Ok, Err, Result, arith, append_assoc, length-append, lt-ltb}
-use Rattle.std.specs.Prelude.{codes, decimal}
+use Rattle.std.specs.Prelude.{codes, decimal, map, replicate}
 use Rattle.std.specs.Fmt.{digits}
-use Rattle.std.specs.List.{list_any}
+use Rattle.std.specs.List.{AllByRecursion, list_any}
+use Rattle.std.proofs.lemmas.List.{nil_from_length}
 use Rattle.std.specs.Option.{option_and_then}
 use Rattle.std.proofs.lemmas.Bool.{le-leb, le-ltb}
 use Rattle.std.proofs.Math.Nat.{max-le}
@@ -20,15 +21,19 @@ use Rattle.crs_grammar.specs.TokenReading.{term_at, terms_on, values_on, argumen
 use Rattle.crs_log.proofs.ItemLaw.{item_again}
 use Rattle.crs_log.specs.ItemOf.{Empty, what_is}
 use Rattle.crs_log.specs.Items.{Event, Item, Clock, Finish, Happens, IsStatement, log_number_of, in_dates}
-use Rattle.crs_log.specs.Reading.{Plain, Long, given_line, given_lines}
+use Rattle.crs_log.specs.Reading.{Plain, Long, given_line, given_lines, numbered}
 use Rattle.crs_log.specs.Known.{Named, known_of, new_texts, entry_of_event}
 use Rattle.crs_log.specs.Run.{Setting, State, Outcome, Accepted, Marked, Refused, Order, Back, Late, Full, Values, at_start, with_entry, after_line, after_item, after_what, after_ordered, after_verdict, horizon_at, outcomes}
 use Rattle.crs_model.specs.declared.recognition.Mark.TheVariants.{Clock as AtClock}
-use Rattle.crs_model.specs.Models.{Models, Name, Message}
+use Rattle.crs_layers.specs.Laws.{flat}
+use Rattle.crs_log.proofs.Traces.{trace_outcomes}
+use Rattle.crs_model.specs.Models.{Models, Chronicle, Name, Message}
 use Rattle.crs_parse.specs.Faults.{Fault}
 use Rattle.crs_parse.specs.Meant.{models_read}
+use Rattle.crs_session.proofs.Lone.{traces_without_emits_are_lone}
+use Rattle.crs_top.proofs.Accepted.{are_placed}
 use Rattle.crs_top.specs.ModelTexts.{IsAccepted}
-use Rattle.crs_top.specs.Texts.{Frame, setting_of, is_refused, some_refused}
+use Rattle.crs_session.specs.Texts.{Frame, log_setting, is_refused, SomeRefused}
 
 -- ---- the models
 
@@ -270,15 +275,35 @@ module _ (c : Setting) (room : IsRoomy c) where
       (λ t on. clock_fine c room ((k + 1) % 16 == 0) t behind.base more (k + 1) (subst (λ b. IsOn (k + 1) b t) (sym same) on) (omega arith) (omega (arith, same))
       (λ u on. made_fine n (k + 1) behind u (kind_stages unit at h) on (omega arith) (omega (arith, same)))) m
 
+abbrev emits_in : Read → List ℕ
+emits_in (Ok p) = map (λ c. length c.emits) p.0.chronicles
+emits_in (Err e) = []
+
+emits_read : emits_in (models_read 1048576 [] drill_models_text) ≡ replicate 2 0
+unfolding term_at terms_on values_on arguments_at pair_at change_at pattern_at shift_at anchor_at span_of level_of event_of noevent_of most_at occurs_of hold_of end_at distance_of values_of differ_of of_variable variable_of called_of point_of worded_of inside_of attribute_of named_of outside_of
+emits_read = refl
+
+none_emit : (cs : List (Chronicle (List ℕ))) (n : ℕ) → map (λ c. length c.emits) cs ≡ replicate n 0 → AllByRecursion (λ c. c.emits ≡ []) cs
+none_emit [] n e = tt
+none_emit (c ∷ cs) zero e = absurd cc
+none_emit (c ∷ cs) (suc n) e =
+    let first : length c.emits ≡ 0 = cc in
+    let rest : map (λ d. length d.emits) cs ≡ replicate n 0 = cc in
+    (nil_from_length c.emits first, none_emit cs n rest)
+
 -- at the limits of the program the log of any seed is read without a refusal
 pub none_refused : (f : Frame) (seed lines : ℕ) → lines ≤ 1000000 → IsAccepted false (2 ^ 20) (2 ^ 32 - 1) drill_models_text f
-    → some_refused f (drill_text seed lines) ≡ false
-none_refused f seed lines few a =
+    → (b : Bool) → SomeRefused f (drill_text seed lines) b → b ≡ false
+none_refused f seed lines few a b h =
     let names : f.models.names ≡ drill_names = sym (ap names_in a.read) ∙ names_read in
     let texts : length f.texts ≡ 19 = sym (ap texts_in a.read) ∙ texts_read in
+    let silent : map (λ c. length c.emits) f.models.chronicles ≡ replicate 2 0 = sym (ap emits_in a.read) ∙ emits_read in
     let symbols = a.symbols_are in
     let entries = a.entries_are in
-    let room : IsRoomy (setting_of f) = record { names = names; symbols = omega (arith, symbols); entries = omega (arith, entries) } in
-    made_fine (setting_of f) room lines 0 (first_state seed) (record (at_start f.texts) { delay = 8 }) (stages_none 64)
+    let room : IsRoomy (log_setting f) = record { names = names; symbols = omega (arith, symbols); entries = omega (arith, entries) } in
+    let lone = traces_without_emits_are_lone f (lines_of (drill_text seed lines)) h.0 h.1 (are_placed false (2 ^ 20) (2 ^ 32 - 1) drill_models_text f a) (none_emit f.models.chronicles 2 silent) h.2 in
+    h.3 ∙ lone.refused_is
+    ∙ sym (ap (list_any is_refused) (trace_outcomes (log_setting f) f.models.chronicles (at_start f.texts) (numbered (lines_of (drill_text seed lines))) (map flat h.0) h.1.log lone.trace_is))
+    ∙ made_fine (log_setting f) room lines 0 (first_state seed) (record (at_start f.texts) { delay = 8 }) (stages_none 64)
     (record { open_still = refl; delay = refl; last = omega arith; horizon = omega arith; accepted = omega arith; texts = omega (arith, texts) })
     (omega (arith, few)) (omega arith) 1

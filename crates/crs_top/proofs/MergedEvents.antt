@@ -1,5 +1,5 @@
 -- What an event of a feed brings.
-use Rattle.std.proofs.Common.{◌≡◌, ◌≢◌, ◌∙◌, ap, sym, refl, subst, ℕ, ◌+◌, ◌<◌, ◌≤◌, Bool, true, false, cond, List, [], ◌∷◌, ◌++◌, length, get_or, set, map, nat_lt, nat_le}
+use Rattle.std.proofs.Common.{◌≡◌, ◌≢◌, ◌∙◌, ap, sym, refl, subst, ℕ, ◌+◌, ◌<◌, ◌≤◌, true, false, cond, List, [], ◌∷◌, ◌++◌, length, get_or, map, nat_lt, nat_le}
 use Rattle.std.proofs.Common.{arith, append-nil, lt-ltb, length-append, Ok, Err}
 use Rattle.std.specs.Prelude.{◌||◌}
 use Rattle.std.proofs.lemmas.Bool.{le-ltb}
@@ -20,17 +20,17 @@ use Rattle.crs_log.specs.Run.{Setting, State, Outcome, Passed, Refused, Accepted
 use Rattle.crs_log.specs.SeenNames.{IsEntryIn, entry_seen, name_seen}
 use Rattle.crs_feeds.specs.declared.feed.Feed.{Feed}
 use Rattle.crs_feeds.specs.Merged.{Merged, Pair, new_feed, seen_by, with_feeds, with_state, after_pair, has_risen}
-use Rattle.crs_feeds.specs.Standing.{StandBehind, HasText, IsItemOf, IsAcceptedAs, TakeEntry}
+use Rattle.crs_feeds.specs.Standing.{HasText, IsItemOf, IsAcceptedAs, TakeEntry}
 use Rattle.crs_feeds.specs.States.{FeedsState, test_refusal}
 use Rattle.crs_feeds.proofs.Stepping.{with_same_feeds}
 use Rattle.crs_top.specs.declared.merged.MergedSession.{MergedSession}
 use Rattle.crs_top.specs.MergedSession.{StandsBehind, BringsPair, feeds_of, run_at}
 use Rattle.crs_top.specs.PairTexts.{IsPairText}
-use Rattle.crs_top.specs.Session.{HasModels}
-use Rattle.crs_top.specs.Texts.{Frame, setting_of, is_refused}
-use Rattle.crs_top.proofs.Accepting.{late_by, fine_by}
+use Rattle.crs_session.specs.Session.{HasModels}
+use Rattle.crs_session.specs.Texts.{Frame, log_setting, is_refused}
+use Rattle.crs_session.proofs.Accepting.{late_by, fine_by}
 use Rattle.crs_top.proofs.FeedOrder.{pair}
-use Rattle.crs_top.proofs.Grown.{models_grown, texts_grow}
+use Rattle.crs_session.proofs.Grown.{models_grown, texts_grow}
 use Rattle.crs_base.proofs.DistinctTexts.{with_apart}
 use Rattle.crs_top.proofs.MergedSteps.{line_is, no_rise, or_false, silent, ordered, run_more, same_feeds}
 
@@ -47,7 +47,7 @@ named_is f x names e place says = ap (λ ns. known_of ns e) names ∙ says
 module _ (f : Frame) (x : MergedSession) (ps : List Pair) (r : StandsBehind f x ps) (n : ℕ) (l : n < feeds_of x)
     (going : (get_or x.feeds.feeds n new_feed).ended ≡ false) (e : Event) (g : Given) (is : IsItemOf (Happens e) g) where
   abbrev c : Setting
-  c = setting_of f
+  c = log_setting f
 
   abbrev m : Merged
   m = run_at f x ps

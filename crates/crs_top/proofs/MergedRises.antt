@@ -1,18 +1,21 @@
 -- What a rise of the common horizon brings.
-use Rattle.std.proofs.Common.{◌≡◌, ◌∙◌, ap, sym, refl, subst, ℕ, ◌<◌, ◌≤◌, Bool, true, false, cond, List, [], ◌∷◌, ◌++◌, length, get_or, set, map, filter, nat_lt}
-use Rattle.std.proofs.Common.{append-nil, Option, Some, None, true≢false}
-use Rattle.std.specs.Prelude.{flat_map}
+use Rattle.std.proofs.Common.{◌≡◌, ◌∙◌, ap, sym, refl, subst, ℕ, zero, suc, ◌+◌, Bool, true, false, cond, List, [], ◌∷◌, map, filter, nat_lt}
+use Rattle.std.proofs.Common.{zero-add, Global, Option, Some, None, true≢false}
+use Rattle.std.specs.Prelude.{flat_map, slice_get, option_map}
+use Rattle.std.specs.declared.rc.Rc.{Rc}
 use Rattle.std.specs.List.{AllByRecursion}
 use Rattle.std.specs.Ordering.{is_lt}
 use Rattle.crs_base.specs.declared.symbols.Sym.{Sym}
 use Rattle.crs_base.specs.Entry.{Entry, entry_cmp}
-use Rattle.crs_base.specs.Words.{IsIn}
 use Rattle.crs_base.proofs.Words.{each_from_in, in_from_each, in_filter_back}
+use Rattle.crs_model.specs.declared.plan.Plan.{Plan}
 use Rattle.crs_model.specs.declared.plan.Plans.{Plans}
 use Rattle.crs_model.specs.declared.recognition.Mark.{Mark}
 use Rattle.crs_model.specs.declared.recognition.Recognition.{Recognition}
 use Rattle.crs_model.specs.Models.{Chronicle}
 use Rattle.crs_model.specs.Order.{put_in_order, put_all, in_key_order, dated_before, arrived}
+use Rattle.crs_model.specs.Plans.{chronicle}
+use Rattle.crs_model.specs.SeenModels.{chronicle_of}
 use Rattle.crs_model.specs.Renaming.{text_in, renamed_entry, IsEntryOf}
 use Rattle.crs_model.proofs.Ties.{ordered_members}
 use Rattle.crs_engine.specs.Engines.{plans_of}
@@ -24,12 +27,12 @@ use Rattle.crs_feeds.specs.Standing.{AnswersRise, scope_in_run}
 use Rattle.crs_report.specs.Printed.{chronicle_at}
 use Rattle.crs_top.specs.MergedSession.{rise_lines, IsPrintableRise}
 use Rattle.crs_top.specs.PairTexts.{AreRiseAnswers}
-use Rattle.crs_top.specs.Session.{HasText, HasModels, chronicle_in, entries_in, line_in, ArePrintable}
-use Rattle.crs_top.specs.Texts.{Frame, answer_line}
+use Rattle.crs_layers.specs.Standing.{HasText}
+use Rattle.crs_session.specs.Session.{HasModels, entries_in, ArePrintable}
+use Rattle.crs_session.specs.Texts.{Frame, answer_line}
 use Rattle.crs_base.specs.Symbols.{Table}
 use Rattle.crs_log.specs.Trace.{Answer}
 use Rattle.crs_top.proofs.Answered.{IsSeen, answer_seen, all_printable}
-use Rattle.crs_top.proofs.States.{stand_from}
 
 -- ---- entries with texts in place of numbers
 
@@ -82,6 +85,17 @@ module _ (P : Entry Sym → Type 0) (xs : List (Entry Sym)) (each : AllByRecursi
   each_arrived : (n : ℕ) → AllByRecursion P (in_key_order (arrived n xs))
   each_arrived n = each_from_in P (in_key_order (arrived n xs))
       (λ y i. in_from_each P xs each y (in_filter_back (λ (e : Entry Sym). nat_lt e.arrival n) xs y ((ordered_members (arrived n xs)).there y i)).0)
+
+-- ---- chronicles by their numbers
+
+at_place : (rs : List (Rc Plan Global)) (k : ℕ) → option_map (λ (p : Rc Plan Global). chronicle_of p.value.chronicle) (slice_get rs k) ≡ option_map chronicle (slice_get (map (λ (r : Rc Plan Global). r.value) rs) k)
+at_place [] k = refl
+at_place (r ∷ rs) zero = refl
+at_place (r ∷ rs) (suc k) = at_place rs k
+
+-- they stand by their numbers, from 0
+stand_from : (plans : Plans) (k : ℕ) → chronicle_at plans (0 + k) ≡ option_map chronicle (slice_get (plans_of plans) k)
+stand_from plans k = ap (chronicle_at plans) (zero-add k) ∙ at_place plans.plans k
 
 -- ---- a rise between two runs with the same entries
 

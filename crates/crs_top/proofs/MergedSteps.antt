@@ -5,7 +5,6 @@ use Rattle.std.specs.Prelude.{◌||◌, OnOk, if◌then◌else◌}
 use Rattle.std.specs.List.{AllByRecursion}
 use Rattle.std.proofs.lemmas.Bool.{le-ltb}
 use Rattle.std.proofs.lemmas.List.{set-get_or}
-use Rattle.crs_base.specs.declared.symbols.Sym.{Sym}
 use Rattle.crs_base.specs.Entry.{Entry}
 use Rattle.crs_model.specs.declared.plan.Plans.{Plans}
 use Rattle.crs_model.specs.Models.{Chronicle}
@@ -16,23 +15,24 @@ use Rattle.crs_model.specs.declared.recognition.Mark.TheVariants as marks
 use Rattle.crs_engine.specs.EngineRefusals.{IsRefusedAs}
 use Rattle.crs_engine.specs.declared.refused.Refused.TheVariants.{Stopped, Back}
 use Rattle.crs_top.specs.declared.merged.Origin.{Origin}
-use Rattle.crs_top.proofs.Results.{both_ok}
+use Rattle.crs_session.proofs.Results.{both_ok}
 use Rattle.crs_log.specs.Reading.{Given, Plain, Long, number_of}
 use Rattle.crs_log.specs.Run as run
 use Rattle.crs_log.specs.Run.{Setting, State, Outcome, Passed, Refused, Accepted, Marked, after_line, after_what, after_item, after_ordered}
 use Rattle.crs_feeds.specs.declared.feed.Feed.{Feed}
 use Rattle.crs_feeds.specs.declared.rising.Rise.{Rise}
 use Rattle.crs_feeds.specs.Merged.{Merged, Pair, new_feed, at_start, seen_by, with_feeds, with_state, after_met, after_pair, common, has_risen, clocked, closed}
-use Rattle.crs_feeds.specs.Standing.{StandFor, StandBehind, run_behind, IsItemOf, AnswersRise, TakeItem, TakeMark}
+use Rattle.crs_feeds.specs.Standing.{StandBehind, run_behind, IsItemOf, AnswersRise, TakeItem, TakeMark}
 use Rattle.crs_feeds.specs.States.{FeedsState}
 use Rattle.crs_feeds.proofs.Horizons.{common_stays, length_set}
 use Rattle.crs_feeds.proofs.Standing.{idle_pairs_need_no_call}
-use Rattle.crs_feeds.proofs.Stepping.{one_more_pair, got, delay_leaves, with_same_feeds}
+use Rattle.crs_feeds.proofs.Stepping.{one_more_pair, got, with_same_feeds}
 use Rattle.crs_top.specs.declared.merged.MergedSession.{MergedSession}
 use Rattle.crs_top.specs.MergedSession.{StandsBehind, BringsPair, BringsLine, BringsItem, feeds_of, run_at, rise_lines, IsPrintableRise}
 use Rattle.crs_top.specs.PairTexts.{feed_refusal, refusal_of, AreRiseAnswers, IsPairText}
-use Rattle.crs_top.specs.Session.{HasText, HasModels, entries_in, ArePrintable}
-use Rattle.crs_top.specs.Texts.{Frame, setting_of, fault_of, is_refused, answer_line}
+use Rattle.crs_layers.specs.Standing.{HasText}
+use Rattle.crs_session.specs.Session.{HasModels, entries_in}
+use Rattle.crs_session.specs.Texts.{Frame, log_setting, fault_of, is_refused}
 use Rattle.crs_top.proofs.FeedOrder.{pair}
 use Rattle.crs_top.proofs.MergedRises.{rise_printable, rise_answers}
 use Rattle.crs_model.specs.declared.recognition.Mark.{Mark}
@@ -61,7 +61,7 @@ line_is c s item (Plain number bytes) is going =
 
 module _ (f : Frame) (x : MergedSession) (ps : List Pair) (r : StandsBehind f x ps) (n : ℕ) (l : n < feeds_of x) where
   abbrev c : Setting
-  c = setting_of f
+  c = log_setting f
 
   abbrev m : Merged
   m = run_at f x ps
@@ -270,7 +270,7 @@ back_by A false false t last a b e h = let k = h (Back a b) refl in absurd cc
 -- a refusal whose text was written, and that was noted
 pub refuse_brings : {A E : Type 0} (result : Result A E) (x new : MergedSession) (n : ℕ) (g : Given) (fault : run.Fault) (out more : List ℕ) → n < feeds_of x
     → OnOk result (more ≡ out ++ feed_refusal n (number_of g) (fault_of fault)) → OnOk result (new ≡ record x { refused = true })
-    → ((f : Frame) (ps : List Pair) → StandsBehind f x ps → after_line (setting_of f) (seen_by (run_at f x ps) (get_or x.feeds.feeds n new_feed)) g
+    → ((f : Frame) (ps : List Pair) → StandsBehind f x ps → after_line (log_setting f) (seen_by (run_at f x ps) (get_or x.feeds.feeds n new_feed)) g
     ≡ (seen_by (run_at f x ps) (get_or x.feeds.feeds n new_feed), Refused fault))
     → OnOk result (BringsLine x new n g out more)
 refuse_brings result x new n g fault out more l w m is = both_ok result _ _ (BringsLine x new n g out more) w m
@@ -280,7 +280,7 @@ refuse_brings result x new n g fault out more l w m is = both_ok result _ _ (Bri
 pub refuse_item : {A E : Type 0} (result : Result A E) (x new : MergedSession) (origin : Origin) (item : Item) (fault : run.Fault) (out more : List ℕ) → origin.feed < feeds_of x
     → OnOk result (more ≡ out ++ feed_refusal origin.feed origin.number (fault_of fault)) → OnOk result (new ≡ record x { refused = true })
     → ((g : Given) → IsItemOf item g → (f : Frame) (ps : List Pair) → StandsBehind f x ps
-    → after_line (setting_of f) (seen_by (run_at f x ps) (get_or x.feeds.feeds origin.feed new_feed)) g
+    → after_line (log_setting f) (seen_by (run_at f x ps) (get_or x.feeds.feeds origin.feed new_feed)) g
     ≡ (seen_by (run_at f x ps) (get_or x.feeds.feeds origin.feed new_feed), Refused fault))
     → OnOk result (BringsItem x new origin item out more)
 refuse_item result x new origin item fault out more l w m is = both_ok result _ _ (BringsItem x new origin item out more) w m

@@ -1,14 +1,12 @@
 -- Several logs, opened one after the other.
 use Rattle.std.proofs.Common.{◌≡◌, ◌∙◌, ap, sym, refl, inl, inr, ℕ, zero, suc, ◌+◌, ◌<◌, ◌≤◌, List, [], ◌∷◌, ◌++◌, length, take, map, get_or, arith, append-nil, append_assoc, Ok, Err, length-take-le}
-use Rattle.std.proofs.lemmas.List.{length-map, map-append}
-use Rattle.std.proofs.Math.Seq.{take-length}
+use Rattle.std.proofs.lemmas.List.{map-append}
 use Rattle.std.specs.Option.{unwrap_or}
 use Rattle.crs_desk.specs.Desk.{Told, Stream, Opens, file_of}
 use Rattle.crs_desk.specs.declared.desk.DeskError.TheVariants as errors
 use Rattle.crs_top.specs.declared.source.Source.{Source}
-use Rattle.crs_top.specs.declared.status.Status.{Status}
 use Rattle.crs_top.specs.declared.status.Status.TheVariants.{ReadFault, Memory}
-use Rattle.crs_top.specs.Inputs.{bytes_of, after, Opened}
+use Rattle.crs_top.specs.Inputs.{bytes_of, after}
 use Rattle.crs_top.specs.Opening.{HaveOpened, FailToOpen}
 use Rattle.crs_top.specs.Sources.{new_source, new_sources}
 

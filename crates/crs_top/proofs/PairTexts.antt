@@ -6,7 +6,7 @@ use Rattle.crs_model.specs.Models.{Chronicle}
 use Rattle.crs_log.specs.Run.{Setting}
 use Rattle.crs_feeds.specs.Merged.{Merged, Pair, after_pair, after_pairs, outcomes}
 use Rattle.crs_top.specs.PairTexts.{IsPairText, IsPairsText}
-use Rattle.crs_top.specs.Texts.{is_refused}
+use Rattle.crs_session.specs.Texts.{is_refused}
 
 pub text_more : (c : Setting) (cs : List (Chronicle (List ℕ))) (m : Merged) (ps : List Pair) (p : Pair) (a b : List ℕ) → IsPairsText c cs m ps a
     → IsPairText cs p (after_pairs c m ps) (after_pair c (after_pairs c m ps) p) b → IsPairsText c cs m (ps ++ p ∷ []) (a ++ b)

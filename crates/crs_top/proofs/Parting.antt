@@ -6,13 +6,12 @@ use Rattle.std.specs.List.{list_any, sum_by}
 use Rattle.std.proofs.lemmas.Bool.{or_parts, le-ltb}
 use Rattle.std.proofs.lemmas.List.Sums.{sum_by-cons}
 use Rattle.crs_base.specs.Entry.{Key}
-use Rattle.std.specs.Prelude.{flat_map}
+use Rattle.std.specs.Prelude.{filter, flat_map}
 use Rattle.crs_base.specs.Lines.{Line, bytes_of, is_long, line_limit}
 use Rattle.crs_model.specs.declared.recognition.Mark.{Mark}
 use Rattle.crs_model.specs.declared.recognition.Mark.TheVariants as marks
 use Rattle.crs_model.specs.Models.{Chronicle}
 use Rattle.crs_model.specs.Order.{dated_before, arrived, in_key_order}
-use Rattle.crs_top.proofs.Grown.{filter_last}
 use Rattle.crs_model.proofs.Ties.{tie, said, ties, ties_last}
 use Rattle.crs_log.specs.Items.{Item, Delay, Clock, Finish, Happens, Event}
 use Rattle.crs_log.specs.ItemOf.{What, Empty, Is, Faulty, what_of}
@@ -26,12 +25,18 @@ use Rattle.crs_log.specs.Trace.{Answer, AreNew, AreAnswers, Effect, IsEffect, Is
 use Rattle.crs_log.proofs.GivenLaw.{given_line_law}
 use Rattle.crs_log.proofs.Canonicals.{IsOfSymbols}
 use Rattle.crs_log.proofs.ReadEntries.{AreAccepted, one_accepted, line_read}
-use Rattle.crs_top.specs.Texts.{LogEntry, answer_line, line_text, text_of, is_refused}
+use Rattle.crs_session.specs.Laws.{lone_text}
+use Rattle.crs_session.specs.Texts.{LogEntry, answer_line, line_text, is_refused}
 use Rattle.crs_top.specs.Rearranged.{Part, Ending, AtClock, AtEnd, items_in, items_of, led_by, parts_of}
 
 -- what recognition reads at a horizon, where so many had been accepted by the last mark
 abbrev pub view : ℕ → ℕ → List LogEntry → View
 view k h xs = record { settled = dated_before h xs; arrived = in_key_order (arrived k xs); horizon = h }
+
+-- an entry that isn't asked for at the end of a list
+filter_last : (p : LogEntry → Bool) (xs : List LogEntry) (x : LogEntry) → p x ≡ false → filter p (xs ++ x ∷ []) ≡ filter p xs
+filter_last p [] x e = λ i. cond (e i) (x ∷ []) []
+filter_last p (y ∷ xs) x e = λ i. cond (p y) (y ∷ filter_last p xs x e i) (filter_last p xs x e i)
 
 -- the lines of a mark's answers
 abbrev pub IsMarkText : List (Chronicle (List ℕ)) → Mark → View → View → List ℕ → Type 0
@@ -209,7 +214,7 @@ module _ (c : Setting) (cs : List (Chronicle (List ℕ))) where
   pub parted_text : (n : ℕ) (s : State) (ls : List Line) (es : List Effect) (last : State)
       → list_any is_refused (outcomes c s (given_lines line_limit n ls)) ≡ false
       → IsTrace c cs s (given_lines line_limit n ls) es last
-      → IsPartsText (parts_of s.delay (items_of ls)) s.horizon s.marked s.accepted (text_of false es)
+      → IsPartsText (parts_of s.delay (items_of ls)) s.horizon s.marked s.accepted (lone_text false es)
   parted_text n s [] [] last r t = refl
   parted_text n s [] (e ∷ es) last r t = absurd t
   parted_text n s (l ∷ ls) [] last r t = absurd t
@@ -224,4 +229,4 @@ module _ (c : Setting) (cs : List (Chronicle (List ℕ))) where
       subst (Steps e.number s (items_of ls) (what_of (bytes_of l))) (sym (given_line_law c s (n + 1) l))
       (unless e.number s (items_of ls) (what_of (bytes_of l)) (is_long l) s run.TooLong (after_what c s (what_of (bytes_of l)))
       (steps_what e.number s (items_of ls) (what_of (bytes_of l)) (line_read (bytes_of l)))) in
-      steps fine.0 (line_text false e.number e.outcome e.answers) (text_of false es) (text_of false (e ∷ es)) (effect_text s t.0 g e t.1) rest refl
+      steps fine.0 (line_text false e.number e.outcome e.answers) (lone_text false es) (lone_text false (e ∷ es)) (effect_text s t.0 g e t.1) rest refl

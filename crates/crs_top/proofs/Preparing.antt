@@ -1,9 +1,10 @@
 -- What a text that is accepted prepares.
-use Rattle.std.proofs.Common.{◌≡◌, ◌∙◌, ap, sym, refl, subst, inl, inr, ℕ, ◌≤◌, Bool, List, [], ◌∷◌, map, length, Some, Ok, arith, false}
+use Rattle.std.proofs.Common.{◌≡◌, ◌∙◌, ap, sym, refl, subst, inl, inr, ℕ, zero, suc, ◌≤◌, Bool, List, [], ◌∷◌, map, length, replicate, Some, arith, true, false, true≢false, le_refl}
 use Rattle.std.specs.List.{AllByRecursion}
 use Rattle.std.specs.declared.rc.Rc.{Rc}
 use Rattle.std.proofs.Common.{Global}
-use Rattle.std.proofs.lemmas.List.{length-map}
+use Rattle.std.proofs.lemmas.List.{length-map, take-map}
+use Rattle.std.specs.Prelude.{take, zip}
 use Rattle.crs_base.specs.Symbols.{Table, AreDistinct}
 use Rattle.crs_base.specs.declared.symbols.Sym.{Sym}
 use Rattle.crs_base.proofs.Alls.{all_left}
@@ -16,26 +17,34 @@ use Rattle.crs_model.specs.declared.models.ModelWord.TheVariants.{Hierarchy}
 use Rattle.crs_model.specs.declared.models.ModelRefused.TheVariants.{At, Memory}
 use Rattle.crs_model.specs.declared.plan.Plan.{Plan}
 use Rattle.crs_model.specs.declared.plan.Plans.{Plans}
-use Rattle.crs_model.specs.Hierarchy.{IsEmitLine}
+use Rattle.crs_model.specs.Hierarchy.{IsEmitLine, AreStrata}
 use Rattle.crs_model.specs.Models.{Emit, Chronicle, Name}
 use Rattle.crs_model.specs.ProperModels.{AreProper}
 use Rattle.crs_model.specs.Plans.{chronicle, IsProper}
 use Rattle.crs_model.specs.Renaming.{text_in, renamed_emit, renamed_chronicle, renamed_name, renamed_models, IsChronicleOf}
 use Rattle.crs_model.specs.SeenModels.{chronicle_of, name_of, models_of}
-use Rattle.crs_log.specs.Run.{at_start}
 use Rattle.crs_log.specs.SeenNames.{name_seen, AreNamesIn}
 use Rattle.crs_parse.specs.Meant.{models_read}
 use Rattle.crs_compile.specs.Compiled.{chronicles_in, ClosesFirst, IsModelsRefusal}
-use Rattle.crs_model.specs.ShortLags.{AreInTime}
-use Rattle.crs_model.proofs.RenamedLags.{in_time_on, closes_slow_on}
-use Rattle.crs_engine.specs.Engines.{EngineState, StandsFor, plans_of, kept_of}
-use Rattle.crs_top.specs.Session.{HasText, chronicle_in, HasModels, HasEntries, Represents}
-use Rattle.crs_top.proofs.Living.{held_by, held_live}
-use Rattle.crs_top.specs.ModelTexts.{IsAccepted, ClosesInconsistent, IsFaulty}
-use Rattle.crs_top.specs.Prepared.{AreReadIn}
+use Rattle.crs_compile.proofs.InTime.{lags_are}
+use Rattle.crs_model.specs.ShortLags.{AreLags, AreInTime, AreSlow, HaveShortLags}
+use Rattle.crs_model.proofs.RenamedLags.{lags_on, in_time_on, closes_slow_on}
+use Rattle.crs_top.proofs.StrataOn.{strata_on}
+use Rattle.crs_engine.specs.Engines.{plans_of}
+use Rattle.crs_layers.specs.Halts.{AreNew}
+use Rattle.crs_layers.specs.LayerPlans.{placed_of}
+use Rattle.crs_layers.specs.LayerStates.{LayersState, kept_in}
+use Rattle.crs_layers.specs.Standing.{HasText, IsRunOf, StandFor, StandAtStart, placed_in}
+use Rattle.crs_layers.specs.Strata.{Placed, Stratum, empty, strata_count}
+use Rattle.crs_session.specs.Laws.{placed_by}
+use Rattle.crs_session.specs.Session.{chronicle_in, HasModels, Represents}
+use Rattle.crs_session.specs.Tallies.{capped}
+use Rattle.crs_session.proofs.Living.{held_in, held_live, kept_is}
+use Rattle.crs_top.specs.ModelTexts.{GiveNothing, IsAccepted, ClosesInconsistent, IsFaulty}
+use Rattle.crs_top.specs.Prepared.{AreReadIn, AreLonePlans}
 use Rattle.crs_top.specs.Listings.{BreaksRuleText, IsFaultyText}
 use Rattle.crs_parse.specs.ModelSteps.{HaltsWith}
-use Rattle.crs_top.specs.Texts.{Frame}
+use Rattle.crs_session.specs.Texts.{Frame, setting_of, start_of}
 
 -- the refusals
 pub closes_inconsistent : (texts : List (List ℕ)) (cs : List CodeChronicle) (line : ℕ) → ClosesFirst cs line → ClosesInconsistent (map (renamed_chronicle (text_in texts)) (map chronicle_of cs)) line
@@ -132,7 +141,7 @@ plan_chronicles [] = refl
 plan_chronicles (r ∷ rs) = ap (λ (cs : List (Chronicle Sym)). chronicle r.value ∷ cs) (plan_chronicles rs)
 
 -- none of the models' chronicles gives entries, as none of the plans' does
-pub none_emit : (plans : List (Rc Plan Global)) (cs : List CodeChronicle) → chronicles_in plans ≡ cs → AllByRecursion (λ c. c.emits ≡ []) (map (λ r. chronicle r.value) plans)
+none_emit : (plans : List (Rc Plan Global)) (cs : List CodeChronicle) → chronicles_in plans ≡ cs → AllByRecursion (λ c. c.emits ≡ []) (map (λ r. chronicle r.value) plans)
     → AllByRecursion (λ c. c.emits ≡ []) (map chronicle_of cs)
 none_emit plans cs e h = subst (AllByRecursion (λ c. c.emits ≡ [])) (plan_chronicles plans ∙ ap (map chronicle_of) e) h
 
@@ -150,13 +159,32 @@ emits_faulty symbols text m table is plans e made in_time line h =
       ),
     )
 
+-- the chronicles of plans with their strata and lags, by the texts of symbols
+placed_same : (texts : List (List ℕ)) (ps : List Plan) (ks : List ℕ)
+    → map (placed_in texts) (placed_of ps ks) ≡ placed_by (map (renamed_chronicle (text_in texts)) (map chronicle ps)) ks (map (λ p. p.lag) ps)
+placed_same texts [] ks = refl
+placed_same texts (p ∷ ps) [] = refl
+placed_same texts (p ∷ ps) (k ∷ ks) =
+    ap (λ (qs : List (Placed (List ℕ))). record { chronicle = chronicle_in texts p; stratum = k; lag = p.lag } ∷ qs) (placed_same texts ps ks)
+
+length_same : (n : ℕ) → length (replicate {A = Stratum (List ℕ)} n empty) ≡ n
+length_same zero = refl
+length_same (suc n) = ap suc (length_same n)
+
 -- the models of a text, as they were read and compiled
 module _ (cite : Bool) (symbols entries : ℕ) (text : List ℕ) (m : CodeModels) (table : Table) (plans : Plans)
     (is : AreReadIn symbols text m table)
     (names : plans.names ≡ m.names) (chronicles : chronicles_in plans.plans ≡ m.chronicles) (made : AllByRecursion IsProper (plans_of plans))
-    (in_time : AreInTime Sym (map chronicle_of m.chronicles)) (none_emits : AllByRecursion (λ c. c.emits ≡ []) (map chronicle_of m.chronicles)) where
+    (lags : HaveShortLags (plans_of plans)) where
   abbrev pub frame : Frame
-  frame = record { models = renamed_models (text_in table.texts) (models_of m); texts = table.texts; symbols = symbols; entries = entries; cite = cite }
+  frame = record {
+    models = renamed_models (text_in table.texts) (models_of m);
+    texts = table.texts;
+    placed = map (placed_in table.texts) (placed_of (plans_of plans) lags.0);
+    symbols = symbols;
+    entries = entries;
+    cite = cite;
+  }
 
   chronicles_are : frame.models.chronicles ≡ map (chronicle_in table.texts) (plans_of plans)
   chronicles_are = ap (λ (cs : List CodeChronicle). map (renamed_chronicle (text_in table.texts)) (map chronicle_of cs)) (sym chronicles) ∙ sym (chronicles_by table.texts (plans_of plans))
@@ -164,12 +192,54 @@ module _ (cite : Bool) (symbols entries : ℕ) (text : List ℕ) (m : CodeModels
   consistent : AllByRecursion (λ c. IsConsistent c.bounds) frame.models.chronicles
   consistent = consistent_models table.texts m plans.plans chronicles made
 
-  pub accepted : IsAccepted cite symbols entries text frame
-  accepted = record {
+  known_plans : AllByRecursion (λ p. IsChronicleOf (HasText table.texts) (chronicle p)) (plans_of plans)
+  known_plans = known_by table.texts (plans_of plans) (subst (λ (cs : List CodeChronicle). AllByRecursion (IsChronicleOf (HasText table.texts)) (map chronicle_of cs)) (sym chronicles) is.numbered.chronicles)
+
+  known_chronicles : AllByRecursion (IsChronicleOf (HasText table.texts)) (map chronicle (plans_of plans))
+  known_chronicles = each_chronicle (plans_of plans) known_plans
+    where
+      each_chronicle : (ps : List Plan) → AllByRecursion (λ p. IsChronicleOf (HasText table.texts) (chronicle p)) ps → AllByRecursion (IsChronicleOf (HasText table.texts)) (map chronicle ps)
+      each_chronicle [] h = tt
+      each_chronicle (p ∷ ps) h = (h.0, each_chronicle ps h.1)
+
+  in_file_order : map (renamed_chronicle (text_in table.texts)) (map chronicle (plans_of plans)) ≡ frame.models.chronicles
+  in_file_order = two_maps (plans_of plans) ∙ sym chronicles_are
+    where
+      two_maps : (ps : List Plan) → map (renamed_chronicle (text_in table.texts)) (map chronicle ps) ≡ map (chronicle_in table.texts) ps
+      two_maps [] = refl
+      two_maps (p ∷ ps) = ap (λ (cs : List (Chronicle (List ℕ))). chronicle_in table.texts p ∷ cs) (two_maps ps)
+
+  -- the plans' strata and lags are those of the chronicles
+  in_time_plans : AreInTime (List ℕ) frame.models.chronicles
+  in_time_plans =
+      let ps = plans_of plans in
+      let strata = strata_on (text_in table.texts) (HasText table.texts) (apart table.texts is.distinct) (map chronicle ps) lags.0 known_chronicles lags.1 in
+      let own = lags_on (text_in table.texts) (map chronicle ps) (map (λ p. p.lag) ps) (lags_are ps made) in
+      record {
+        strata = lags.0;
+        lags = map (λ p. p.lag) ps;
+        are_strata = subst (λ (cs : List (Chronicle (List ℕ))). AreStrata cs lags.0) in_file_order strata;
+        are_lags = subst (λ (cs : List (Chronicle (List ℕ))). AreLags cs (map (λ p. p.lag) ps)) in_file_order own;
+        fast = λ n l s.
+            let long : length frame.models.chronicles ≡ length ps = ap length chronicles_are ∙ length-map ps (chronicle_in table.texts) in
+            lags.2 n (subst (λ k. n ≤ k) long l) (subst AreSlow (ap (zip (take n lags.0)) (take-map (λ (p : Plan). p.lag) n ps)) s);
+      }
+
+  placed_in_time : frame.placed ≡ placed_by frame.models.chronicles in_time_plans.strata in_time_plans.lags
+  unfolding in_time_plans
+  placed_in_time =
+      placed_same table.texts (plans_of plans) lags.0 ∙ ap (λ (cs : List (Chronicle (List ℕ))). placed_by cs lags.0 (map (λ p. p.lag) (plans_of plans))) in_file_order
+
+  pub lone_chronicles : AreLonePlans plans → GiveNothing frame
+  lone_chronicles none = none_emits_in table.texts m.chronicles (none_emit plans.plans m.chronicles chronicles none)
+
+  pub accepted : (cite ≡ true → AreLonePlans plans) → IsAccepted cite symbols entries text frame
+  accepted lone = record {
     read = is.read;
     consistent = consistent;
-    in_time = in_time_models symbols text m table is in_time;
-    none_emits = none_emits_in table.texts m.chronicles none_emits;
+    in_time = in_time_plans;
+    placed = placed_in_time;
+    cited_alone = λ e. lone_chronicles (lone e);
     symbols_are = refl;
     entries_are = refl;
     cite_is = refl;
@@ -183,48 +253,38 @@ module _ (cite : Bool) (symbols entries : ℕ) (text : List ℕ) (m : CodeModels
     names_few = let a : length plans.names ≡ length m.names = ap length names in omega (arith, a, length-map m.names name_of, length-map m.derived name_of, is.proper.names_few);
     arities = subst (AllByRecursion (λ n. n.arity ≤ 8)) (sym names) (arities_by m.names (all_left (λ n. n.arity ≤ 8) (map name_of m.names) (map name_of m.derived) is.proper.arities));
     chronicles = chronicles_are;
-    chronicles_in = known_by table.texts (plans_of plans) (subst (λ (cs : List CodeChronicle). AllByRecursion (IsChronicleOf (HasText table.texts)) (map chronicle_of cs)) (sym chronicles) is.numbered.chronicles);
+    chronicles_in = known_plans;
     distinct = is.distinct;
     limit = is.limit;
   }
 
-  has_models_by : (e : EngineState) → e.plans ≡ plans → HasModels frame e.plans table
-  has_models_by e p = subst (λ (q : Plans). HasModels frame q table) (sym p) has_models
-
-  no_entries : (e : EngineState) → StandsFor e [] [] → HasEntries e table.texts []
-  no_entries e stands = record {
-    settled = [];
-    waiting = [];
-    stands = stands;
-    members = record { there = λ x i. absurd i; back = λ x i. absurd i };
-    known = tt;
-    distinct = tt;
-    below = tt;
-  }
+  -- the run is of the plans' chronicles
+  of_plans : IsRunOf (plans_of plans) lags.0 table.texts (setting_of frame)
+  of_plans = record { strata = lags.1; placed = refl; known = known_plans }
 
   -- the session at the start
-  pub represented : (e : EngineState) (peak : ℕ) → peak ≡ kept_of e → e.plans ≡ plans → e.delay ≡ 0 → e.last ≡ 0 → e.horizon ≡ 0
-      → e.accepted ≡ 0 → e.marked ≡ 0 → e.limit ≡ entries → e.stopped ≡ false → StandsFor e [] []
-      → Represents frame (record { engine = e; symbols = table; entries = entries; cite = cite; ended = false; counts = record { refused = 0; recognitions = 0; peak = peak } }) (at_start table.texts)
-  represented e peak is_kept p delay last horizon count at_none most running stands = record {
-    models = has_models_by e p;
-    entries = no_entries e stands;
-    reached = omega arith;
-    running = running;
-    texts = refl;
-    delay = sym delay;
-    last = sym last;
-    horizon = sym horizon;
-    marked = sym at_none;
-    count = sym count;
-    most = most;
-    few = omega arith;
-    most_here = refl;
-    cite = refl;
-    ended = refl;
-    peaked = (
-      held_by e,
-      held_live frame e table (at_start table.texts) (has_models_by e p) (no_entries e stands) (sym horizon) (sym at_none),
-      subst (λ k. kept_of e ≤ k) (sym is_kept) (let k : kept_of e ≤ kept_of e = omega arith in k),
-    );
-  }
+  pub represented : (focus : Bool) (x : LayersState) (peak : ℕ) → AreNew plans focus entries x → StandAtStart x → peak ≡ kept_in x
+      → Represents frame (record { layers = x; symbols = table; entries = entries; cite = cite; ended = false; counts = record { refused = 0; recognitions = 0; peak = peak } }) (start_of frame)
+  represented focus x peak new start is_kept =
+      let stand : StandFor (setting_of frame) (start_of frame) x =
+      start (setting_of frame) table.texts lags.0 (subst (λ (q : Plans). IsRunOf (plans_of q) lags.0 table.texts (setting_of frame)) (sym new.same_plans) of_plans) new.same_limit in
+      let count = length_same (strata_count (map (λ p. p.stratum) frame.placed)) in
+      let proper = subst (λ (q : Plans). AllByRecursion IsProper (plans_of q)) (sym new.same_plans) made in
+      record {
+        models = subst (λ (q : Plans). HasModels frame q table) (sym new.same_plans) has_models;
+        stand = stand;
+        texts = refl;
+        strata = count;
+        count = sym new.none_accepted;
+        few = omega arith;
+        most_here = refl;
+        reached = omega arith;
+        closed = λ e. absurd (true≢false (sym e));
+        cite = refl;
+        ended = refl;
+        peaked = (
+          held_in x.layers,
+          held_live frame x (start_of frame) stand is.distinct proper count,
+          subst (λ k. capped (held_in x.layers) ≤ k) (sym (is_kept ∙ kept_is x.layers)) (le_refl (capped (held_in x.layers))),
+        );
+      }

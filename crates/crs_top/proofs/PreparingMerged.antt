@@ -1,7 +1,6 @@
 -- What a text that is accepted prepares for several logs.
 use Rattle.std.proofs.Common.{◌≡◌, ◌∙◌, ap, sym, refl, subst, ℕ, List, [], false, arith, map}
 use Rattle.std.specs.List.{AllByRecursion}
-use Rattle.crs_base.specs.declared.symbols.Sym.{Sym}
 use Rattle.crs_base.specs.Symbols.{Table}
 use Rattle.crs_compile.specs.Compiled.{chronicles_in}
 use Rattle.crs_engine.specs.Engines.{plans_of}
@@ -11,26 +10,25 @@ use Rattle.crs_log.specs.SeenNames.{name_seen}
 use Rattle.crs_model.specs.declared.models.Models.{Models as CodeModels}
 use Rattle.crs_model.specs.declared.plan.Plans.{Plans}
 use Rattle.crs_model.specs.Plans.{IsProper}
-use Rattle.crs_model.specs.SeenModels.{chronicle_of}
-use Rattle.crs_model.specs.ShortLags.{AreInTime}
+use Rattle.crs_model.specs.ShortLags.{HaveShortLags}
 use Rattle.crs_top.specs.MergedSession.{StandsBehind}
 use Rattle.crs_top.specs.Prepared.{AreReadIn}
-use Rattle.crs_top.specs.Session.{HasModels}
-use Rattle.crs_top.specs.Texts.{setting_of}
+use Rattle.crs_session.specs.Session.{HasModels}
+use Rattle.crs_session.specs.Texts.{log_setting}
 use Rattle.crs_top.proofs.Preparing.{frame, has_models}
 
 module _ (symbols entries : ℕ) (text : List ℕ) (m : CodeModels) (table : Table) (plans : Plans)
     (is : AreReadIn symbols text m table)
     (names : plans.names ≡ m.names) (chronicles : chronicles_in plans.plans ≡ m.chronicles) (made : AllByRecursion IsProper (plans_of plans))
-    (in_time : AreInTime Sym (map chronicle_of m.chronicles)) (none_emits : AllByRecursion (λ c. c.emits ≡ []) (map chronicle_of m.chronicles)) where
+    (lags : HaveShortLags (plans_of plans)) where
   pub stands_at_start : (s : FeedsState) → s.engine.plans ≡ plans → s.engine.limit ≡ entries → StandAtStart s
-      → StandsBehind (frame false symbols entries text m table plans is names chronicles made in_time none_emits) (record { feeds = s; symbols = table; entries = entries; refused = false }) []
+      → StandsBehind (frame false symbols entries text m table plans is names chronicles made lags) (record { feeds = s; symbols = table; entries = entries; refused = false }) []
   stands_at_start s same limit stands =
-      let f = frame false symbols entries text m table plans is names chronicles made in_time none_emits in
-      let h : HasModels f plans table = has_models false symbols entries text m table plans is names chronicles made in_time none_emits in
+      let f = frame false symbols entries text m table plans is names chronicles made lags in
+      let h : HasModels f plans table = has_models false symbols entries text m table plans is names chronicles made lags in
       record {
         models = subst (λ (p : Plans). HasModels f p table) (sym same) h;
-        stand = stands (setting_of f) table.texts (h.names ∙ ap (λ (p : Plans). map (name_seen table.texts) p.names) (sym same)) (sym limit);
+        stand = stands (log_setting f) table.texts (h.names ∙ ap (λ (p : Plans). map (name_seen table.texts) p.names) (sym same)) (sym limit);
         texts = refl;
         few = omega arith;
         most_here = refl;

@@ -1,10 +1,11 @@
 -- Logs that are rearranged have one text.
 use Rattle.std.proofs.Common.{◌≡◌, ℕ, ◌+◌, ◌<◌, ◌≤◌, List, [], ◌∷◌, ◌++◌, length, refl, sym, ap, subst, ◌∙◌, arith, Option, Some, None, Bool, true, false, cond, lt-ltb, map, suc}
 use Rattle.std.specs.Prelude.{flat_map}
-use Rattle.std.specs.List.{AllZip, AllByRecursion, sum_by}
+use Rattle.std.specs.List.{AllZip, AllByRecursion, list_any, sum_by}
 use Rattle.std.proofs.lemmas.Grind.{flat_map-append}
 use Rattle.std.proofs.lemmas.List.Sorted.{sum_by-IsPermutation}
 use Rattle.crs_base.specs.Entry.{Key}
+use Rattle.crs_base.specs.Lines.{Line}
 use Rattle.crs_base.proofs.Words.{in_from_each}
 use Rattle.crs_model.specs.declared.recognition.Mark.{Mark}
 use Rattle.crs_model.specs.declared.recognition.Mark.TheVariants as mark
@@ -19,12 +20,19 @@ use Rattle.crs_model.proofs.PairedLists.{Paired}
 use Rattle.crs_model.proofs.TwinLists.{Reads, new_paired}
 use Rattle.crs_model.proofs.TwinPools.{AreAlike, pairing}
 use Rattle.crs_log.specs.Items.{Event}
-use Rattle.crs_log.specs.Run.{Setting, at_start, end_date, horizon_at}
+use Rattle.crs_log.specs.Reading.{numbered}
+use Rattle.crs_log.specs.Run.{Setting, at_start, end_date, horizon_at, outcomes}
+use Rattle.crs_log.proofs.Traces.{trace_outcomes}
 use Rattle.crs_log.specs.Trace.{Answer, answer_of, AreNew}
 use Rattle.crs_log.proofs.ReadEntries.{IsRead, AreAccepted, none_accepted, same_read}
 use Rattle.crs_report.proofs.TwinLines.{line_same}
-use Rattle.crs_top.specs.Texts.{LogEntry, answer_line, text_of, setting_of}
-use Rattle.crs_top.specs.Rearranged.{Part, Ending, AtClock, AtEnd, IsRearranged, parts_of, items_of, RearrangedLogsHaveOneText}
+use Rattle.crs_layers.specs.Laws.{flat}
+use Rattle.crs_layers.specs.Runs.{State, Effect}
+use Rattle.crs_session.proofs.Lone.{traces_without_emits_are_lone}
+use Rattle.crs_session.specs.Laws.{ArePlaced, lone_text}
+use Rattle.crs_top.specs.ModelTexts.{GiveNothing}
+use Rattle.crs_session.specs.Texts.{Frame, LogEntry, IsTraceOf, answer_line, text_of, log_setting, is_refused}
+use Rattle.crs_top.specs.Rearranged.{Part, Ending, AtClock, AtEnd, IsRearranged, parts_of, items_of, NoneIsRefused, RearrangedLogsHaveOneText}
 use Rattle.crs_top.proofs.Parting.{view, IsMarkText, weight, Follow, IsMarkedText, IsEndText, IsPartsText, parted_text}
 
 lines_same : (T : LogEntry → LogEntry → Type 0) → Twins T → (k : ℕ) (c : Chronicle (List ℕ)) (mark : Mark) (xs ys : List (Assignment (List ℕ)))
@@ -157,13 +165,25 @@ module _ (c : Setting) (cs : List (Chronicle (List ℕ))) where
       ends r.ending h k l p.0 q.0 n (still_alike r.events s.events xs ys p.0 q.0 k l e p.1 q.1) (λ h k t. IsPartsText c cs ps h k p.0 t) (λ h k t. IsPartsText c cs qs h k q.0 t)
       (λ h k l e a b u v. one_text ps qs z.1 h k l p.0 q.0 n e a b u v) a b p.2 other
 
+-- without refused lines the log alone has none
+lone_refused : (f : Frame) (lines : List Line) (effects : List Effect) (last : State) → ArePlaced f.models.chronicles f.placed → GiveNothing f
+    → IsTraceOf f lines effects last → NoneIsRefused f lines → list_any is_refused (outcomes (log_setting f) (at_start f.texts) (numbered lines)) ≡ false
+lone_refused f lines effects last placed none trace r =
+    let lone = traces_without_emits_are_lone f lines r.0 r.1 placed none r.2 in
+    ap (list_any is_refused) (trace_outcomes (log_setting f) f.models.chronicles (at_start f.texts) (numbered lines) (map flat r.0) r.1.log lone.trace_is)
+    ∙ sym lone.refused_is ∙ r.3
+
 pub rearranged_logs_have_one_text : RearrangedLogsHaveOneText
-rearranged_logs_have_one_text f xs ys a b plain r s z p q =
-    let c : Setting = setting_of f in
+rearranged_logs_have_one_text f xs ys a b placed none plain r s z p q =
+    let c : Setting = log_setting f in
     let cs : List (Chronicle (List ℕ)) = f.models.chronicles in
     let start : Match c cs [] [] = record { left = none_accepted; right = none_accepted; ties = λ z. refl } in
-    let same : text_of false p.0 ≡ text_of false q.0 =
+    let one = traces_without_emits_are_lone f xs p.0 p.1 placed none p.2 in
+    let other = traces_without_emits_are_lone f ys q.0 q.1 placed none q.2 in
+    let same : lone_text false (map flat p.0) ≡ lone_text false (map flat q.0) =
     one_text c cs (parts_of 0 (items_of xs)) (parts_of 0 (items_of ys)) z 0 0 0 [] [] start (record { left = omega arith; right = omega arith; early = λ z. refl })
-    (text_of false p.0) (text_of false q.0)
-    (parted_text c cs 0 (at_start f.texts) xs p.0 p.1 r p.2) (parted_text c cs 0 (at_start f.texts) ys q.0 q.1 s q.2) in
-    p.3 ∙ ap (λ (cite : Bool). text_of cite p.0) plain ∙ same ∙ sym (q.3 ∙ ap (λ (cite : Bool). text_of cite q.0) plain)
+    (lone_text false (map flat p.0)) (lone_text false (map flat q.0))
+    (parted_text c cs 0 (at_start f.texts) xs (map flat p.0) p.1.log (lone_refused f xs p.0 p.1 placed none p.2 r) one.trace_is)
+    (parted_text c cs 0 (at_start f.texts) ys (map flat q.0) q.1.log (lone_refused f ys q.0 q.1 placed none q.2 s) other.trace_is) in
+    p.3 ∙ ap (λ (cite : Bool). text_of cite f.entries p.0) plain ∙ one.text_is false ∙ same
+    ∙ sym (q.3 ∙ ap (λ (cite : Bool). text_of cite f.entries q.0) plain ∙ other.text_is false)

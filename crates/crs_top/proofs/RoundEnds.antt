@@ -1,34 +1,30 @@
 -- One turn of a round after another, and its end.
-use Rattle.std.proofs.Common.{◌≡◌, ◌⊎◌, ◌∙◌, ap, sym, refl, subst, inl, inr, ℕ, zero, suc, ◌+◌, ◌<◌, ◌≤◌, Bool, true, false, cond, nat_lt, List, [], ◌∷◌, ◌++◌, length, get_or, set, map}
+use Rattle.std.proofs.Common.{◌≡◌, ◌∙◌, ap, sym, refl, subst, inl, inr, ℕ, zero, suc, ◌+◌, ◌<◌, Bool, true, false, cond, nat_lt, List, [], ◌∷◌, ◌++◌, length, get_or, set, map}
 use Rattle.std.proofs.Common.{arith, append-nil, append_assoc, true≢false, lt-ltb}
 use Rattle.std.specs.Prelude.{◌||◌}
 use Rattle.std.proofs.lemmas.Bool.{cases_eq, le-ltb}
-use Rattle.std.proofs.lemmas.List.{length-set, get_or-set_same, get_or-set_other, get_or-map, length-map, get_or-append-add}
+use Rattle.std.proofs.lemmas.List.{length-set, get_or-set_same, get_or-set_other, get_or-map, length-map}
 use Rattle.std.proofs.Math.Seq.{take-length, take-append-add}
-use Rattle.crs_desk.specs.Desk.{Told, Stream, Wrote}
-use Rattle.crs_log.specs.Reading.{Given, numbered}
-use Rattle.crs_base.specs.Lines.{lines_of}
+use Rattle.crs_desk.specs.Desk.{Told, Stream}
 use Rattle.crs_feeds.specs.Merged.{Pair}
 use Rattle.crs_top.specs.declared.merged.MergedSession.{MergedSession}
 use Rattle.crs_top.specs.declared.source.Source.{Source}
 use Rattle.crs_top.specs.declared.status.Status.{Status}
-use Rattle.crs_top.specs.declared.status.Status.TheVariants as stops
-use Rattle.crs_top.specs.FeedOutcomes.{AreRead, AreWhole, FeedsOutcome, IsFront, IsUnwritten, DidFollow, FollowsFeeds, left_of, turns_of}
-use Rattle.crs_top.specs.FeedRounds.{pairs_before, pairs_of, first_rounds, longest, lines_in}
+use Rattle.crs_top.specs.FeedOutcomes.{AreRead, AreWhole, FeedsOutcome, IsFront, FollowsFeeds, left_of}
+use Rattle.crs_top.specs.FeedRounds.{pairs_before, pairs_of, first_rounds, lines_in}
 use Rattle.crs_top.specs.Inputs.{bytes_of, after, Opened, IsRead}
 use Rattle.crs_top.specs.Logs.{Says, ended_as}
 use Rattle.crs_top.specs.MergedSession.{StandsBehind, feeds_of}
 use Rattle.crs_top.specs.Opening.{HaveOpened, FailToOpen, none_taken}
-use Rattle.crs_top.specs.PairTexts.{IsTextBefore, IsTextOfPairs, IsFeedsText, refuses_some}
-use Rattle.crs_top.specs.Sources.{StandsAt, IsSourceAt, IsSourceOf, AreSourcesAt, AreAt, HaveRead, HaveStopped, IsSpent, TakesTurn, TakesRound, TakesRounds, source_at, taken_of, turns_before, new_source, new_sources}
-use Rattle.crs_top.specs.Texts.{Frame}
+use Rattle.crs_top.specs.PairTexts.{IsTextOfPairs, IsFeedsText, refuses_some}
+use Rattle.crs_top.specs.Sources.{IsSourceAt, IsSourceOf, AreSourcesAt, AreAt, HaveStopped, IsSpent, source_at, taken_of, turns_before, new_source, new_sources}
+use Rattle.crs_session.specs.Texts.{Frame}
 use Rattle.crs_top.proofs.FeedOrder.{before_next, longest_low, all_rounds}
 use Rattle.crs_top.proofs.FeedReading.{have_written}
 use Rattle.crs_top.proofs.FeedTurns.{turns_own, turns_done, turns_other, count_logs, count_lines, lines_is}
 use Rattle.crs_top.proofs.Loads.{nothing_read_of}
 use Rattle.crs_top.proofs.SourcePlaces.{stand_new}
 use Rattle.std.specs.Prelude.{take}
-use Rattle.crs_desk.specs.declared.turn.Turn.{Turn}
 
 turns_below : (round n j : ℕ) → j < n → turns_before round n j ≡ round + 1
 turns_below round n j l = let e : nat_lt j n ≡ true = lt-ltb j n l in λ i. cond (e i) (round + 1) round

@@ -14,11 +14,13 @@ use Rattle.crs_model.specs.Matching.{Binding, Assignment, PatternIs}
 use Rattle.crs_model.specs.Open.{IsRecognised, whole}
 use Rattle.crs_model.specs.Partial.{dates_of}
 use Rattle.crs_log.specs.Reading.{numbered}
-use Rattle.crs_log.specs.Run.{State, Outcome, Accepted, Marked, at_start, after_lines, settled}
-use Rattle.crs_log.specs.Trace.{Answer, Effect, AreNew, answer_of}
+use Rattle.crs_log.specs.Run as run
+use Rattle.crs_log.specs.Run.{Outcome, Accepted, Marked, after_lines, settled}
+use Rattle.crs_log.specs.Trace.{Answer, answer_of}
 use Rattle.crs_model.specs.Scopes.{ListsNew, scope_of}
-use Rattle.crs_log.specs.Recognitions.{view_of}
-use Rattle.crs_top.specs.Texts.{LogEntry, Frame, setting_of, IsLogText}
+use Rattle.crs_layers.specs.Runs.{State, Effect, views_of}
+use Rattle.crs_layers.specs.Strata.{Placed, Stratum}
+use Rattle.crs_session.specs.Texts.{LogEntry, Frame, log_setting, setting_of, start_of, IsLogText}
 
 abbrev plain : List ℕ → List ℕ → EventDef (List ℕ)
 plain name point = record { pattern = record { name = name; terms = []; change = None }; point = point; level = 0 }
@@ -39,10 +41,15 @@ model = record {
   emits = [];
 }
 
+-- of the lowest stratum, and it gives nothing
+abbrev alone : Placed (List ℕ)
+alone = record { chronicle = model; stratum = 0; lag = Some (pos 0) }
+
 abbrev frame : Frame
 frame = record {
   models = record { names = record { name = codes "a"; arity = 0; kind = Message } ∷ record { name = codes "b"; arity = 0; kind = Message } ∷ []; derived = []; chronicles = model ∷ [] };
   texts = codes "a" ∷ codes "b" ∷ codes "c" ∷ codes "t1" ∷ codes "t2" ∷ [];
+  placed = alone ∷ [];
   symbols = 100;
   entries = 100;
   cite = false;
@@ -54,8 +61,8 @@ lf = 10 ∷ []
 abbrev log : List ℕ
 log = codes "10 a" ++ lf ++ codes "12 b" ++ lf ++ codes "clock 13" ++ lf
 
-abbrev after : List ℕ → State
-after bytes = after_lines (setting_of frame) (at_start frame.texts) (numbered (lines_of bytes))
+abbrev after : List ℕ → run.State
+after bytes = after_lines (log_setting frame) (run.at_start frame.texts) (numbered (lines_of bytes))
 
 abbrev entry : ℕ → ℕ → List ℕ → LogEntry
 entry arrival date name = record { arrival = arrival; date = date; name = name; args = []; change = None; text = name }
@@ -155,33 +162,49 @@ new = record {
 abbrev answer : Answer
 answer = answer_of 0 model assignment
 
-answer_of_a_mark : AreNew 0 (model ∷ []) (record { settled = []; arrived = []; horizon = 0 }) (record { settled = both; arrived = both; horizon = 13 }) (answer ∷ [])
-answer_of_a_mark = (assignment ∷ [], [], new, refl, refl)
+abbrev stratum : List LogEntry → ℕ → List (Stratum (List ℕ))
+stratum accepted marked = record { accepted = accepted; marked = marked } ∷ []
 
 abbrev begun : State
-begun = at_start frame.texts
+begun = start_of frame
 
 abbrev one_line : State
-one_line = after (codes "10 a" ++ lf)
+one_line = record { log = after (codes "10 a" ++ lf); strata = stratum (first ∷ []) 0 }
 
 abbrev two_lines : State
-two_lines = after (codes "10 a" ++ lf ++ codes "12 b" ++ lf)
+two_lines = record { log = after (codes "10 a" ++ lf ++ codes "12 b" ++ lf); strata = stratum both 0 }
 
-abbrev effect : ℕ → Outcome → State → State → List Answer → Effect
-effect n outcome was now answers = record { number = n; outcome = outcome; was = view_of was; now = view_of now; answers = answers }
+abbrev three_lines : State
+three_lines = record { log = after log; strata = stratum both 2 }
+
+abbrev effect : ℕ → Outcome → List (List LogEntry) → State → State → List Answer → Effect
+effect n outcome given was now answers =
+    record { number = n; outcome = outcome; given = given; flood = false; was = views_of (setting_of frame) was; now = views_of (setting_of frame) now; answers = answers }
 
 text_of_a_log : IsLogText frame log (codes "c at 13 t1=10 t2=12" ++ lf)
 unfolding digits
 text_of_a_log = (
-  effect 1 (Accepted first) begun one_line [] ∷ effect 2 (Accepted second) one_line two_lines [] ∷ effect 3 (Marked (Clock 13)) two_lines (after log) (answer ∷ []) ∷ [],
-  after log,
+  effect 1 (Accepted first) [] begun one_line [] ∷ effect 2 (Accepted second) [] one_line two_lines [] ∷ effect 3 (Marked (Clock 13)) ([] ∷ []) two_lines three_lines (answer ∷ []) ∷ [],
+  three_lines,
   (
     one_line,
-    record { number = refl; becomes = refl; was = refl; now = refl; answers = refl },
+    record { number = refl; log = refl; strata = (refl, refl); flood = refl; was = refl; now = refl; answers = refl },
     (
       two_lines,
-      record { number = refl; becomes = refl; was = refl; now = refl; answers = refl },
-      (after log, record { number = refl; becomes = refl; was = refl; now = refl; answers = answer_of_a_mark }, refl),
+      record { number = refl; log = refl; strata = (refl, refl); flood = refl; was = refl; now = refl; answers = refl },
+      (
+        three_lines,
+        record {
+          number = refl;
+          log = refl;
+          strata = ([], [], [], refl, refl, (assignment ∷ [], [], new, refl, refl), (refl, refl));
+          flood = refl;
+          was = refl;
+          now = refl;
+          answers = (assignment ∷ [], [], new, refl, refl);
+        },
+        refl,
+      ),
     ),
   ),
   refl,

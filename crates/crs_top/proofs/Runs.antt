@@ -4,19 +4,18 @@ use Rattle.std.specs.Option.{unwrap_or}
 use Rattle.std.proofs.lemmas.List.{take-append-le}
 use Rattle.crs_desk.specs.Desk.{Told, Stream, file_of}
 use Rattle.crs_desk.specs.declared.turn.Turn.{Turn}
-use Rattle.crs_log.specs.Run.{at_start}
 use Rattle.crs_top.specs.declared.status.Status.{Status}
 use Rattle.crs_top.specs.declared.status.Status.TheVariants.{Done, Refusals, Words, Rejected, ReadFault, WriteFault, Memory, TooLong}
 use Rattle.crs_top.specs.Inputs.{bytes_of, after}
 use Rattle.crs_top.specs.Loads.{IsModelLine, LoadOutcome, EndsWithInput, Loaded}
 use Rattle.crs_top.specs.Logs.{Tail, LogOutcome}
-use Rattle.crs_top.specs.ModelTexts.{IsAccepted, IsFaulty}
+use Rattle.crs_top.specs.ModelTexts.{IsAccepted, IsRunFaulty}
 use Rattle.crs_top.specs.RunOutcomes.{Most, Outcome, Runs, FollowOutcome, Followed}
-use Rattle.crs_top.specs.Texts.{Frame}
+use Rattle.crs_session.specs.Texts.{Frame, start_of}
 use Rattle.crs_top.proofs.Loads.{nothing_read_of}
 
 -- a run that ended with the models printed nothing
-ended_outcome : (cite : Bool) (tail : Tail) (most : Most) (models log : List ℕ) (n i k : ℕ) (old : List ℕ) (status : Status) (new : List ℕ) → n ≤ 1 → LoadOutcome (2 ^ 20) (λ text. ⊥) (IsModelLine (IsFaulty most.symbols models)) models n k old status new
+ended_outcome : (cite : Bool) (tail : Tail) (most : Most) (models log : List ℕ) (n i k : ℕ) (old : List ℕ) (status : Status) (new : List ℕ) → n ≤ 1 → LoadOutcome (2 ^ 20) (λ text. ⊥) (IsModelLine (IsRunFaulty cite most.symbols models)) models n k old status new
     → Outcome cite tail most models log n i k 0 old status new
 ended_outcome cite tail most models log n i k old Done new le h = absurd h.2.1
 ended_outcome cite tail most models log n i k old Refusals new le h = absurd h
@@ -42,7 +41,7 @@ ended_outcome cite tail most models log n i k old Memory new le (inr h) = inr (i
 ))
 ended_outcome cite tail most models log n i k old TooLong new le h = absurd h
 
-pub run_ended : (base now : ℕ) (cite : Bool) (tail : Tail) (most : Most) (old new : Told) (models log : List ℕ) (status : Status) → EndsWithInput base now (2 ^ 20) (λ text. ⊥) (IsModelLine (IsFaulty most.symbols (bytes_of old models))) old models status new
+pub run_ended : (base now : ℕ) (cite : Bool) (tail : Tail) (most : Most) (old new : Told) (models log : List ℕ) (status : Status) → EndsWithInput base now (2 ^ 20) (λ text. ⊥) (IsModelLine (IsRunFaulty cite most.symbols (bytes_of old models))) old models status new
     → Runs base now cite tail most old models log status new
 run_ended base now cite tail most old new models log status h =
     let d = h.4.did in (
@@ -86,7 +85,7 @@ followed_outcome : (cite : Bool) (tail : Tail) (most : Most) (f : Frame) (models
     → FollowOutcome tail f log most.bytes n i t old status new → Outcome cite tail most models log (n + 1) (i + 1) k t old status new
 followed_outcome cite tail most f models log n i k t old new status a e (inl o) = read_outcome cite tail most f models log (n + 1) (i + 1) k t old new status (omega (arith, o.0)) a e o.2
 followed_outcome cite tail most f models log n i k t old new status a e (inr (inl o)) =
-    rw (o.3) (inr (omega (arith, o.0), (λ h. absurd (omega (arith, o.1, h))), (f, a, e, ([], rw (o.2) ([], at_start f.texts, refl, refl), o.4 ∙ sym (append-nil old)))))
+    rw (o.3) (inr (omega (arith, o.0), (λ h. absurd (omega (arith, o.1, h))), (f, a, e, ([], rw (o.2) ([], start_of f, refl, refl), o.4 ∙ sym (append-nil old)))))
 followed_outcome cite tail most f models log n i k t old new status a e (inr (inr o)) = rw (o.1) (inl o.2)
 
 pub run_followed : (base now mid_count : ℕ) (cite : Bool) (tail : Tail) (most : Most) (f : Frame) (old mid new : Told) (models log : List ℕ) (k n i t : ℕ) (more turns : List Turn) (status : Status) → Loaded base mid_count (2 ^ 20) old models 1 1 k more mid

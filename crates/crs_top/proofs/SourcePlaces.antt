@@ -1,12 +1,12 @@
 -- The place of a source in the rounds.
-use Rattle.std.proofs.Common.{◌≡◌, ◌⊎◌, ◌∙◌, ap, sym, refl, subst, inl, inr, ℕ, zero, suc, ◌+◌, ◌<◌, ◌≤◌, Bool, true, false, cond, ◌==◌, List, [], ◌∷◌, ◌++◌, length, slice_get}
-use Rattle.std.proofs.Common.{arith, append-nil, append_assoc, length-append, true≢false, Option, Some, None}
+use Rattle.std.proofs.Common.{◌≡◌, ◌∙◌, ap, sym, refl, subst, inl, inr, ℕ, zero, suc, ◌+◌, ◌<◌, ◌≤◌, Bool, true, false, cond, ◌==◌, List, [], ◌∷◌, ◌++◌, length, slice_get}
+use Rattle.std.proofs.Common.{arith, append-nil, append_assoc, length-append, true≢false, Some}
 use Rattle.crs_base.specs.Lines.{Line, lines_of, onto}
 use Rattle.crs_log.specs.Reading.{Given, Gives, HasNoLine, Reader, ahead, given, given_lines, whole_lines}
 use Rattle.crs_log.proofs.Prompt.{told_whole}
 use Rattle.crs_top.specs.declared.source.Source.{Source}
-use Rattle.crs_top.specs.Sources.{StandsAt, Follows, IsFed, IsFilled, closed, new_source, IsSourceAt}
-use Rattle.crs_top.proofs.Taken.{no_rest}
+use Rattle.crs_top.specs.Sources.{StandsAt, IsFed, IsFilled, closed, new_source, IsSourceAt}
+use Rattle.crs_session.proofs.Taken.{no_rest}
 
 given_length : (limit n : ℕ) (ls : List Line) → length (given_lines limit n ls) ≡ length ls
 given_length limit n [] = refl

@@ -4,25 +4,23 @@ use Rattle.std.proofs.Common.{append_assoc, length-append, map}
 use Rattle.std.specs.List.{list_any}
 use Rattle.crs_base.specs.Lines.{lines_of}
 use Rattle.crs_log.specs.Reading.{Reader, Given, HasGiven, HasNoLine, given, given_lines, numbered, ahead}
-use Rattle.crs_log.specs.Recognitions.{view_of}
-use Rattle.crs_log.specs.Run.{State, at_start}
-use Rattle.crs_log.specs.Trace.{Effect, IsTrace}
-use Rattle.crs_log.proofs.Traces.{trace_outcomes}
+use Rattle.crs_layers.proofs.OneRun.{one_run}
+use Rattle.crs_layers.specs.Runs.{State, Effect, IsRun, views_of}
 use Rattle.crs_report.specs.Listeners.{notice_of}
 use Rattle.crs_report.specs.declared.summary.Summary.{Summary}
-use Rattle.crs_top.specs.declared.session.Session.{Session}
-use Rattle.crs_top.specs.declared.session.Counts.{Counts}
-use Rattle.crs_top.specs.Logs.{summary_of, has_refused, TakesPiece, TakesRest}
-use Rattle.crs_top.specs.Notices.{AreLogNotices}
-use Rattle.crs_top.specs.Session.{Represents, IsUncounted}
+use Rattle.crs_session.specs.declared.session.Session.{Session}
+use Rattle.crs_session.specs.declared.session.Counts.{Counts}
+use Rattle.crs_top.specs.Logs.{summary_of, has_refused as counts_refused}
+use Rattle.crs_session.specs.Notices.{AreLogNotices}
+use Rattle.crs_session.specs.Session.{Represents, IsUncounted}
 use Rattle.crs_top.specs.Summing.{TakesLog}
-use Rattle.crs_top.specs.Taking.{Takes}
-use Rattle.crs_top.specs.Tallies.{AllLive, AreCounts, IsSummary, capped, started, together, tally_of, refused_in, recognitions_in}
-use Rattle.crs_top.specs.Texts.{Frame, setting_of, is_refused, some_refused, IsTraceOf, IsLogText}
-use Rattle.crs_top.specs.Written.{Written, unwritten, joined}
-use Rattle.crs_top.proofs.Counting.{positive, some_counted}
-use Rattle.crs_top.proofs.Living.{held_by, held_live}
-use Rattle.crs_top.proofs.Taken.{takes_none, takes_append}
+use Rattle.crs_session.specs.Taking.{Takes, TakesPiece, TakesRest}
+use Rattle.crs_session.specs.Tallies.{AllLive, AreCounts, IsSummary, capped, started, together, tally_of, refused_in, recognitions_in}
+use Rattle.crs_session.specs.Texts.{Frame, setting_of, start_of, has_refused, SomeRefused, IsTraceOf, IsLogText}
+use Rattle.crs_session.specs.Written.{Written, unwritten, joined}
+use Rattle.crs_session.proofs.Counting.{positive, some_counted}
+use Rattle.crs_session.proofs.Living.{held_in, live_in, kept_is}
+use Rattle.crs_session.proofs.Taken.{takes_none, takes_append}
 
 -- the lines of the first t bytes were given, and the reader stands behind them
 pub record IsAt (t : ℕ) (bytes : List ℕ) (lines : Reader) (told : List Given) : Type 0 where
@@ -55,7 +53,7 @@ pub record HasTaken (log rest : List ℕ) (old : Session) (lines : Reader) (new 
   pub all : Written
   pub whole : fed ++ rest ≡ log
   pub at : IsAt (length fed) fed lines told
-  pub takes : (f : Frame) (s : State) → Represents f old s → Takes f old.engine.focus old.counts new s told unwritten all
+  pub takes : (f : Frame) (s : State) → Represents f old s → Takes f old.layers.focus old.counts new s told unwritten all
 
 pub taken_none : (log : List ℕ) (x : Session) (lines : Reader)
     → lines ≡ record { limit = 4096; number = 0; rest = []; finished = false; fed = 0 } → HasTaken log log x lines x
@@ -79,7 +77,7 @@ taken_more log piece rest old x y lines now all h p = record {
       (at_more (length h.fed) (length piece) lines now h.told h.fed piece x y all refl h.at p);
   takes = λ f s r.
       let t = h.takes f s r in
-      takes_append f old.engine.focus old.counts x y s h.told p.told h.all all t (p.takes f t.last t.state);
+      takes_append f old.layers.focus old.counts x y s h.told p.told h.all all t (p.takes f t.last t.state);
 }
 
 -- all is given, and the last line is taken
@@ -91,36 +89,38 @@ taken_all log old x y lines all h p f s r =
     let told : given_lines 4096 0 (lines_of log) ≡ h.told ++ p.told =
     ap (λ (bs : List ℕ). given 4096 0 bs) (sym whole ∙ sym (append-nil h.fed)) ∙ h.at.given [] ∙ ap (λ (gs : List Given). h.told ++ gs) p.ahead_is in (
       joined h.all all,
-      subst (λ (gs : List Given). Takes f old.engine.focus old.counts y s gs unwritten (joined h.all all)) (sym told)
-          (takes_append f old.engine.focus old.counts x y s h.told p.told h.all all t (p.takes f t.last t.state)),
+      subst (λ (gs : List Given). Takes f old.layers.focus old.counts y s gs unwritten (joined h.all all)) (sym told)
+          (takes_append f old.layers.focus old.counts x y s h.told p.told h.all all t (p.takes f t.last t.state)),
     )
 
 -- what was counted before the first line
 pub record HasBegun (f : Frame) (focus : Bool) (start : Counts) : Type 0 where
   pub first : ℕ
-  pub at_first : AllLive focus f.models.chronicles (view_of (at_start f.texts)) first
+  pub at_first : AllLive focus f.placed (views_of (setting_of f) (start_of f)) first
   pub counts : AreCounts start (started first)
 
-pub begun_by : (f : Frame) (x : Session) → Represents f x (at_start f.texts) → IsUncounted x → HasBegun f x.engine.focus x.counts
+pub begun_by : (f : Frame) (x : Session) → Represents f x (start_of f) → IsUncounted x → HasBegun f x.layers.focus x.counts
 begun_by f x r u = record {
-  first = held_by x.engine;
-  at_first = held_live f x.engine x.symbols (at_start f.texts) r.models r.entries r.horizon r.marked;
-  counts = record { refused = u.refused; recognitions = u.recognitions; peak = u.peak };
+  first = held_in x.layers.layers;
+  at_first = live_in f x (start_of f) r;
+  counts = record { refused = u.refused; recognitions = u.recognitions; peak = u.peak ∙ kept_is x.layers.layers };
 }
 
 -- some line is refused exactly where as many are counted
-refused_of : (f : Frame) (log : List ℕ) (es : List Effect) (last : State) → IsTraceOf f (lines_of log) es last
-    → nat_lt 0 (capped (refused_in es)) ≡ some_refused f log
-refused_of f log es last h =
-    positive (refused_in es) ∙ some_counted es
-    ∙ sym (ap (list_any is_refused) (trace_outcomes (setting_of f) f.models.chronicles (at_start f.texts) (numbered (lines_of log)) es last h))
+refused_of : (f : Frame) (log : List ℕ) (es : List Effect) (last : State) → IsTraceOf f (lines_of log) es last → SomeRefused f log (nat_lt 0 (capped (refused_in es)))
+refused_of f log es last h = (es, last, h, positive (refused_in es) ∙ some_counted es)
+
+-- it is said once whether one is
+pub one_refused : (f : Frame) (log : List ℕ) (a b : Bool) → SomeRefused f log a → SomeRefused f log b → a ≡ b
+one_refused f log a b h k =
+    h.3 ∙ ap (list_any has_refused) (one_run (setting_of f) (start_of f) (numbered (lines_of log)) h.0 k.0 h.1 k.1 h.2 k.2).0 ∙ sym k.3
 
 -- all lines of the log were taken
 module _ (f : Frame) (log : List ℕ) (focus : Bool) (start : Counts) (begun : HasBegun f focus start) (y : Session) (told : List Given)
     (all : Written)
-    (all_told : given_lines 4096 0 (lines_of log) ≡ told) (takes : Takes f focus start y (at_start f.texts) told unwritten all) where
+    (all_told : given_lines 4096 0 (lines_of log) ≡ told) (takes : Takes f focus start y (start_of f) told unwritten all) where
   trace_of : IsTraceOf f (lines_of log) takes.effects takes.last
-  trace_of = subst (λ (gs : List Given). IsTrace (setting_of f) f.models.chronicles (at_start f.texts) gs takes.effects takes.last) (sym all_told) takes.trace
+  trace_of = subst (λ (gs : List Given). IsRun (setting_of f) (start_of f) gs takes.effects takes.last) (sym all_told) takes.trace
 
   pub text_is : IsLogText f log all.text
   text_is = (takes.effects, takes.last, trace_of, takes.written)
@@ -138,21 +138,22 @@ module _ (f : Frame) (log : List ℕ) (focus : Bool) (start : Counts) (begun : H
     trace = trace_of;
     live = begun.first ∷ takes.live;
     all_live = (begun.at_first, takes.all_live);
-    left = held_by y.engine;
-    all_left = subst (λ (b : Bool). AllLive b f.models.chronicles (view_of takes.last) (held_by y.engine)) takes.same_focus
-        (held_live f y.engine y.symbols takes.last takes.state.models takes.state.entries takes.state.horizon takes.state.marked);
+    left = held_in y.layers.layers;
+    all_left = subst (λ (b : Bool). AllLive b f.placed (views_of (setting_of f) takes.last) (held_in y.layers.layers)) takes.same_focus
+        (live_in f y takes.last takes.state);
     entries = ap capped (sym takes.state.count);
     refused = counts_of.refused ∙ ap capped (zero-add (refused_in takes.effects));
     recognitions = counts_of.recognitions ∙ ap capped (zero-add (recognitions_in takes.effects));
-    kept = refl;
+    kept = kept_is y.layers.layers;
     peak = counts_of.peak;
   }
 
-  pub refused_is : has_refused y ≡ some_refused f log
+  pub refused_is : SomeRefused f log (counts_refused y)
   refused_is =
-      ap (nat_lt 0) (counts_of.refused ∙ ap capped (zero-add (refused_in takes.effects)))
-      ∙ refused_of f log takes.effects takes.last trace_of
+      let counted : counts_refused y ≡ nat_lt 0 (capped (refused_in takes.effects)) =
+      ap (nat_lt 0) (counts_of.refused ∙ ap capped (zero-add (refused_in takes.effects))) in
+      subst (SomeRefused f log) (sym counted) (refused_of f log takes.effects takes.last trace_of)
 
 -- a summary says whether a line was refused
-pub refused_by : (focus : Bool) (f : Frame) (log : List ℕ) (s : Summary) → IsSummary focus f log s → nat_lt 0 s.refused ≡ some_refused f log
-refused_by focus f log s h = ap (nat_lt 0) h.refused ∙ refused_of f log h.effects h.last h.trace
+pub refused_by : (focus : Bool) (f : Frame) (log : List ℕ) (s : Summary) → IsSummary focus f log s → SomeRefused f log (nat_lt 0 s.refused)
+refused_by focus f log s h = subst (SomeRefused f log) (sym (ap (nat_lt 0) h.refused)) (refused_of f log h.effects h.last h.trace)

@@ -13,7 +13,7 @@ use Rattle.crs_top.specs.CommandOutcomes.{Does, IsUnrefused}
 use Rattle.crs_top.specs.Drills.{SumsUp, Drills, RefusesNothing}
 use Rattle.crs_top.specs.Logs.{ended_as, Says}
 use Rattle.crs_top.specs.RunOutcomes.{standard}
-use Rattle.crs_top.specs.Texts.{Frame, some_refused}
+use Rattle.crs_session.specs.Texts.{Frame, SomeRefused}
 use Rattle.crs_words.specs.Commands.{Command, Run, Print, Drill, Import, Audit, Feeds, command_of}
 use Rattle.crs_words.proofs.Bounds.{drill_bounds}
 use Rattle.crs_top.proofs.MadeLogs.{none_refused}
@@ -37,10 +37,10 @@ said_clean due old new text s status d n e (inr k) = elim k.0 [
   | inr q ↦ neither old new status Memory q (λ z. cc) (λ z. cc)
 ]
 
-sum_clean : (focus : Bool) (f : Frame) (limit : ℕ) (log : List ℕ) (old new : Told) (status : Status) → some_refused f log ≡ false
+sum_clean : (focus : Bool) (f : Frame) (limit : ℕ) (log : List ℕ) (old new : Told) (status : Status) → ((b : Bool) → SomeRefused f log b → b ≡ false)
     → SumsUp focus f limit log old status new → RefusesNothing old status new
-sum_clean focus f limit log old new status clean (inl k) = said_clean (ended_as (some_refused f log)) old new k.1.0 k.1.1.0 status
-    (ap ended_as clean) (none k.1.1.0.refused (refused_by focus f log k.1.1.0 k.1.1.1 ∙ clean)) k.1.1.2 k.1.2
+sum_clean focus f limit log old new status clean (inl k) = said_clean (ended_as k.1.1) old new k.1.0 k.1.2.0 status
+    (ap ended_as (clean k.1.1 k.1.3)) (none k.1.2.0.refused (clean (nat_lt 0 k.1.2.0.refused) (refused_by focus f log k.1.2.0 k.1.2.1))) k.1.2.2 k.1.4
 sum_clean focus f limit log old new status clean (inr (inl k)) = neither old new status TooLong k.1 (λ z. cc) (λ z. cc)
 sum_clean focus f limit log old new status clean (inr (inr k)) = neither old new status Memory k.0 (λ z. cc) (λ z. cc)
 

@@ -6,13 +6,13 @@ use Rattle.crs_report.specs.Listeners.{Member, keep_members}
 use Rattle.crs_words.specs.Kinds.{kinds_of}
 use Rattle.crs_words.specs.Commands.{Command, Run, Print, Drill, Import, Audit, Feeds}
 use Rattle.crs_top.specs.declared.status.Status.TheVariants.{Memory}
-use Rattle.crs_top.specs.CommandOutcomes.{Does}
+use Rattle.crs_top.specs.CommandOutcomes.{Does, CompletesCommand}
 use Rattle.crs_top.specs.Imports.{IsTableLog, IsTableLine}
 use Rattle.crs_top.specs.Inputs.{bytes_of}
 use Rattle.crs_top.specs.Listings.{IsListed}
 use Rattle.crs_top.specs.Loads.{Loaded, IsModelLine}
 use Rattle.crs_top.specs.Logs.{tail_of}
-use Rattle.crs_top.specs.ModelTexts.{BreaksRule, IsFaulty}
+use Rattle.crs_top.specs.ModelTexts.{BreaksRule, IsFaulty, IsRunFaulty}
 use Rattle.crs_top.specs.Opening.{none_taken}
 use Rattle.crs_top.specs.RunOutcomes.{Most}
 use Rattle.crs_top.proofs.AuditRuns.{audit_ended}
@@ -41,7 +41,7 @@ wants base most members old None =
     (inr (inr refl, (0, record { files = refl; opened = refl; left = refl; turns = refl; within = omega arith; written = sym (append-nil old.written) })), refl)
 wants base most members old (Some (Run focus summary cite tally models log)) =
     run_ended base base cite (tail_of focus summary (keep_members (kinds_of tally) members)) most old old models log Memory
-    (ends_wanting base base (2 ^ 20) (λ text. ⊥) (IsModelLine (IsFaulty most.symbols (bytes_of old models))) old models
+    (ends_wanting base base (2 ^ 20) (λ text. ⊥) (IsModelLine (IsRunFaulty cite most.symbols (bytes_of old models))) old models
     0 0 0 [] old (none_loaded base (2 ^ 20) old models) (omega arith))
 wants base most members old (Some (Feeds focus models logs)) = (
   0,
@@ -79,3 +79,16 @@ wants base most members old (Some (Audit models log output)) =
 wants base most members old (Some (Print listing models)) =
     ends_wanting base base (2 ^ 20) (IsListed most.symbols listing (bytes_of old models)) (IsModelLine (BreaksRule most.symbols (bytes_of old models))) old models
     0 0 0 [] old (none_loaded base (2 ^ 20) old models) (omega arith)
+
+-- want of memory is left of each command
+pub wants_left : (most : Most) (old : Told) (command : Option Command) (fault : Type 0) → CompletesCommand most old command fault Memory
+wants_left most old None fault = λ n. inr refl
+wants_left most old (Some (Run focus summary cite tally models log)) fault =
+    record { accepted = λ f a l n. inr (inr refl); too_long = λ f a l n. inr refl; refused = λ line word h n. inr refl }
+wants_left most old (Some (Print listing models)) fault = record { accepted = λ m a n. inr refl; refused = λ line word h n. inr refl }
+wants_left most old (Some (Drill focus seed lines)) fault =
+    record { accepted = λ f a l n. inr refl; too_long = λ f a l n. inr refl; refused = λ line word h n. inr refl }
+wants_left most old (Some (Import table)) fault = record { written = λ log e n. inr refl; refused = λ e h n. inr refl }
+wants_left most old (Some (Audit models log output)) fault =
+    record { faultless = λ f a l m none n. inr refl; faulty = λ f a l m none n. inr refl; too_long = λ f a l n. inr refl; refused = λ line word h n. inr refl }
+wants_left most old (Some (Feeds focus models logs)) fault = record { accepted = λ f a l n. inr (inr refl); refused = λ line word h n. inr refl }

@@ -18,7 +18,7 @@ use Rattle.crs_top.specs.Loads.{AreTaken, IsModelLine, Loaded}
 use Rattle.crs_top.specs.Logs.{Appends, AppendsFront, Says}
 use Rattle.crs_top.specs.ModelTexts.{IsAccepted, IsFaulty}
 use Rattle.crs_top.specs.RunOutcomes.{Most, WithModels}
-use Rattle.crs_top.specs.Texts.{Frame, setting_of}
+use Rattle.crs_session.specs.Texts.{Frame, log_setting}
 
 -- the most bytes of a log by which an output is checked, and of the output
 abbrev pub most_checked : ℕ
@@ -26,7 +26,7 @@ most_checked = 2 ^ 26
 
 -- what claims are judged by: a log, with what it is read with
 abbrev pub ground_of : Frame → List ℕ → Ground
-ground_of f log = record { chronicles = f.models.chronicles; setting = setting_of f; texts = f.texts; log = log }
+ground_of f log = record { chronicles = f.models.chronicles; setting = log_setting f; texts = f.texts; log = log }
 
 -- the line of an output of whose claims none has a fault
 abbrev pub IsOkLine : Ground → List ℕ → List ℕ → Type 0

@@ -10,10 +10,10 @@ use Rattle.crs_report.specs.declared.summary.Summary.{Summary}
 use Rattle.crs_top.specs.declared.status.Status.TheVariants.{Done, Refusals, Rejected, Memory, TooLong}
 use Rattle.crs_top.specs.Loads.{IsModelLine}
 use Rattle.crs_top.specs.Logs.{ended_as, Appends, Says}
-use Rattle.crs_top.specs.ModelTexts.{IsAccepted, IsFaulty}
+use Rattle.crs_top.specs.ModelTexts.{IsAccepted, BreaksRule}
 use Rattle.crs_top.specs.RunOutcomes.{Most}
-use Rattle.crs_top.specs.Tallies.{IsSummaryText}
-use Rattle.crs_top.specs.Texts.{Frame, some_refused}
+use Rattle.crs_session.specs.Tallies.{IsSummaryText}
+use Rattle.crs_session.specs.Texts.{Frame, SomeRefused}
 
 -- for want of memory nothing is written
 abbrev pub IsWanting : Told → Status → Told → Type 0
@@ -22,7 +22,7 @@ IsWanting old status new = (status ≡ Memory) × (new ≡ old)
 -- what a run with a summary writes behind the text of the log is written, and the status says whether a line was refused
 abbrev pub SaysSummary : Bool → Frame → List ℕ → Told → Status → Told → Type 0
 SaysSummary focus f log old status new =
-    (text : List ℕ) × IsSummaryText focus f log text × Says (ended_as (some_refused f log)) old text status new
+    (text : List ℕ) × (refused : Bool) × IsSummaryText focus f log text × SomeRefused f log refused × Says (ended_as refused) old text status new
 
 -- of a log that has as many bytes as the limit nothing is written
 abbrev pub SumsUp : Bool → Frame → ℕ → List ℕ → Told → Status → Told → Type 0
@@ -36,18 +36,18 @@ abbrev pub Drills : Bool → Most → ℕ → ℕ → Told → Status → Told �
 Drills focus most seed lines old status new =
     ((f : Frame) × IsAccepted false most.symbols most.entries drill_models_text f
     × SumsUp focus f most.bytes (drill_text seed lines) old status new)
-    ⊎ ((text : List ℕ) × IsModelLine (IsFaulty most.symbols drill_models_text) text × Says Rejected old text status new)
+    ⊎ ((text : List ℕ) × IsModelLine (BreaksRule most.symbols drill_models_text) text × Says Rejected old text status new)
     ⊎ IsWanting old status new
 
 -- Where no fault rose, the status is that of a run over this log, unless memory is wanting.
 pub record CompletesDrill (most : Most) (seed lines : ℕ) (fault : Type 0) (status : Status) : Type 0 where
   pub accepted : (f : Frame) → IsAccepted false most.symbols most.entries drill_models_text f → length (drill_text seed lines) < most.bytes
       → (fault → ⊥)
-      → (status ≡ ended_as (some_refused f (drill_text seed lines))) ⊎ (status ≡ Memory)
+      → ((refused : Bool) × SomeRefused f (drill_text seed lines) refused × (status ≡ ended_as refused)) ⊎ (status ≡ Memory)
   pub too_long : (f : Frame) → IsAccepted false most.symbols most.entries drill_models_text f → most.bytes ≤ length (drill_text seed lines)
       → (fault → ⊥)
       → (status ≡ TooLong) ⊎ (status ≡ Memory)
-  pub refused : (line : ℕ) (word : ModelWord) → IsFaulty most.symbols drill_models_text line word → (fault → ⊥)
+  pub refused : (line : ℕ) (word : ModelWord) → BreaksRule most.symbols drill_models_text line word → (fault → ⊥)
       → (status ≡ Rejected) ⊎ (status ≡ Memory)
 
 -- a summary line that says that no line was refused

@@ -10,10 +10,10 @@ use Rattle.crs_top.specs.FeedRounds.{pairs_of, lines_in}
 use Rattle.crs_top.specs.Inputs.{bytes_of, after, Opened, IsRead}
 use Rattle.crs_top.specs.Loads.{AreTaken, IsModelLine}
 use Rattle.crs_top.specs.Logs.{Appends, AppendsFront}
-use Rattle.crs_top.specs.ModelTexts.{IsAccepted, IsFaulty}
+use Rattle.crs_top.specs.ModelTexts.{IsAcceptedAlone, IsFaulty}
 use Rattle.crs_top.specs.PairTexts.{IsFeedsText, IsTextBefore, IsTextAtRead, refuses_some}
-use Rattle.crs_top.specs.RunOutcomes.{Most, WithModels}
-use Rattle.crs_top.specs.Texts.{Frame}
+use Rattle.crs_top.specs.RunOutcomes.{Most}
+use Rattle.crs_session.specs.Texts.{Frame}
 
 -- the turns of one input
 abbrev pub turns_of : ℕ → List Turn → List Turn
@@ -90,6 +90,10 @@ abbrev pub FollowsFeeds : ℕ → ℕ → Frame → ℕ → Told → List (List 
 FollowsFeeds base now f limit old names status new =
     (n : ℕ) × (i : ℕ) × (ts : List ℕ) × (turns : List Turn) × DidFollow base now f limit old names n i ts turns status new
 
+-- the models, of which k bytes were taken, were read whole and are accepted for several logs as those of some frame of which P holds
+abbrev pub WithLoneModels : Most → List ℕ → ℕ → (Frame → Type 0) → Type 0
+WithLoneModels most models k P = (f : Frame) × IsAcceptedAlone most.symbols most.entries models f × (k ≡ length models) × P f
+
 -- Of the names of the models and of the logs n were handed to open, those of the logs only where the models are accepted, and i inputs were
 -- opened, all of these but where that was a read fault. k bytes of the models and so many of each log were taken; the turns are first of the
 -- models' input and then of the logs', and the logs' are prompt.
@@ -99,10 +103,10 @@ pub record DidFeeds (base now : ℕ) (most : Most) (old : Told) (models : List �
   pub models_read : IsRead base (2 ^ 20 + 1) (i < 1) (bytes_of old models) k of_models
   pub logs_read : AreRead (base + 1) most.bytes (i < length logs + 1) (map (bytes_of old) logs) ts of_logs
   pub failed : i < n → status ≡ ReadFault
-  pub prompt : 1 < n → WithModels false most (bytes_of old models) k
+  pub prompt : 1 < n → WithLoneModels most (bytes_of old models) k
       (λ f. ArePrompt f (map (bytes_of old) logs) (base + 1) old.written new.written of_logs)
   pub outcome : IsUnwritten (i < length logs + 1) old.written status new.written
-      ⊎ ((i ≡ length logs + 1) × WithModels false most (bytes_of old models) k
+      ⊎ ((i ≡ length logs + 1) × WithLoneModels most (bytes_of old models) k
       (λ f. FeedsOutcome f (map (bytes_of old) logs) most.bytes ts old.written status new.written))
       ⊎ ((n ≡ 1) × AreTaken (2 ^ 20) (bytes_of old models) k
       × RefusalOutcome (IsModelLine (IsFaulty most.symbols (bytes_of old models))) old.written status new.written)
@@ -115,7 +119,7 @@ RunsFeeds base now most old models logs status new =
 -- Where no fault rose, the status is, unless memory is wanting: by the lines of the logs, where the models are accepted and each log is short
 -- enough; Rejected, where the models are refused.
 pub record CompletesFeeds (most : Most) (old : Told) (models : List ℕ) (logs : List (List ℕ)) (fault : Type 0) (status : Status) : Type 0 where
-  pub accepted : (f : Frame) → IsAccepted false most.symbols most.entries (bytes_of old models) f
+  pub accepted : (f : Frame) → IsAcceptedAlone most.symbols most.entries (bytes_of old models) f
       → AllByRecursion (λ log. length (bytes_of old log) < most.bytes) logs → (fault → ⊥)
       → (status ≡ Done) ⊎ (status ≡ Refusals) ⊎ (status ≡ Memory)
   pub refused : (line : ℕ) (word : ModelWord) → IsFaulty most.symbols (bytes_of old models) line word → (fault → ⊥)

@@ -1,10 +1,4 @@
 pub mod Status
-pub mod Texts
-pub mod Written
-pub mod Notices
-pub mod Tallies
-pub mod Session
-pub mod Taking
 pub mod Logs
 pub mod ModelTexts
 pub mod Inputs
@@ -24,5 +18,6 @@ pub mod Opening
 pub mod PreparedMerged
 pub mod Summing
 pub mod CommandOutcomes
+pub mod Staying
 pub mod Rearranged
 pub mod CitedTexts

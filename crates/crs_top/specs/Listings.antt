@@ -1,5 +1,5 @@
 -- What a command that prints models does to a desk that tells its contents.
-use Rattle.std.specs.Prelude.{◌≡◌, ◌⊎◌, ℕ, List, ◌^◌}
+use Rattle.std.specs.Prelude.{◌≡◌, ◌⊎◌, ℕ, Bool, List, ◌^◌}
 use Rattle.crs_desk.specs.Desk.{Told}
 use Rattle.crs_model.specs.declared.models.ModelWord.{ModelWord}
 use Rattle.crs_model.specs.declared.models.ModelRefused.{ModelRefused}
@@ -13,7 +13,7 @@ use Rattle.crs_words.specs.declared.command.Listing.{Listing}
 use Rattle.crs_words.specs.declared.command.Listing.TheVariants.{Canonical, Minimal}
 use Rattle.crs_top.specs.Inputs.{bytes_of}
 use Rattle.crs_top.specs.Loads.{EndsWithInput, IsModelLine}
-use Rattle.crs_top.specs.ModelTexts.{AreModelsIn, BreaksRule, IsFaulty}
+use Rattle.crs_top.specs.ModelTexts.{AreModelsIn, BreaksRule, IsFaulty, IsRunFaulty}
 
 -- what is printed of models
 abbrev pub IsListing : Listing → Models (List ℕ) → List ℕ → Type 0
@@ -29,10 +29,15 @@ abbrev pub BreaksRuleText : ℕ → List ℕ → ModelRefused → Type 0
 BreaksRuleText symbols text (At line word) = BreaksRule symbols text line word
 BreaksRuleText symbols text NoMemory = Unit {0}
 
--- so it is where it is to be run
+-- so it is for several logs, for cited lines and for an audit
 abbrev pub IsFaultyText : ℕ → List ℕ → ModelRefused → Type 0
 IsFaultyText symbols text (At line word) = IsFaulty symbols text line word
 IsFaultyText symbols text NoMemory = Unit {0}
+
+-- so it is for a run, whose lines cite entries or not
+abbrev pub IsRunFaultyText : (cite : Bool) → ℕ → List ℕ → ModelRefused → Type 0
+IsRunFaultyText cite symbols text (At line word) = IsRunFaulty cite symbols text line word
+IsRunFaultyText cite symbols text NoMemory = Unit {0}
 
 -- a call that opened the models alone printed this listing, or refused them
 abbrev pub Prints : ℕ → ℕ → ℕ → Listing → Told → List ℕ → Status → Told → Type 0

@@ -3,21 +3,19 @@ use Rattle.std.specs.Prelude.{◌≡◌, ◌⊎◌, ℕ, ◌+◌, ◌<◌, ◌�
 use Rattle.std.specs.List.{AllByRecursion}
 use Rattle.crs_desk.specs.Desk.{Told, stream_at, advanced, Rises, HasRoom, Wrote}
 use Rattle.crs_desk.specs.declared.turn.Turn.{Turn}
-use Rattle.crs_log.specs.Reading.{Reader, Given, HasNoLine, ahead}
-use Rattle.crs_log.specs.Run.{State}
+use Rattle.crs_log.specs.Reading.{Reader}
 use Rattle.crs_top.specs.declared.status.Status.{Status}
 use Rattle.crs_top.specs.declared.status.Status.TheVariants.{Done, Refusals, Words, Rejected, ReadFault, WriteFault, Memory, TooLong}
-use Rattle.crs_top.specs.declared.session.Session.{Session}
-use Rattle.crs_engine.specs.Engines.{kept_of}
+use Rattle.crs_session.specs.declared.session.Session.{Session}
+use Rattle.crs_layers.specs.LayerStates.{accepted_in, kept_in}
 use Rattle.crs_report.specs.Listeners.{Notice, Member, notice_of, members_after, page_of}
 use Rattle.crs_report.specs.Summaries.{summary_line}
 use Rattle.crs_report.specs.declared.summary.Summary.{Summary}
-use Rattle.crs_top.specs.Session.{Represents}
-use Rattle.crs_top.specs.Tallies.{capped, IsSummaryText}
-use Rattle.crs_top.specs.Taking.{Takes}
-use Rattle.crs_top.specs.Notices.{AreLogNotices}
-use Rattle.crs_top.specs.Texts.{Frame, IsWholeText, IsLogText, some_refused}
-use Rattle.crs_top.specs.Written.{Written, unwritten}
+use Rattle.crs_session.specs.Tallies.{capped, IsSummaryText}
+use Rattle.crs_session.specs.Taking.{TakesPiece, TakesRest}
+use Rattle.crs_session.specs.Notices.{AreLogNotices}
+use Rattle.crs_session.specs.Texts.{Frame, IsWholeText, IsLogText, SomeRefused}
+use Rattle.crs_session.specs.Written.{Written}
 
 -- a text of which P holds was appended
 abbrev pub Appends : (List ℕ → Type 0) → List ℕ → List ℕ → Type 0
@@ -67,9 +65,9 @@ IsCutShort tail f log t old new =
 -- What holds at each status of a log that was opened, of which t bytes were read, and what was written.
 abbrev pub LogOutcome : Tail → Frame → List ℕ → ℕ → ℕ → List ℕ → Status → List ℕ → Type 0
 LogOutcome tail f log limit t old Done new =
-    (t ≡ length log) × (t < limit) × Appends (IsEndedText tail f log) old new × (some_refused f log ≡ false)
+    (t ≡ length log) × (t < limit) × Appends (IsEndedText tail f log) old new × SomeRefused f log false
 LogOutcome tail f log limit t old Refusals new =
-    (t ≡ length log) × (t < limit) × Appends (IsEndedText tail f log) old new × (some_refused f log ≡ true)
+    (t ≡ length log) × (t < limit) × Appends (IsEndedText tail f log) old new × SomeRefused f log true
 LogOutcome tail f log limit t old Words new = ⊥
 LogOutcome tail f log limit t old Rejected new = ⊥
 LogOutcome tail f log limit t old ReadFault new = (t < limit) × Appends (IsWholeText f (take t log)) old new
@@ -94,28 +92,12 @@ pub record ReadsLog (tail : Tail) (f : Frame) (old : Told) (input limit t : ℕ)
 abbrev pub HasReadLog : Tail → Frame → Told → ℕ → ℕ → Status → Told → Type 0
 HasReadLog tail f old input limit status new = (t : ℕ) × (more : List Turn) × ReadsLog tail f old input limit t more status new
 
--- the lines that a piece completes are taken, and their text is made
-pub record TakesPiece (old_lines new_lines : Reader) (old new : Session) (piece : List ℕ) (all : Written) : Type 0 where
-  pub told : List Given
-  pub limit : new_lines.limit ≡ old_lines.limit
-  pub finished : new_lines.finished ≡ old_lines.finished
-  pub fed : new_lines.fed ≡ old_lines.fed + length piece
-  pub none : HasNoLine new_lines
-  pub ahead_is : (m : List ℕ) → ahead old_lines (piece ++ m) ≡ told ++ ahead new_lines m
-  pub takes : (f : Frame) (s : State) → Represents f old s → Takes f old.engine.focus old.counts new s told unwritten all
-
--- so they are, and the listeners are told of the recognitions in the text
+-- the lines that a piece completes are taken, and the listeners are told of the recognitions in their text
 pub record TellsPiece (old_lines new_lines : Reader) (old new : Session) (was now : List Member) (piece text : List ℕ) : Type 0 where
   pub all : Written
   pub piece_is : TakesPiece old_lines new_lines old new piece all
   pub text_is : text ≡ all.text
   pub heard : now ≡ members_after (map notice_of all.found) was
-
--- the last line, which has no line feed, is taken, and its text is made
-pub record TakesRest (lines : Reader) (old new : Session) (all : Written) : Type 0 where
-  pub told : List Given
-  pub ahead_is : ahead lines [] ≡ told
-  pub takes : (f : Frame) (s : State) → Represents f old s → Takes f old.engine.focus old.counts new s told unwritten all
 
 -- the status of a log that was read to its end
 abbrev pub ended_as : Bool → Status
@@ -130,10 +112,10 @@ Says done old text status new =
 -- the numbers of a session
 abbrev pub summary_of : Session → Summary
 summary_of x = record {
-  entries = capped x.engine.accepted;
+  entries = capped (accepted_in x.layers);
   refused = x.counts.refused;
   recognitions = x.counts.recognitions;
-  kept = kept_of x.engine;
+  kept = kept_in x.layers;
   peak = x.counts.peak;
 }
 
@@ -152,7 +134,7 @@ TakesEnd summary members lines old new text =
     (last : Written) × (tail : List ℕ) × TakesRest lines old new last
     × IsTailOf summary (members_after (map notice_of last.found) members) new tail × (text ≡ last.text ++ tail)
 
--- whether some line was refused
+-- whether some line was refused, or some given entry not accepted
 abbrev pub has_refused : Session → Bool
 has_refused x = nat_lt 0 x.counts.refused
 

@@ -9,8 +9,8 @@ use Rattle.crs_feeds.specs.declared.rising.Rise.{Rise}
 use Rattle.crs_top.specs.declared.merged.MergedSession.{MergedSession}
 use Rattle.crs_top.specs.declared.merged.Origin.{Origin}
 use Rattle.crs_top.specs.PairTexts.{IsPairText}
-use Rattle.crs_top.specs.Session.{HasModels, ArePrintable, line_in}
-use Rattle.crs_top.specs.Texts.{Frame, setting_of, is_refused}
+use Rattle.crs_session.specs.Session.{HasModels, ArePrintable, line_in}
+use Rattle.crs_session.specs.Texts.{Frame, log_setting, is_refused}
 
 -- how many feeds there are
 abbrev pub feeds_of : MergedSession → ℕ
@@ -18,12 +18,12 @@ feeds_of x = length x.feeds.feeds
 
 -- the merged run behind these pairs
 abbrev pub run_at : Frame → MergedSession → List Pair → Merged
-run_at f x ps = run_behind (setting_of f) f.texts (feeds_of x) ps
+run_at f x ps = run_behind (log_setting f) f.texts (feeds_of x) ps
 
 -- the session stands behind these pairs
 pub record StandsBehind (f : Frame) (x : MergedSession) (ps : List Pair) : Type 0 where
   pub models : HasModels f x.feeds.engine.plans x.symbols
-  pub stand : StandBehind (setting_of f) f.texts ps x.feeds
+  pub stand : StandBehind (log_setting f) f.texts ps x.feeds
   pub texts : (run_at f x ps).texts ≡ x.symbols.texts
   pub few : length (run_at f x ps).accepted ≤ f.entries
   pub most_here : x.entries ≡ f.entries
@@ -37,9 +37,9 @@ pub record BringsPair (f : Frame) (old new : MergedSession) (ps : List Pair) (p 
   pub state : StandsBehind f new (ps ++ p ∷ [])
   pub count : feeds_of new ≡ feeds_of old
   pub text : List ℕ
-  pub is_text : IsPairText f.models.chronicles p (run_at f old ps) (after_pair (setting_of f) (run_at f old ps) p) text
+  pub is_text : IsPairText f.models.chronicles p (run_at f old ps) (after_pair (log_setting f) (run_at f old ps) p) text
   pub written : more ≡ out ++ text
-  pub refused : new.refused ≡ (old.refused || is_refused (after_pair (setting_of f) (run_at f old ps) p).1)
+  pub refused : new.refused ≡ (old.refused || is_refused (after_pair (log_setting f) (run_at f old ps) p).1)
 
 -- whatever pairs the session stands behind, a line of feed n takes it on so
 abbrev pub BringsLine : MergedSession → MergedSession → (n : ℕ) → Given → (out more : List ℕ) → Type 0

@@ -5,7 +5,6 @@ use Rattle.crs_desk.specs.Desk.{Told}
 use Rattle.crs_top.specs.declared.source.Source.{Source}
 use Rattle.crs_top.specs.declared.status.Status.{Status}
 use Rattle.crs_top.specs.declared.status.Status.TheVariants.{ReadFault, Memory}
-use Rattle.crs_top.specs.FeedOutcomes.{left_of}
 use Rattle.crs_top.specs.Inputs.{bytes_of, after, Opened}
 
 -- nothing was taken yet of any of these logs

@@ -9,7 +9,7 @@ use Rattle.crs_report.specs.declared.refusals.Fault.{Fault}
 use Rattle.crs_report.specs.OutputLines.{refusal_line}
 use Rattle.crs_feeds.specs.Merged.{Merged, Pair, at_start, after_pair, outcomes, has_risen, mark_of, view_of}
 use Rattle.crs_top.specs.FeedRounds.{pairs_before, pairs_of, lines_in}
-use Rattle.crs_top.specs.Texts.{Frame, setting_of, fault_of, answer_line, is_refused}
+use Rattle.crs_session.specs.Texts.{Frame, log_setting, fault_of, answer_line, is_refused}
 
 -- the refusal of a line of feed n, which is printed counted from 1
 abbrev pub feed_refusal : (n number : ℕ) → Fault → List ℕ
@@ -42,7 +42,7 @@ IsPairsText c cs m (p ∷ ps) text =
 
 -- for these pairs of n feeds from the start
 abbrev pub IsTextOfPairs : Frame → ℕ → List Pair → List ℕ → Type 0
-IsTextOfPairs f n ps text = IsPairsText (setting_of f) f.models.chronicles (at_start f.texts n) ps text
+IsTextOfPairs f n ps text = IsPairsText (log_setting f) f.models.chronicles (at_start f.texts n) ps text
 
 -- for whole logs
 abbrev pub IsFeedsText : Frame → List (List ℕ) → List ℕ → Type 0
@@ -58,4 +58,4 @@ IsTextAtRead f logs n taken text = IsTextBefore f logs (length (whole_lines (tak
 
 -- whether some line of these pairs is refused
 abbrev pub refuses_some : Frame → ℕ → List Pair → Bool
-refuses_some f n ps = list_any is_refused (outcomes (setting_of f) (at_start f.texts n) ps)
+refuses_some f n ps = list_any is_refused (outcomes (log_setting f) (at_start f.texts n) ps)

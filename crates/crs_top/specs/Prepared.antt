@@ -1,24 +1,25 @@
 -- What a models text prepares.
-use Rattle.std.specs.Prelude.{◌≡◌, ◌≤◌, ℕ, Bool, List, [], length, Ok}
+use Rattle.std.specs.Prelude.{◌≡◌, ◌≤◌, ℕ, Bool, List, [], length, map, Ok}
 use Rattle.std.specs.List.{AllByRecursion}
 use Rattle.crs_base.specs.declared.symbols.Sym.{Sym}
 use Rattle.crs_base.specs.Symbols.{Table, AreDistinct}
 use Rattle.crs_compile.specs.Compiled.{chronicles_in}
 use Rattle.crs_engine.specs.Engines.{plans_of, reaches_of}
-use Rattle.crs_log.specs.Run.{at_start}
+use Rattle.crs_layers.specs.Standing.{HasText}
 use Rattle.crs_model.specs.declared.models.Models.{Models as CodeModels}
 use Rattle.crs_model.specs.declared.plan.Plans.{Plans}
-use Rattle.crs_model.specs.Plans.{IsProper}
+use Rattle.crs_model.specs.Hierarchy.{AreInOrder}
+use Rattle.crs_model.specs.Plans.{IsProper, chronicle}
 use Rattle.crs_model.specs.ProperModels.{AreProper}
 use Rattle.crs_model.specs.Reach.{IsReachOfAll}
 use Rattle.crs_model.specs.Renaming.{text_in, renamed_models, AreModelsOf}
 use Rattle.crs_model.specs.SeenModels.{models_of}
-use Rattle.crs_model.specs.ShortLags.{AreInTime}
+use Rattle.crs_model.specs.ShortLags.{AreInTime, HaveShortLags}
 use Rattle.crs_parse.specs.Meant.{models_read}
-use Rattle.crs_top.specs.declared.session.Session.{Session}
-use Rattle.crs_top.specs.Session.{HasText, Represents, IsUncounted}
+use Rattle.crs_session.specs.declared.session.Session.{Session}
+use Rattle.crs_session.specs.Session.{Represents, IsUncounted}
 use Rattle.crs_top.specs.ModelTexts.{IsAccepted}
-use Rattle.crs_top.specs.Texts.{Frame}
+use Rattle.crs_session.specs.Texts.{Frame, start_of}
 
 -- the models are what the text means, with the symbols of this table, which may hold `symbols` of them
 pub record AreReadIn (symbols : ℕ) (text : List ℕ) (m : CodeModels) (table : Table) : Type 0 where
@@ -28,7 +29,7 @@ pub record AreReadIn (symbols : ℕ) (text : List ℕ) (m : CodeModels) (table :
   pub distinct : AreDistinct table.texts
   pub limit : table.limit ≡ symbols
 
--- the plans are those of the models that the text means, with the symbols of this table, and none of their chronicles gives entries
+-- the plans are those of the models that the text means, with the symbols of this table
 pub record ArePlansIn (symbols : ℕ) (text : List ℕ) (plans : Plans) (table : Table) : Type 0 where
   pub models : CodeModels
   pub read : AreReadIn symbols text models table
@@ -37,13 +38,18 @@ pub record ArePlansIn (symbols : ℕ) (text : List ℕ) (plans : Plans) (table :
   pub proper : AllByRecursion IsProper (plans_of plans)
   pub few : length plans.plans ≤ 64
   pub in_time : AreInTime Sym (models_of models).chronicles
-  pub none_emits : AllByRecursion (λ c. c.emits ≡ []) (models_of models).chronicles
+  pub in_order : AreInOrder (map (λ r. chronicle r.value) plans.plans)
+  pub lags : HaveShortLags (plans_of plans)
   pub reach : IsReachOfAll (reaches_of plans) plans.reach
+
+-- none of their chronicles gives entries
+abbrev pub AreLonePlans : Plans → Type 0
+AreLonePlans plans = AllByRecursion (λ c. c.emits ≡ []) (map (λ r. chronicle r.value) plans.plans)
 
 -- the session stands for the start of a run with the models that the text means, and reads the levels of events and cites entries, or not
 pub record IsPrepared (focus cite : Bool) (symbols entries : ℕ) (text : List ℕ) (x : Session) : Type 0 where
   pub frame : Frame
   pub accepted : IsAccepted cite symbols entries text frame
-  pub represents : Represents frame x (at_start frame.texts)
+  pub represents : Represents frame x (start_of frame)
   pub uncounted : IsUncounted x
-  pub focus_is : x.engine.focus ≡ focus
+  pub focus_is : x.layers.focus ≡ focus

@@ -9,8 +9,8 @@ use Rattle.crs_top.specs.declared.status.Status.TheVariants.{Done, Refusals, Wor
 use Rattle.crs_top.specs.Inputs.{bytes_of, after, Opened, IsRead}
 use Rattle.crs_top.specs.Loads.{AreTaken, IsModelLine}
 use Rattle.crs_top.specs.Logs.{Tail, IsEndedText, Appends, IsPrompt, IsCutShort, LogOutcome, AppendsFront}
-use Rattle.crs_top.specs.ModelTexts.{IsAccepted, IsFaulty}
-use Rattle.crs_top.specs.Texts.{Frame, IsWholeText, some_refused}
+use Rattle.crs_top.specs.ModelTexts.{IsAccepted, IsRunFaulty}
+use Rattle.crs_session.specs.Texts.{Frame, IsWholeText, SomeRefused}
 
 -- how much a call takes in: the distinct symbols, the accepted entries, the bytes of a log
 pub record Most : Type 0 where
@@ -35,12 +35,12 @@ WithModels cite most models k P = (f : Frame) × IsAccepted cite most.symbols mo
 abbrev pub Outcome : (cite : Bool) → Tail → Most → List ℕ → List ℕ → ℕ → ℕ → ℕ → ℕ → List ℕ → Status → List ℕ → Type 0
 Outcome cite tail most models log n i k t old Done new =
     (n ≡ 2) × (t ≡ length log) × (t < most.bytes)
-    × WithModels cite most models k (λ f. Appends (IsEndedText tail f log) old new × (some_refused f log ≡ false))
+    × WithModels cite most models k (λ f. Appends (IsEndedText tail f log) old new × SomeRefused f log false)
 Outcome cite tail most models log n i k t old Refusals new =
     (n ≡ 2) × (t ≡ length log) × (t < most.bytes)
-    × WithModels cite most models k (λ f. Appends (IsEndedText tail f log) old new × (some_refused f log ≡ true))
+    × WithModels cite most models k (λ f. Appends (IsEndedText tail f log) old new × SomeRefused f log true)
 Outcome cite tail most models log n i k t old Words new = ⊥
-Outcome cite tail most models log n i k t old Rejected new = (n ≡ 1) × AreTaken (2 ^ 20) models k × Appends (IsModelLine (IsFaulty most.symbols models)) old new
+Outcome cite tail most models log n i k t old Rejected new = (n ≡ 1) × AreTaken (2 ^ 20) models k × Appends (IsModelLine (IsRunFaulty cite most.symbols models)) old new
 Outcome cite tail most models log n i k t old ReadFault new =
     ((n < 2) × (new ≡ old))
     ⊎ ((n ≡ 2) × (i ≡ 2 → t < most.bytes) × WithModels cite most models k (λ f. Appends (IsWholeText f (take t log)) old new))
@@ -48,11 +48,11 @@ Outcome cite tail most models log n i k t old TooLong new =
     (n ≡ 2) × (t ≡ most.bytes) × WithModels cite most models k (λ f. Appends (IsWholeText f (take t log)) old new)
 Outcome cite tail most models log n i k t old WriteFault new =
     ((n ≡ 2) × WithModels cite most models k (λ f. IsCutShort tail f log t old new))
-    ⊎ ((n ≡ 1) × AreTaken (2 ^ 20) models k × AppendsFront (IsModelLine (IsFaulty most.symbols models)) old new)
+    ⊎ ((n ≡ 1) × AreTaken (2 ^ 20) models k × AppendsFront (IsModelLine (IsRunFaulty cite most.symbols models)) old new)
 Outcome cite tail most models log n i k t old Memory new =
     (new ≡ old)
     ⊎ ((n ≡ 2) × WithModels cite most models k (λ f. IsCutShort tail f log t old new))
-    ⊎ ((n ≡ 1) × AreTaken (2 ^ 20) models k × AppendsFront (IsModelLine (IsFaulty most.symbols models)) old new)
+    ⊎ ((n ≡ 1) × AreTaken (2 ^ 20) models k × AppendsFront (IsModelLine (IsRunFaulty cite most.symbols models)) old new)
 
 -- Of the two names n were handed to open, the log's only where the models are accepted, and i inputs were opened, all of these but where
 -- that was a read fault.
@@ -102,5 +102,5 @@ pub record Completes (cite : Bool) (most : Most) (old : Told) (models log : List
   pub too_long : (f : Frame) → IsAccepted cite most.symbols most.entries (bytes_of old models) f → most.bytes ≤ length (bytes_of old log)
       → (fault → ⊥)
       → (status ≡ TooLong) ⊎ (status ≡ Memory)
-  pub refused : (line : ℕ) (word : ModelWord) → IsFaulty most.symbols (bytes_of old models) line word → (fault → ⊥)
+  pub refused : (line : ℕ) (word : ModelWord) → IsRunFaulty cite most.symbols (bytes_of old models) line word → (fault → ⊥)
       → (status ≡ Rejected) ⊎ (status ≡ Memory)

@@ -15,7 +15,7 @@ use Rattle.crs_top.specs.Inputs.{bytes_of}
 use Rattle.crs_top.specs.MergedSession.{StandsBehind, BringsLine, feeds_of}
 use Rattle.crs_top.specs.PairTexts.{IsTextBefore, refuses_some}
 use Rattle.crs_top.specs.FeedRounds.{pairs_before, lines_in}
-use Rattle.crs_top.specs.Texts.{Frame}
+use Rattle.crs_session.specs.Texts.{Frame}
 
 -- a reader of lines that was fed nothing
 abbrev pub new_reader : Reader

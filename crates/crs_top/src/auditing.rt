@@ -8,7 +8,7 @@ ghost use Rattle.crs_top.specs.Status.{HasCauses};
 
 use crate::limits::Limits;
 use crate::loading::{MODELS_LIMIT, MODELS_TOO_LONG, load, read_whole, refuse, write_text};
-use crate::models::read_plans;
+use crate::models::read_lone_plans;
 use crate::status::Status;
 use crs_audit::{AuditRefused, audit, audit_line, audit_ok_line};
 use crs_base::Symbols;
@@ -78,7 +78,7 @@ pub fn plans_for_audit(
     ensures ok { IfOk result (λ read. AreAuditPlans limit text.now read.0 read.1) }
     ensures refused { IfErr result (IsFaultyText limit text.now) }
 {
-    read_plans(alloc, text, limit, seed)
+    read_lone_plans(alloc, text, limit, seed)
 }
 
 /// Opens a log or an output and reads it whole. An error is the status with which the call ends,

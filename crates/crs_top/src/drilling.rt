@@ -1,25 +1,24 @@
 // Drills: runs over made logs.
 ghost use Rattle.std.specs.Prelude.{◌≡◌, ◌≤◌, true, IfOk, OnOk};
 ghost use Rattle.crs_drill.specs.Drill.{drill_text};
-ghost use Rattle.crs_log.specs.Run.{at_start};
 ghost use Rattle.crs_top.specs.Drills.{Drills, SumsUp};
 ghost use Rattle.crs_top.specs.RunOutcomes.{most_of};
-ghost use Rattle.crs_top.specs.Session.{IsReady, Represents, IsUncounted};
+ghost use Rattle.crs_session.specs.Session.{IsReady, Represents, IsUncounted};
 ghost use Rattle.crs_top.specs.Status.{HasCauses};
 ghost use Rattle.crs_top.specs.Summing.{TakesLog, IsSummed, WritesSummary};
-ghost use Rattle.crs_top.specs.Texts.{Frame};
+ghost use Rattle.crs_session.specs.Texts.{Frame, start_of};
 
 use crate::limits::Limits;
 use crate::loading::{refuse, write_text};
-use crate::log::{end_status, summary_of, take_piece, take_rest};
+use crate::log::{end_status, summary_of};
 use crate::models::prepare;
-use crate::session::Session;
 use crate::status::Status;
 use crs_base::LINE_LIMIT;
 use crs_desk::Desk;
 use crs_drill::{drill_models, make_log};
 use crs_log::Lines;
 use crs_report::{Summary, push_summary_line};
+use crs_session::{Session, take_piece, take_rest};
 use std::alloc::{AllocError, Global};
 
 /// The most bytes of a made log that are taken at once.
@@ -68,7 +67,7 @@ fn sum_up<D: Desk>(
     ensures inputs { D.inputs desk.new ≡ D.inputs desk.old }
     ensures words { result ≡ Status.Words → ⊥ }
     ensures causes { HasCauses (D.in_faults desk.old) (D.in_faults desk.new) (D.out_faults desk.old) (D.out_faults desk.new) result }
-    ensures told { D.tells ≡ true → (f : Frame) → Represents f session.old (at_start f.texts) → SumsUp session.old.engine.focus f limit (drill_text seed lines) (D.told desk.old) result (D.told desk.new) }
+    ensures told { D.tells ≡ true → (f : Frame) → Represents f session.old (start_of f) → SumsUp session.old.layers.focus f limit (drill_text seed lines) (D.told desk.old) result (D.told desk.new) }
 {
     let Ok(log) = make_log(alloc, seed, lines) else {
         return Status::Memory;

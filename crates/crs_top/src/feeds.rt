@@ -6,7 +6,7 @@ ghost use Rattle.crs_top.specs.MergedSession.{IsReadyMerged, StandsBehind, feeds
 ghost use Rattle.crs_top.specs.RunOutcomes.{most_of};
 ghost use Rattle.crs_top.specs.Sources.{AreAt, AreSourcesAt, HaveStopped};
 ghost use Rattle.crs_top.specs.Status.{HasCauses};
-ghost use Rattle.crs_top.specs.Texts.{Frame};
+ghost use Rattle.crs_session.specs.Texts.{Frame};
 
 use crate::limits::Limits;
 use crate::loading::{MODELS_LIMIT, MODELS_TOO_LONG, load, refuse, write_text};

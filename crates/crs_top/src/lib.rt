@@ -12,21 +12,16 @@ mod log;
 mod merged;
 mod merging;
 mod models;
-mod output;
 mod printing;
 mod rounds;
 mod run;
-mod session;
 mod source;
 mod sources;
 mod status;
-mod step;
 mod table;
 
 pub use auditing::{CHECKED_LIMIT, plans_for_audit};
-pub use laws::{
-    cited_texts_have_no_fault, log_text_is_one, rearranged_logs_have_one_text, recognitions_stay,
-};
+pub use laws::{cited_texts_have_no_fault, rearranged_logs_have_one_text, recognitions_stay};
 pub use limits::{Limits, STANDARD};
 pub use run::{run_program, run_with};
 pub use status::Status;

@@ -2,78 +2,21 @@
 ghost use Rattle.std.specs.Prelude.{◌≡◌, ◌<◌, ◌+◌, ◌^◌, ◌++◌, ℕ, List as Items, true, false, length, map, IfOk, OnOk};
 ghost use Rattle.std.specs.List.{AllByRecursion};
 ghost use Rattle.crs_desk.specs.Desk.{stream_at};
-ghost use Rattle.crs_log.specs.Run.{at_start};
 ghost use Rattle.crs_report.specs.Listeners.{notice_of, members_after};
-ghost use Rattle.crs_top.specs.Session.{IsReady, Represents, IsUncounted};
-ghost use Rattle.crs_top.specs.Taking.{TakesLines};
-ghost use Rattle.crs_top.specs.Texts.{Frame};
-ghost use Rattle.crs_top.specs.Logs.{tail_of, summary_of, IsSummaryOf, IsTailOf, HasReadLog, TakesPiece, TellsPiece, TakesRest, TakesEnd, Finishes, ended_as};
+ghost use Rattle.crs_session.specs.Session.{IsReady, Represents, IsUncounted};
+ghost use Rattle.crs_session.specs.Texts.{Frame, start_of};
+ghost use Rattle.crs_top.specs.Logs.{tail_of, summary_of, IsSummaryOf, IsTailOf, HasReadLog, TellsPiece, TakesEnd, Finishes, ended_as};
 ghost use Rattle.crs_top.specs.Status.{HasCauses};
-ghost use Rattle.crs_top.specs.Written.{HasEntry};
+ghost use Rattle.crs_session.specs.Written.{HasEntry};
 
 use crate::loading::write_text;
-use crate::output::Output;
-use crate::session::Session;
 use crate::status::Status;
-use crate::step::take_line;
 use crs_base::LINE_LIMIT;
 use crs_desk::{Desk, DeskError, write_all};
 use crs_log::Lines;
 use crs_report::{Listener, Summary, push_pages, push_summary_line, tell_each};
+use crs_session::{Output, Session, take_piece, take_rest};
 use std::alloc::{AllocError, Global};
-
-/// Takes each line that is held whole, and adds what it brings to the output.
-fn take_lines(
-    alloc: Global,
-    session: &mut Session,
-    lines: &mut Lines,
-    out: &mut Output,
-) -> Result<(), AllocError>
-    requires ready { IsReady session.old }
-    requires limit { lines.old.limit ≡ 4096 }
-    ensures { OnOk result (TakesLines lines.old lines.new session.old session.new out.old out.new) }
-{
-    let mut tokens = Vec::new(alloc);
-    while let Some(line) = lines.next_line() {
-        take_line(alloc, session, line, &mut tokens, out)?;
-    }
-    Ok(())
-}
-
-/// What is written for the lines that a piece completes.
-pub fn take_piece(
-    alloc: Global,
-    session: &mut Session,
-    lines: &mut Lines,
-    piece: &[u8],
-) -> Result<Output, AllocError>
-    requires ready { IsReady session.old }
-    requires limit { lines.old.limit ≡ 4096 }
-    requires open { lines.old.finished ≡ false }
-    requires room { lines.old.fed + length piece.now < 2 ^ 64 }
-    ensures { IfOk result (TakesPiece lines.old lines.new session.old session.new piece.now) }
-{
-    lines.feed(piece)?;
-    let mut output = Output::new(alloc);
-    take_lines(alloc, session, lines, &mut output)?;
-    Ok(output)
-}
-
-/// What is written for a last line that has no line feed.
-pub fn take_rest(
-    alloc: Global,
-    session: &mut Session,
-    lines: &mut Lines,
-) -> Result<Output, AllocError>
-    requires ready { IsReady session.old }
-    requires limit { lines.old.limit ≡ 4096 }
-    ensures { IfOk result (TakesRest lines.old session.old session.new) }
-{
-    lines.finish();
-    let mut output = Output::new(alloc);
-    take_lines(alloc, session, lines, &mut output)?;
-    Ok(output)
-}
 
 /// Tells the listeners of the recognitions of an output, and answers its text.
 fn tell(listeners: &mut Vec<Box<dyn Listener>>, output: Output) -> Result<Vec<u8>, AllocError>
@@ -120,10 +63,10 @@ pub fn summary_of(session: &Session) -> Summary
     ensures { result ≡ summary_of session.now }
 {
     Summary {
-        entries: session.engine.accepted() as u64,
+        entries: session.layers.accepted() as u64,
         refused: session.counts.refused,
         recognitions: session.counts.recognitions,
-        kept: session.engine.kept(),
+        kept: session.layers.kept(),
         peak: session.counts.peak,
     }
 }
@@ -213,7 +156,7 @@ pub fn read_log<D: Desk>(
     ensures inputs { D.inputs desk.new ≡ D.inputs desk.old }
     ensures words { result ≡ Status.Words → ⊥ }
     ensures causes { HasCauses (D.in_faults desk.old) (D.in_faults desk.new) (D.out_faults desk.old) (D.out_faults desk.new) result }
-    ensures told { D.tells ≡ true → (f : Frame) → Represents f session.old (at_start f.texts) → HasReadLog (tail_of session.old.engine.focus summary (map (λ b. (kind b, figures b)) listeners.old.items)) f (D.told desk.old) log limit result (D.told desk.new) }
+    ensures told { D.tells ≡ true → (f : Frame) → Represents f session.old (start_of f) → HasReadLog (tail_of session.old.layers.focus summary (map (λ b. (kind b, figures b)) listeners.old.items)) f (D.told desk.old) log limit result (D.told desk.new) }
 {
     let Ok(mut lines) = Lines::new(alloc, LINE_LIMIT) else {
         return Status::Memory;

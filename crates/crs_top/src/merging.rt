@@ -11,11 +11,9 @@ ghost use Rattle.crs_log.specs.SeenItems.{event_seen, text_of, what_seen, IsInRa
 ghost use Rattle.crs_log.specs.SeenNames.{name_seen, IsTextAt};
 ghost use Rattle.crs_top.specs.MergedSession.{IsReadyMerged, BringsLine, BringsItem, IsPrintableRise, rise_lines, feeds_of};
 ghost use Rattle.crs_top.specs.PairTexts.{feed_refusal};
-ghost use Rattle.crs_top.specs.Session.{IsShort};
+ghost use Rattle.crs_session.specs.Session.{IsShort};
 
 use crate::merged::{MergedSession, Origin};
-use crate::output::push_lines;
-use crate::step::is_blank;
 use crs_base::{Steps, Sym, Symbols, Token, push_bytes, push_number};
 use crs_engine::Refused;
 use crs_feeds::Rise;
@@ -23,6 +21,7 @@ use crs_log::naming::{NameRefused, known};
 use crs_log::{EntryRefused, Item, ItemRefused, Known, Line, Raw, make_named, read_item};
 use crs_model::Plans;
 use crs_report::{Fault, push_refusal_line};
+use crs_session::{is_blank, push_lines};
 use std::alloc::{AllocError, Global};
 use std::marker::Brand;
 use std::sync::ledger::{Blank, Ledger};

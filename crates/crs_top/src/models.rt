@@ -1,34 +1,49 @@
 // What a log is read with.
-ghost use Rattle.std.specs.Prelude.{◌≤◌, IfOk, IfErr};
-ghost use Rattle.crs_top.specs.Listings.{IsFaultyText};
-ghost use Rattle.crs_top.specs.Prepared.{IsPrepared, ArePlansIn};
+ghost use Rattle.std.specs.Prelude.{◌≡◌, ◌≤◌, true, IfOk, IfErr};
+ghost use Rattle.crs_top.specs.Listings.{BreaksRuleText, IsFaultyText, IsRunFaultyText};
+ghost use Rattle.crs_top.specs.Prepared.{IsPrepared, ArePlansIn, AreLonePlans};
 ghost use Rattle.crs_top.specs.PreparedMerged.{IsPreparedMerged};
 
 use crate::limits::Limits;
 use crate::listing::read_text;
 use crate::merged::MergedSession;
-use crate::session::{Counts, Session};
 use crs_base::Symbols;
 use crs_compile::compile;
-use crs_engine::Engine;
 use crs_feeds::Feeds;
+use crs_layers::Layers;
 use crs_model::{ModelRefused, ModelWord, Plans, first_emit_line};
+use crs_session::{Counts, Session};
 use std::alloc::Global;
 
 /// The plans of the models that a text means, and the table of their symbols, which holds at most
-/// `symbols` of them and hashes them from the seed. Models of which a chronicle gives entries are
-/// refused, with the line that closes the first such one: nothing here would read what it gives.
-pub fn read_plans(
+/// `symbols` of them and hashes them from the seed.
+fn read_plans(
     alloc: Global,
     text: &[u8],
     symbols: u32,
     seed: u64,
 ) -> Result<(Plans, Symbols), ModelRefused>
     ensures ok { IfOk result (λ read. ArePlansIn symbols text.now read.0 read.1) }
-    ensures refused { IfErr result (IsFaultyText symbols text.now) }
+    ensures refused { IfErr result (BreaksRuleText symbols text.now) }
 {
     let (models, symbols) = read_text(alloc, text, symbols, seed)?;
     let plans = compile(alloc, models)?;
+    Ok((plans, symbols))
+}
+
+/// The plans of models of which no chronicle gives entries. Others are refused, with the line that
+/// closes the first chronicle that gives some: over several logs nothing would read what it gives, and
+/// an entry that is given has no line in a log that could be cited.
+pub fn read_lone_plans(
+    alloc: Global,
+    text: &[u8],
+    symbols: u32,
+    seed: u64,
+) -> Result<(Plans, Symbols), ModelRefused>
+    ensures ok { IfOk result (λ read. ArePlansIn symbols text.now read.0 read.1 × AreLonePlans read.0) }
+    ensures refused { IfErr result (IsFaultyText symbols text.now) }
+{
+    let (plans, symbols) = read_plans(alloc, text, symbols, seed)?;
     if let Some(line) = first_emit_line(plans.plans.as_slice()) {
         return Err(ModelRefused::At {
             line,
@@ -36,6 +51,23 @@ pub fn read_plans(
         });
     }
     Ok((plans, symbols))
+}
+
+/// The plans of the models that a text means for a run. With cite no chronicle may give entries.
+fn read_run_plans(
+    alloc: Global,
+    text: &[u8],
+    cite: bool,
+    symbols: u32,
+    seed: u64,
+) -> Result<(Plans, Symbols), ModelRefused>
+    ensures ok { IfOk result (λ read. ArePlansIn symbols text.now read.0 read.1 × (cite ≡ true → AreLonePlans read.0)) }
+    ensures refused { IfErr result (IsRunFaultyText cite symbols text.now) }
+{
+    if cite {
+        return read_lone_plans(alloc, text, symbols, seed);
+    }
+    read_plans(alloc, text, symbols, seed)
 }
 
 /// A session at the start of a log, with the models that the text means. With focus the levels of
@@ -50,13 +82,13 @@ pub fn prepare(
     seed: u64,
 ) -> Result<Session, ModelRefused>
     ensures ok { IfOk result (IsPrepared focus cite limits.symbols limits.entries text.now) }
-    ensures refused { IfErr result (IsFaultyText limits.symbols text.now) }
+    ensures refused { IfErr result (IsRunFaultyText cite limits.symbols text.now) }
 {
-    let (plans, symbols) = read_plans(alloc, text, limits.symbols, seed)?;
-    let engine = Engine::new(alloc, plans, focus, limits.entries)?;
-    let peak = engine.kept();
+    let (plans, symbols) = read_run_plans(alloc, text, cite, limits.symbols, seed)?;
+    let layers = Layers::new(alloc, plans, focus, limits.entries)?;
+    let peak = layers.kept();
     Ok(Session {
-        engine,
+        layers,
         symbols,
         entries: limits.entries,
         cite,
@@ -84,7 +116,7 @@ pub fn prepare_merged(
     ensures ok { IfOk result (IsPreparedMerged limits.symbols limits.entries feeds text.now) }
     ensures refused { IfErr result (IsFaultyText limits.symbols text.now) }
 {
-    let (plans, symbols) = read_plans(alloc, text, limits.symbols, seed)?;
+    let (plans, symbols) = read_lone_plans(alloc, text, limits.symbols, seed)?;
     let feeds = Feeds::new(alloc, plans, focus, limits.entries, feeds)?;
     Ok(MergedSession {
         feeds,

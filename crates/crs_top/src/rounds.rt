@@ -4,7 +4,7 @@ ghost use Rattle.crs_desk.specs.Desk.{Told};
 ghost use Rattle.crs_top.specs.MergedSession.{IsReadyMerged, feeds_of};
 ghost use Rattle.crs_top.specs.Sources.{AreAt, AreSourcesAt, Flushes, IsSourceAt, TakesHeld, TakesTurn, TakesRound, TakesRounds, source_at};
 ghost use Rattle.crs_top.specs.Status.{HasCauses};
-ghost use Rattle.crs_top.specs.Texts.{Frame};
+ghost use Rattle.crs_session.specs.Texts.{Frame};
 ghost use Rattle.crs_top.specs.declared.source.Source.{Source as SourceValue};
 
 use crate::merged::MergedSession;

@@ -1,9 +1,8 @@
 // The top call.
 ghost use Rattle.std.specs.Prelude.{◌≡◌, ◌<◌, ◌≤◌, ◌+◌, ◌-◌, ◌^◌, ◌⊎◌, true, false, None, map, string_bytes};
 ghost use Rattle.crs_desk.specs.Desk.{Rose};
-ghost use Rattle.crs_log.specs.Run.{at_start};
-ghost use Rattle.crs_top.specs.Session.{IsReady, Represents, IsUncounted};
-ghost use Rattle.crs_top.specs.Texts.{Frame};
+ghost use Rattle.crs_session.specs.Session.{IsReady, Represents, IsUncounted};
+ghost use Rattle.crs_session.specs.Texts.{Frame, start_of};
 ghost use Rattle.crs_words.specs.Commands.{command_of};
 ghost use Rattle.crs_top.specs.Logs.{tail_of};
 ghost use Rattle.crs_top.specs.RunOutcomes.{Runs, Follows, most_of, standard};
@@ -18,11 +17,11 @@ use crate::loading::{MODELS_LIMIT, MODELS_TOO_LONG, load, refuse, write_text};
 use crate::log::read_log;
 use crate::models::prepare;
 use crate::printing::print;
-use crate::session::Session;
 use crate::status::Status;
 use crate::table::import_table;
 use crs_desk::{Desk, DeskError};
 use crs_report::{Listener, keep_kinds};
+use crs_session::Session;
 use crs_words::{Command, read_words, usage_text};
 use std::alloc::Global;
 
@@ -178,8 +177,8 @@ fn follow<D: Desk>(
     ensures causes { HasCauses (D.in_faults desk.old) (D.in_faults desk.new) (D.out_faults desk.old) (D.out_faults desk.new) result }
     ensures least { D.inputs desk.old ≤ D.inputs desk.new }
     ensures most { D.inputs desk.new ≤ D.inputs desk.old + 1 }
-    ensures told { D.tells ≡ true → (f : Frame) → Represents f session.old (at_start f.texts)
-        → Follows (D.inputs desk.old) (D.inputs desk.new) (tail_of session.old.engine.focus summary (map (λ b. (kind b, figures b)) listeners.old.items)) f limit (D.told desk.old) log.now result (D.told desk.new) }
+    ensures told { D.tells ≡ true → (f : Frame) → Represents f session.old (start_of f)
+        → Follows (D.inputs desk.old) (D.inputs desk.new) (tail_of session.old.layers.focus summary (map (λ b. (kind b, figures b)) listeners.old.items)) f limit (D.told desk.old) log.now result (D.told desk.new) }
 {
     let input = match desk.open(log) {
         Ok(input) => input,

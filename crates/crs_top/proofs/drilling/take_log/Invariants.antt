@@ -1,5 +1,5 @@
 use Rattle.std.proofs.Common.{length, false, ◌≡◌, ◌+◌}
-use Rattle.crs_top.specs.Session.{IsReady}
+use Rattle.crs_session.specs.Session.{IsReady}
 use Rattle.crs_top.proofs.Summing.{HasTaken}
 use Rattle.crs_top.proofs.drilling.take_log.Given as goal
 

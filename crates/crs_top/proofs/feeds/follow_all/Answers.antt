@@ -1,6 +1,6 @@
-use Rattle.std.proofs.Common.{◌≡◌, ◌∙◌, ap, sym, subst, arith, length, map, List, [], ℕ, ◌+◌}
+use Rattle.std.proofs.Common.{◌≡◌, ◌∙◌, ap, sym, subst, arith, length, map, List, [], ◌+◌}
 use Rattle.std.proofs.lemmas.List.{length-map}
-use Rattle.crs_top.specs.Sources.{AreSourcesAt, AreAt, new_sources}
+use Rattle.crs_top.specs.Sources.{AreSourcesAt, AreAt}
 use Rattle.crs_top.specs.declared.source.Source.{Source}
 use Rattle.crs_top.proofs.RoundEnds.{count_new, places_new, at_first, follow_stopped, follow_unopened}
 use Rattle.crs_top.proofs.feeds.follow_all.Goals as goal

@@ -1,4 +1,4 @@
-use Rattle.std.proofs.Common.{◌≡◌, ◌∙◌, ap, sym, subst, List, ℕ}
+use Rattle.std.proofs.Common.{sym, subst, List, ℕ}
 use Rattle.crs_top.specs.Sources.{AreAt}
 use Rattle.crs_top.proofs.RoundEnds.{ends}
 use Rattle.crs_top.proofs.feeds.read_all_feeds.Goals as goal

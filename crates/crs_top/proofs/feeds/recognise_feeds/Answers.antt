@@ -1,4 +1,4 @@
-use Rattle.std.proofs.Common.{◌≡◌, ◌<◌, ◌∙◌, ap, arith, length, codes, map, ◌^◌}
+use Rattle.std.proofs.Common.{ap, arith, length, codes, map, ◌^◌}
 use Rattle.std.proofs.lemmas.List.{length-map}
 use Rattle.crs_top.specs.Loads.{IsTooLong, IsModelLine}
 use Rattle.crs_top.specs.Inputs.{bytes_of}

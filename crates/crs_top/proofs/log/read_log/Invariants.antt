@@ -1,7 +1,6 @@
 use Rattle.std.proofs.Common.{◌≡◌, ◌≤◌, ◌-◌, true, false, map}
-use Rattle.crs_log.specs.Run.{at_start}
-use Rattle.crs_top.specs.Session.{IsReady, Represents}
-use Rattle.crs_top.specs.Texts.{Frame}
+use Rattle.crs_session.specs.Session.{IsReady, Represents}
+use Rattle.crs_session.specs.Texts.{Frame, start_of}
 use Rattle.crs_top.proofs.LogReading.{Reading}
 use Rattle.crs_top.proofs.log.read_log.Given as goal
 
@@ -17,7 +16,7 @@ invariant-loop-taken g l =
       short : l.lines.limit ≡ 4096;
       open_still : l.lines.finished ≡ false;
       fed : l.lines.fed ≡ l.taken;
-      told : d.tells ≡ true → (f : Frame) → Represents f l.fn.session (at_start f.texts) → Reading l.fn.session.engine.focus
+      told : d.tells ≡ true → (f : Frame) → Represents f l.fn.session (start_of f) → Reading l.fn.session.layers.focus
           (map (λ b. ((goal.Listener-dyn g (b.vtable, b.value)).kind b.value, (goal.Listener-dyn g (b.vtable, b.value)).figures b.value)) l.fn.listeners.items)
           (map (λ b. ((goal.Listener-dyn g (b.vtable, b.value)).kind b.value, (goal.Listener-dyn g (b.vtable, b.value)).figures b.value)) l.listeners.items) f (d.told l.fn.desk) l.fn.log l.limit l.taken l.session l.lines (d.told l.desk);
     }

@@ -1,6 +1,6 @@
 use Rattle.std.proofs.Common.{◌++◌, ◌∙◌, ap, subst, sym, List, ℕ, map}
 use Rattle.std.specs.List.{AllByRecursion}
-use Rattle.crs_top.specs.Written.{HasEntry}
+use Rattle.crs_session.specs.Written.{HasEntry}
 use Rattle.crs_report.specs.Listeners.{Member}
 use Rattle.crs_top.specs.Logs.{IsTailOf}
 use Rattle.crs_top.proofs.log.take_end.Goals as goal

@@ -1,7 +1,7 @@
 use Rattle.std.proofs.Common.{subst, sym}
 use Rattle.std.specs.Prelude.{All}
 use Rattle.std.proofs.lemmas.List.Elements.{All-from_recursion}
-use Rattle.crs_top.specs.Written.{HasEntry}
+use Rattle.crs_session.specs.Written.{HasEntry}
 use Rattle.crs_top.proofs.log.tell.Goals as goal
 
 pub tell_each-requires : goal.tell_each-requires

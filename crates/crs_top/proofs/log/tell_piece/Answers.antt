@@ -1,6 +1,6 @@
 use Rattle.std.proofs.Common.{subst, sym}
 use Rattle.std.specs.List.{AllByRecursion}
-use Rattle.crs_top.specs.Written.{HasEntry}
+use Rattle.crs_session.specs.Written.{HasEntry}
 use Rattle.crs_top.proofs.log.tell_piece.Goals as goal
 
 pub tell-requires : goal.tell-requires

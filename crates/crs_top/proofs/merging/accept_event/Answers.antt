@@ -1,4 +1,4 @@
-use Rattle.std.proofs.Common.{◌≡◌, ◌∙◌, ap, arith, sym}
+use Rattle.std.proofs.Common.{◌≡◌, ◌∙◌, ap, arith}
 use Rattle.std.proofs.lemmas.Bool.{le-ltb}
 use Rattle.std.proofs.lemmas.List.{length-map}
 use Rattle.crs_log.proofs.Numbered.{named_fits}
@@ -7,10 +7,10 @@ use Rattle.crs_log.specs.Known.{Named, entry_of_event}
 use Rattle.crs_log.specs.Run as run
 use Rattle.crs_log.specs.SeenItems.{event_seen, text_of}
 use Rattle.crs_feeds.specs.Merged.{new_feed}
-use Rattle.std.specs.Prelude.{get_or, nat_lt}
+use Rattle.std.specs.Prelude.{get_or}
 use Rattle.crs_top.proofs.MergedEvents.{named_is, verdict_is, full_is, values_is, accept_brings}
 use Rattle.crs_top.proofs.MergedSteps.{refuse_item}
-use Rattle.crs_top.proofs.Results.{not_true}
+use Rattle.crs_session.proofs.Results.{not_true}
 use Rattle.crs_top.proofs.merging.accept_event.Goals as goal
 
 pub make_named-requires-clause-arity : goal.make_named-requires-clause-arity

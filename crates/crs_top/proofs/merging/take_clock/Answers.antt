@@ -1,4 +1,4 @@
-use Rattle.std.proofs.Common.{◌≡◌, ◌∙◌, ◌++◌, ap, get_or, nat_lt, false, true, List, ℕ, subst}
+use Rattle.std.proofs.Common.{◌≡◌, ◌∙◌, ◌++◌, ap, get_or, nat_lt, true, subst}
 use Rattle.std.specs.Prelude.{OnOk}
 use Rattle.std.proofs.lemmas.Result.{IfOk-weaker}
 use Rattle.crs_engine.specs.declared.refused.Refused.TheVariants.{Stopped, Back}
@@ -9,8 +9,8 @@ use Rattle.crs_log.specs.Run as run
 use Rattle.crs_model.specs.declared.plan.Plans.{Plans}
 use Rattle.crs_top.specs.MergedSession.{BringsItem, rise_lines}
 use Rattle.crs_top.specs.PairTexts.{feed_refusal}
-use Rattle.crs_top.specs.Texts.{fault_of}
-use Rattle.crs_top.proofs.Marking.{fine_by, same_by}
+use Rattle.crs_session.specs.Texts.{fault_of}
+use Rattle.crs_session.proofs.Marking.{fine_by, same_by}
 use Rattle.crs_top.proofs.MergedSteps.{clock_printable, clock_brings, back_is, back_by, refuse_item}
 use Rattle.crs_top.proofs.merging.take_clock.Goals as goal
 

@@ -1,9 +1,9 @@
-use Rattle.std.proofs.Common.{◌≡◌, ◌∙◌, ap, get_or}
-use Rattle.std.proofs.Common.{◌++◌, List, ℕ}
+use Rattle.std.proofs.Common.{◌≡◌, ◌∙◌, ap}
+use Rattle.std.proofs.Common.{◌++◌}
 use Rattle.std.proofs.lemmas.Result.{IfOk-weaker}
 use Rattle.crs_log.specs.Items.{Finish}
 use Rattle.crs_model.specs.declared.plan.Plans.{Plans}
-use Rattle.crs_top.specs.MergedSession.{BringsItem, IsPrintableRise, rise_lines}
+use Rattle.crs_top.specs.MergedSession.{BringsItem, rise_lines}
 use Rattle.crs_top.proofs.MergedSteps.{end_printable, end_brings}
 use Rattle.crs_top.proofs.merging.take_end.Goals as goal
 

@@ -1,6 +1,5 @@
-use Rattle.std.proofs.Common.{◌≡◌, ◌∙◌, ap, sym}
+use Rattle.std.proofs.Common.{◌≡◌}
 use Rattle.std.specs.Prelude.{OnOk, ◌++◌, get_or}
-use Rattle.std.proofs.lemmas.Result.{IfOk-weaker}
 use Rattle.crs_log.specs.Items.{Happens}
 use Rattle.crs_log.specs.Known.{Other, BadArity, BadValue}
 use Rattle.crs_log.specs.Run as run
@@ -8,7 +7,7 @@ use Rattle.crs_log.specs.SeenItems.{event_seen}
 use Rattle.crs_feeds.specs.Merged.{new_feed}
 use Rattle.crs_feeds.proofs.Horizons.{in_time}
 use Rattle.crs_top.specs.PairTexts.{feed_refusal}
-use Rattle.crs_top.specs.Texts.{fault_of}
+use Rattle.crs_session.specs.Texts.{fault_of}
 use Rattle.crs_top.proofs.MergedEvents.{late_is, not_late, verdict_is, known_is}
 use Rattle.crs_top.proofs.MergedSteps.{passed_brings, refuse_item}
 use Rattle.crs_top.proofs.merging.take_event.Goals as goal

@@ -1,11 +1,10 @@
-use Rattle.std.proofs.Common.{◌≡◌, ◌∙◌, ap, sym, refl, get_or}
-use Rattle.std.proofs.lemmas.Result.{IfOk-weaker}
+use Rattle.std.proofs.Common.{refl, get_or}
 use Rattle.crs_log.specs.SeenItems.{IsFaulty}
 use Rattle.crs_log.specs.Reading.{Plain, Long}
 use Rattle.crs_log.specs.Run as run
 use Rattle.crs_feeds.specs.Merged.{new_feed, seen_by}
 use Rattle.crs_top.specs.MergedSession.{run_at}
-use Rattle.crs_top.specs.Texts.{setting_of}
+use Rattle.crs_session.specs.Texts.{log_setting}
 use Rattle.crs_top.proofs.MergedSteps.{refuse_brings}
 use Rattle.crs_top.proofs.Ordering.{given_faulty}
 use Rattle.crs_top.proofs.merging.take_feed_line.Goals as goal
@@ -26,4 +25,4 @@ returns-in-Err-Form c =
     let why : IsFaulty c.in-Plain.bytes.now = rw c.in-Err-Form.field-0-is at c.in-Err-Form.ensures.err in
     rw c.in-Plain.is (refuse_brings r.result x r.new.session c.args.feed (Plain c.in-Plain.number c.in-Plain.bytes.now) run.Form c.args.out.now.items r.new.out.items c.requires.feed
     r.ensures.written r.ensures.noted
-    (λ f ps k. given_faulty (setting_of f) (seen_by (run_at f x ps) (get_or x.feeds.feeds c.args.feed new_feed)) c.in-Plain.number c.in-Plain.bytes.now why))
+    (λ f ps k. given_faulty (log_setting f) (seen_by (run_at f x ps) (get_or x.feeds.feeds c.args.feed new_feed)) c.in-Plain.number c.in-Plain.bytes.now why))

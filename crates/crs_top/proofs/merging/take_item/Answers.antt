@@ -1,15 +1,16 @@
-use Rattle.std.proofs.Common.{◌≡◌, ◌∙◌, ap, sym, true, false, true≢false, refl, cond, List, ℕ, get_or}
-use Rattle.crs_log.specs.ItemOf.{What, Empty, Is, Faulty, what_of}
+use Rattle.std.proofs.Common.{◌≡◌, ◌∙◌, ap, sym, true, true≢false, refl, get_or}
+use Rattle.crs_log.specs.ItemOf.{What, Empty, Is, Faulty}
 use Rattle.crs_log.specs.Reading.{Plain}
 use Rattle.crs_log.specs.Run as run
 use Rattle.crs_log.specs.Run.{Setting, State, after_what, after_ordered}
 use Rattle.crs_log.specs.SeenItems.{what_seen}
 use Rattle.crs_feeds.specs.Merged.{new_feed, seen_by}
 use Rattle.crs_top.specs.MergedSession.{run_at}
-use Rattle.crs_top.specs.Session.{is_blank_what}
-use Rattle.crs_top.specs.Texts.{setting_of}
+use Rattle.crs_session.specs.Session.{is_blank_what}
+use Rattle.crs_session.specs.Texts.{log_setting}
 use Rattle.crs_top.proofs.MergedSteps.{passed_brings, refuse_brings}
-use Rattle.crs_top.proofs.Ordering.{out_of_order, not_faulty}
+use Rattle.crs_session.proofs.Ordering.{not_faulty}
+use Rattle.crs_top.proofs.Ordering.{out_of_order}
 use Rattle.crs_top.proofs.merging.take_item.Goals as goal
 
 blank_passed : (c : Setting) (s : State) (w : What) → is_blank_what w ≡ true → after_what c s w ≡ (s, run.Passed)
@@ -24,7 +25,7 @@ returns-then-is_blank c = λ f ps r.
     let w = what_seen c.args.line.now c.args.item in
     let s = seen_by (run_at f x ps) (get_or x.feeds.feeds n new_feed) in
     passed_brings f x ps r n c.requires.feed (Plain c.args.origin.number c.args.line.now) c.args.out.now.items
-    (ap (after_what (setting_of f) s) (sym c.requires.exact) ∙ blank_passed (setting_of f) s w (sym (c.is_blank.ensures c.args.line.now) ∙ c.if-is_blank.true))
+    (ap (after_what (log_setting f) s) (sym c.requires.exact) ∙ blank_passed (log_setting f) s w (sym (c.is_blank.ensures c.args.line.now) ∙ c.if-is_blank.true))
 
 pub returns-then-ended : goal.returns-then-ended
 returns-then-ended c =
@@ -35,5 +36,5 @@ returns-then-ended c =
     c.refuse.ensures.written c.refuse.ensures.noted
     (λ f ps r.
     let s = seen_by (run_at f x ps) (get_or x.feeds.feeds n new_feed) in
-    ap (after_what (setting_of f) s) (sym c.requires.exact)
-    ∙ out_of_order (setting_of f) s w (sym (c.is_blank.ensures c.args.line.now) ∙ c.if-is_blank.false) (sym c.ended.ensures ∙ c.if-ended.true) (not_faulty c.args.line.now c.args.item))
+    ap (after_what (log_setting f) s) (sym c.requires.exact)
+    ∙ out_of_order (log_setting f) s w (sym (c.is_blank.ensures c.args.line.now) ∙ c.if-is_blank.false) (sym c.ended.ensures ∙ c.if-ended.true) (not_faulty c.args.line.now c.args.item))

@@ -1,13 +1,13 @@
-use Rattle.std.proofs.Common.{◌≡◌, ◌∙◌, ap, sym, refl, get_or, List, ℕ}
+use Rattle.std.proofs.Common.{◌≡◌, ◌∙◌, ap, sym, refl, get_or}
 use Rattle.std.proofs.lemmas.Result.{IfOk-weaker}
 use Rattle.crs_log.specs.ItemOf.{Is, Empty, what_of}
-use Rattle.crs_log.specs.Items.{Delay, Clock, Finish, Happens}
+use Rattle.crs_log.specs.Items.{Delay}
 use Rattle.crs_log.specs.Reading.{Plain}
 use Rattle.crs_log.specs.Run.{after_what}
-use Rattle.crs_log.specs.SeenItems.{what_seen, event_seen}
+use Rattle.crs_log.specs.SeenItems.{what_seen}
 use Rattle.crs_feeds.specs.Merged.{new_feed, seen_by}
 use Rattle.crs_top.specs.MergedSession.{BringsLine, run_at}
-use Rattle.crs_top.specs.Texts.{setting_of}
+use Rattle.crs_session.specs.Texts.{log_setting}
 use Rattle.crs_top.proofs.MergedSteps.{passed_brings, delay_brings}
 use Rattle.crs_top.proofs.merging.take_ordered.Goals as goal
 
@@ -23,7 +23,7 @@ returns-in-Blank c = λ f ps r.
     let n = c.args.origin.feed in
     let is : what_of c.args.line.now ≡ Empty = sym c.requires.exact ∙ ap (what_seen c.args.line.now) c.in-Blank.is in
     passed_brings f x ps r n c.requires.feed (Plain c.args.origin.number c.args.line.now) c.args.out.now.items
-    (ap (after_what (setting_of f) (seen_by (run_at f x ps) (get_or x.feeds.feeds n new_feed))) is)
+    (ap (after_what (log_setting f) (seen_by (run_at f x ps) (get_or x.feeds.feeds n new_feed))) is)
 
 pub returns-in-Delay : goal.returns-in-Delay
 returns-in-Delay c = λ f ps r.

@@ -10,20 +10,21 @@ returns-in_err-plans-clause-refused c =
     rw (p.1, p.2) c.in_err-plans.ensures.refused
 
 pub new-requires-clause-proper : goal.new-requires-clause-proper
-new-requires-clause-proper c = by_value IsProper c.in_ok-plans.plans.plans c.in_ok-plans.ensures.ok.proper
+new-requires-clause-proper c = by_value IsProper c.in_ok-plans.plans.plans c.in_ok-plans.ensures.ok.0.proper
 
 pub returns-clause-ok : goal.returns-clause-ok
 returns-clause-ok c =
     let table = c.in_ok-plans.symbols in
     let plans = c.in_ok-plans.plans in
-    let r = c.in_ok-plans.ensures.ok in
+    let r = c.in_ok-plans.ensures.ok.0 in
     let m = r.models in
-    let n = c.in_ok-engine.ensures in
+    let n = c.in_ok-layers.ensures in
     record {
-      frame = frame c.args.cite c.args.limits.symbols c.args.limits.entries c.args.text.now m table plans r.read r.names r.chronicles r.proper r.in_time r.none_emits;
-      accepted = accepted c.args.cite c.args.limits.symbols c.args.limits.entries c.args.text.now m table plans r.read r.names r.chronicles r.proper r.in_time r.none_emits;
+      frame = frame c.args.cite c.args.limits.symbols c.args.limits.entries c.args.text.now m table plans r.read r.names r.chronicles r.proper r.lags;
+      accepted = accepted c.args.cite c.args.limits.symbols c.args.limits.entries c.args.text.now m table plans r.read r.names r.chronicles r.proper r.lags c.in_ok-plans.ensures.ok.1;
       represents =
-          represented c.args.cite c.args.limits.symbols c.args.limits.entries c.args.text.now m table plans r.read r.names r.chronicles r.proper r.in_time r.none_emits c.in_ok-engine.engine c.kept-peak.result c.kept-peak.ensures n.new.same_plans n.new.no_delay n.new.no_clock n.new.at_start n.new.none_accepted n.new.none_marked n.new.same_limit n.new.running n.stands;
+          represented c.args.cite c.args.limits.symbols c.args.limits.entries c.args.text.now m table plans r.read r.names r.chronicles r.proper r.lags
+          c.args.focus c.in_ok-layers.layers c.kept-peak.result n.new n.stands c.kept-peak.ensures;
       uncounted = record { refused = refl; recognitions = refl; peak = c.kept-peak.ensures };
       focus_is = n.new.same_focus;
     }

@@ -1,5 +1,5 @@
 use Rattle.crs_log.specs.Given.{seen}
-use Rattle.crs_top.proofs.Taken.{given_short}
+use Rattle.crs_session.proofs.Taken.{given_short}
 use Rattle.crs_top.proofs.rounds.take_held.Goals as goal
 
 pub take_feed_line-requires-clause-short : goal.take_feed_line-requires-clause-short

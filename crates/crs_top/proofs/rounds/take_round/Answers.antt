@@ -1,6 +1,5 @@
-use Rattle.std.proofs.Common.{◌≡◌, ◌∙◌, ◌<◌, ◌+◌, ap, sym, refl, subst, arith, List, ℕ, set, length, true, false, true≢false}
+use Rattle.std.proofs.Common.{◌≡◌, ◌∙◌, ◌<◌, ◌+◌, sym, refl, subst, arith, ℕ, set, length, true, true≢false}
 use Rattle.std.proofs.lemmas.List.{length-set}
-use Rattle.crs_top.specs.declared.source.Source.{Source}
 use Rattle.crs_top.specs.Sources.{AreSourcesAt, IsSourceAt, source_at}
 use Rattle.crs_top.proofs.RoundEnds.{place_is, own_place, places_more, places_next, below_more, spent_more, round_end}
 use Rattle.crs_top.proofs.rounds.take_round.Goals as goal

@@ -3,7 +3,7 @@ use Rattle.crs_desk.specs.Desk.{Told}
 use Rattle.crs_top.specs.Inputs.{bytes_of}
 use Rattle.crs_top.specs.MergedSession.{IsReadyMerged, feeds_of}
 use Rattle.crs_top.specs.Sources.{AreAt, AreSourcesAt, IsSpent, source_at}
-use Rattle.crs_top.specs.Texts.{Frame}
+use Rattle.crs_session.specs.Texts.{Frame}
 use Rattle.crs_top.proofs.rounds.take_round.Given as goal
 
 abbrev pub invariant-loop-feed : goal.invariant-loop-feed

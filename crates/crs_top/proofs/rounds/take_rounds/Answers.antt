@@ -1,4 +1,4 @@
-use Rattle.std.proofs.Common.{◌≡◌, ◌∙◌, ◌<◌, ◌+◌, ap, sym, refl, subst, arith, List, ℕ, length, true, false}
+use Rattle.std.proofs.Common.{◌∙◌, ◌+◌, sym, refl, subst, arith}
 use Rattle.crs_top.specs.Sources.{AreSourcesAt}
 use Rattle.crs_top.proofs.rounds.take_rounds.Goals as goal
 

@@ -2,7 +2,7 @@ use Rattle.std.proofs.Common.{◌≡◌, ◌≤◌, ◌-◌, true, ℕ, List, le
 use Rattle.crs_desk.specs.Desk.{Told}
 use Rattle.crs_top.specs.MergedSession.{IsReadyMerged, feeds_of}
 use Rattle.crs_top.specs.Sources.{AreAt, AreSourcesAt}
-use Rattle.crs_top.specs.Texts.{Frame}
+use Rattle.crs_session.specs.Texts.{Frame}
 use Rattle.crs_top.proofs.rounds.take_rounds.Given as goal
 
 abbrev pub invariant-loop-some : goal.invariant-loop-some

@@ -1,9 +1,8 @@
-use Rattle.std.proofs.Common.{◌≡◌, ◌∙◌, ◌+◌, ap, sym, refl, subst, arith, List, ℕ, set, true, false, true≢false}
+use Rattle.std.proofs.Common.{◌∙◌, ap, sym, subst, arith, List, ℕ, set, true≢false}
 use Rattle.crs_log.specs.Reading.{HasNoLine}
-use Rattle.crs_top.specs.declared.merged.MergedSession.{MergedSession}
 use Rattle.crs_top.specs.declared.source.Source.{Source}
 use Rattle.crs_top.specs.MergedSession.{IsReadyMerged, feeds_of}
-use Rattle.crs_top.specs.Sources.{AreAt, IsSourceAt, TakesHeld}
+use Rattle.crs_top.specs.Sources.{AreAt, IsSourceAt}
 use Rattle.crs_top.specs.declared.status.Status.TheVariants.{Memory}
 use Rattle.crs_top.proofs.FeedSteps.{held_gave, held_none, held_spent, source_read, source_stopped, stopped_as}
 use Rattle.crs_top.proofs.FeedTurns.{at_flushed, stop_flush, stop_memory}

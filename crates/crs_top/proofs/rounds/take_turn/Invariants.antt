@@ -3,7 +3,7 @@ use Rattle.crs_desk.specs.Desk.{Told}
 use Rattle.crs_top.specs.declared.source.Source.{Source}
 use Rattle.crs_top.specs.MergedSession.{IsReadyMerged, feeds_of}
 use Rattle.crs_top.specs.Sources.{AreAt, IsSourceAt, source_at}
-use Rattle.crs_top.specs.Texts.{Frame}
+use Rattle.crs_session.specs.Texts.{Frame}
 use Rattle.crs_top.proofs.rounds.take_turn.Given as goal
 
 abbrev pub invariant-loop-desk : goal.invariant-loop-desk

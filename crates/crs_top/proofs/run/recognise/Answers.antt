@@ -1,9 +1,9 @@
 use Rattle.std.proofs.Common.{ap, length, codes, ◌^◌}
 use Rattle.crs_top.specs.Loads.{IsTooLong, IsModelLine}
 use Rattle.crs_top.specs.Inputs.{bytes_of}
-use Rattle.crs_top.specs.ModelTexts.{IsFaulty}
+use Rattle.crs_top.specs.ModelTexts.{IsRunFaulty}
 use Rattle.crs_top.specs.RunOutcomes.{most_of}
-use Rattle.crs_top.proofs.Loads.{ends_weaker, ends_refused, long_is_faulty, all_taken}
+use Rattle.crs_top.proofs.Loads.{ends_weaker, ends_refused, long_is_run_faulty, all_taken}
 use Rattle.crs_top.proofs.Runs.{run_ended, run_followed}
 use Rattle.crs_top.proofs.run.recognise.Goals as goal
 
@@ -12,8 +12,8 @@ returns-in-Err-clause-told g c = λ t.
     let models = bytes_of (g.D.Desk.told c.args.desk.now) c.args.models.now in
     let symbols = c.args.limits.symbols in
     run_ended _ _ _ _ (most_of c.args.limits) _ _ _ _ _
-    (ends_weaker (2 ^ 20) (λ text. ⊥) (λ text. ⊥) (IsTooLong (2 ^ 20) (codes "model line 0 size\n") models) (IsModelLine (IsFaulty symbols models)) (λ text p. p)
-    (long_is_faulty symbols models) _ _ _ _ _ _ (c.in-Err.ensures.told t))
+    (ends_weaker (2 ^ 20) (λ text. ⊥) (λ text. ⊥) (IsTooLong (2 ^ 20) (codes "model line 0 size\n") models) (IsModelLine (IsRunFaulty c.args.cite symbols models)) (λ text p. p)
+    (long_is_run_faulty c.args.cite symbols models) _ _ _ _ _ _ (c.in-Err.ensures.told t))
 
 pub returns-in-Ok-prepare-clause-told : goal.returns-in-Ok-prepare-clause-told
 returns-in-Ok-prepare-clause-told g c = λ t.
@@ -31,5 +31,5 @@ returns-clause-told g c = λ t.
     let models = bytes_of (g.D.Desk.told c.args.desk.now) c.args.models.now in
     let p = rw (c.as_slice.ensures.value, h.2) at c.in-Err-prepare.ensures.refused in
     run_ended _ _ _ _ (most_of c.args.limits) _ _ _ _ _
-    (ends_refused _ _ (λ text. ⊥) (IsFaulty c.args.limits.symbols models) _ _ (g.D.Desk.told c.load.new.desk) _ _ _ _ _ (rw (← c.refuse.ensures.inputs) at h.1) (all_taken (2 ^ 20) models _ (ap length h.2) h.3)
+    (ends_refused _ _ (λ text. ⊥) (IsRunFaulty c.args.cite c.args.limits.symbols models) _ _ (g.D.Desk.told c.load.new.desk) _ _ _ _ _ (rw (← c.refuse.ensures.inputs) at h.1) (all_taken (2 ^ 20) models _ (ap length h.2) h.3)
     (λ line word e. rw e at p) (c.refuse.ensures.told t))

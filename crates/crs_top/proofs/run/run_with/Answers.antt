@@ -10,7 +10,7 @@ use Rattle.crs_top.specs.Logs.{tail_of}
 use Rattle.crs_top.specs.RunOutcomes.{most_of, Runs}
 use Rattle.crs_top.proofs.Completes.{completes, completes_print, completes_import, completes_audit}
 use Rattle.crs_top.proofs.Drilled.{completes_drill}
-use Rattle.crs_top.proofs.Wanting.{wants}
+use Rattle.crs_top.proofs.Wanting.{wants, wants_left}
 use Rattle.crs_top.proofs.run.run_with.Goals as goal
 
 pub returns-in-Err-clause-told : goal.returns-in-Err-clause-told
@@ -18,6 +18,9 @@ returns-in-Err-clause-told g c = λ t.
     wants (g.D.Desk.inputs c.args.desk.now) (most_of c.args.limits)
     (map (λ b. ((goal.Listener-dyn g (b.vtable, b.value)).kind b.value, (goal.Listener-dyn g (b.vtable, b.value)).figures b.value)) c.args.listeners.items)
     (g.D.Desk.told c.args.desk.now) (command_of (map string_bytes c.args.words.now))
+
+pub returns-in-Err-clause-complete : goal.returns-in-Err-clause-complete
+returns-in-Err-clause-complete g c = λ t. wants_left (most_of c.args.limits) (g.D.Desk.told c.args.desk.now) (command_of (map string_bytes c.args.words.now)) _
 
 pub returns-in-Ok-None-clause-told : goal.returns-in-Ok-None-clause-told
 returns-in-Ok-None-clause-told g c = λ t.

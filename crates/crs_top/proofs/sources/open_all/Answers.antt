@@ -1,4 +1,4 @@
-use Rattle.std.proofs.Common.{◌≡◌, ◌∙◌, ◌<◌, ◌+◌, sym, refl, arith, length, map, get_or, []}
+use Rattle.std.proofs.Common.{◌∙◌, ◌<◌, ◌+◌, sym, refl, arith, length, map, get_or, []}
 use Rattle.std.proofs.lemmas.List.{length-map, get_or-map}
 use Rattle.crs_top.proofs.Openings.{sources_one, one_opened, open_failed, open_refused, open_wanting}
 use Rattle.crs_top.proofs.sources.open_all.Goals as goal

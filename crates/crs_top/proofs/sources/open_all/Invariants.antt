@@ -1,4 +1,4 @@
-use Rattle.std.proofs.Common.{◌≡◌, ◌≤◌, ◌+◌, true, map, take, length}
+use Rattle.std.proofs.Common.{◌≡◌, ◌≤◌, ◌+◌, true, map, take}
 use Rattle.crs_top.specs.Opening.{HaveOpened}
 use Rattle.crs_top.specs.Sources.{new_sources}
 use Rattle.crs_top.proofs.sources.open_all.Given as goal
