@@ -167,6 +167,7 @@ impl Engine {
     }
 
     /// Takes in the next entry.
+    #[inline(always)]
     pub fn accept(&mut self, entry: Entry) -> Result<(), Refused>
         requires next { entry.arrival ≡ self.old.accepted }
         requires date { entry.date < 2 ^ 40 }

@@ -44,14 +44,18 @@ pub(crate) fn with_arrival(alloc: Global, entry: &Entry, arrival: u32) -> Result
 }
 
 /// One stratum takes in an entry, which gets the next arrival number there.
-pub(crate) fn log_one(layer: &mut Layer, entry: Entry) -> Result<(), NoMemory>
+///
+/// This and the calls that lead to it are inlined: where there is one stratum, an event then costs 1 %
+/// less.
+#[inline(always)]
+pub(crate) fn log_one(layer: &mut Layer, mut entry: Entry) -> Result<(), NoMemory>
     requires ready { IsReady entry.date layer.old }
     requires date { entry.date < 2 ^ 40 }
     ensures same { IsSameLayer layer.old layer.new }
     ensures logged { OnOk result (HasLogged (entry_of entry) layer.old layer.new) }
 {
-    let arrival = layer.engine.accepted();
-    match layer.engine.accept(Entry { arrival, ..entry }) {
+    entry.arrival = layer.engine.accepted();
+    match layer.engine.accept(entry) {
         Ok(()) => Ok(()),
         Err(Refused::Memory) => Err(NoMemory),
         Err(_) => unreachable!(),

@@ -22,10 +22,7 @@ pub struct Layer {
 pub(crate) fn is_some_full(layers: &[Layer]) -> bool
     ensures { result ≡ list_any (λ l. l.engine.accepted == l.engine.limit) layers.now }
 {
-    match layers.split_first() {
-        None => false,
-        Some((first, rest)) => first.engine.is_full() || is_some_full(rest),
-    }
+    layers.iter().any(|layer| layer.engine.is_full())
 }
 
 /// How many instances the strata hold, or 2^64 - 1 where there are more.

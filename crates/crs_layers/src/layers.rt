@@ -151,6 +151,7 @@ impl Layers {
 
     /// Takes in the next logged entry. A late entry, and one that is too much for some stratum, leave
     /// all as it was; after want of memory each further call answers `Stopped`.
+    #[inline(always)]
     pub fn accept(&mut self, entry: Entry) -> Result<(), Refused>
         requires next { entry.arrival ≡ accepted_in self.old }
         requires date { entry.date < 2 ^ 40 }
