@@ -9,7 +9,7 @@ use crs_compile::compile;
 use crs_desk::{Desk, ReadAllError, read_all};
 use crs_hints::{claim_hint, hint_of, table_hint};
 use crs_model::limits::SIZE_LIMIT;
-use crs_model::{ModelRefused, ModelWord};
+use crs_model::{ModelRefused, ModelWord, Plans, first_emit_line};
 use crs_parse::read_models;
 use crs_top::{CHECKED_LIMIT, STANDARD, plans_for_audit};
 use crs_words::Command;
@@ -17,11 +17,20 @@ use std::alloc::Global;
 use std::rt::Files;
 use std::{fs, io};
 
+// The first chronicle that emits entries. Commands that take accepted models refuse no others.
+fn emit_refusal(plans: &Plans) -> Option<(u32, ModelWord)> {
+    let line = first_emit_line(plans.plans.as_slice())?;
+    Some((line, ModelWord::Hierarchy))
+}
+
 // Why a models text is refused: its first faulty line, and the word for it.
 fn refusal_of(alloc: Global, text: &[u8]) -> Option<(u32, ModelWord)> {
     let mut symbols = Symbols::new(alloc, STANDARD.symbols).ok()?;
     let refused = match read_models(alloc, text, &mut symbols) {
-        Ok(models) => compile(alloc, models).err()?,
+        Ok(models) => match compile(alloc, models) {
+            Ok(plans) => return emit_refusal(&plans),
+            Err(refused) => refused,
+        },
         Err(refused) => refused,
     };
     match refused {
