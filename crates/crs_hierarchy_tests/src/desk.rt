@@ -68,8 +68,8 @@ fn models_of(alloc: Global, low: &str, rest: &str) -> Result<Vec<u8>, Fail> {
 
 /// Fails where a row, the rest of the models, a log and its output, ends in another way.
 fn row_ends_so(rt: &impl Abort, alloc: Global, wanted: Wanted<'_>, row: &str) -> Result<(), Fail> {
-    let (rest, row) = row.split_once('|').ok_or("row")?;
-    let (log, output) = row.split_once('|').ok_or("row")?;
+    let (rest, behind) = row.split_once('|').ok_or("row")?;
+    let (log, output) = behind.split_once('|').ok_or("row")?;
     let models = models_of(alloc, wanted.low, rest)?;
     let log = lines_behind(alloc, b"", log)?;
     let output = lines_behind(alloc, b"", output)?;
@@ -81,8 +81,8 @@ fn row_ends_so(rt: &impl Abort, alloc: Global, wanted: Wanted<'_>, row: &str) ->
     };
     let mut desk = desk_of(alloc, &models, &log)?;
     let ended = run_with(alloc, words.as_slice(), limits, &mut desk, listeners);
-    assert!(rt; ended == wanted.status, "{rest}{log:?}: {ended:?}");
-    assert!(rt; desk.written() == output.as_slice(), "{rest}");
+    assert!(rt; ended == wanted.status, "{row}: {ended:?}");
+    assert!(rt; desk.written() == output.as_slice(), "{row}");
     Ok(())
 }
 
