@@ -2,7 +2,7 @@
 # Makes the figures of docs/PERFORMANCE.md anew, and the plot, and puts them into the page.
 #
 # usage: CRS=/path/to/crs docs/measure.sh [TABLE ..]     the tables to make, all where none is named:
-#            build costs growth instructions turns alive marks focus chronicles symbols peers colliding audits claims plot
+#            build costs growth instructions alive marks focus chronicles symbols peers colliding audits claims plot
 #
 # Environment:
 #   CRS       the program; crates/crs/out/crs where none is given
@@ -135,22 +135,6 @@ instructions() {
         ratio=-
         [ -n "$other" ] && ratio=$(calc %.2f "$mine / $(counted "$other" run models log)")
         echo "| $kind | $(rounded "$(calc %.6f "$mine / 20000")") | $ratio |"
-    done
-}
-
-# seconds and memory of logs of one length, the two programs in turn, and memory of logs ten times as long
-turns() {
-    local kind row
-    echo "| Log of 100,000 events | Seconds | Times the plain recogniser | MB | MB of ten times as many |"
-    echo "|---|---|---|---|---|"
-    for kind in undeclared declared drill units late count hold single burst alive own; do
-        make $kind 100000 "$(case $kind in alive) echo 1000000000 ;; own) echo 64 ;; esac)"
-        run
-        row="| $kind | $(seconds) | $(to_other) | $(mb) |"
-        case $kind in
-            undeclared | declared | drill | late | count | hold) make $kind 1000000 && run && echo "$row $(mb) |" ;;
-            *) echo "$row |" ;;
-        esac
     done
 }
 
@@ -335,7 +319,7 @@ put() {
         !skip' "$page" >"$work/page" && cat "$work/page" >"$page"
 }
 
-all='build costs growth instructions turns alive marks focus chronicles symbols peers colliding audits claims plot'
+all='build costs growth instructions alive marks focus chronicles symbols peers colliding audits claims plot'
 for name in "$@"; do
     case " $all " in *" $name "*) ;; *) echo "no table $name: $all" >&2; exit 2 ;; esac
 done
