@@ -1,7 +1,7 @@
 -- A store, from what is held.
 use Rattle.std.proofs.Common.{◌≡◌, ℕ, zero, suc, ◌≤◌, ◌+◌, ◌*◌, ◌^◌, List, [], ◌∷◌, ◌++◌, length, sym, ap, subst, ◌∙◌, inl, inr, arith}
 use Rattle.std.specs.Prelude.{Option, Some, None, slice_get}
-use Rattle.std.proofs.Math.Nat.{mul_assoc}
+use Rattle.std.proofs.Math.Nat.{mul_assoc, mul_comm}
 use Rattle.crs_agenda.specs.declared.timed.Handle.{Handle}
 use Rattle.crs_base.specs.Sifted.{Sifts}
 use Rattle.crs_base.proofs.Words.{each_from_in}
@@ -67,15 +67,18 @@ times_more : (e a b : ℕ) → a ≤ b → e * a ≤ e * b
 times_more zero a b l = omega arith
 times_more (suc e) a b l = let h = times_more e a b l in omega arith
 
-twice : (e b : ℕ) → e * b ≤ 2 * e * b
-twice e b = let h = mul_assoc 2 e b in omega arith
+twice_each : (e b : ℕ) → e * (2 * b) ≡ 2 * e * b
+twice_each e b = sym (mul_assoc e 2 b) ∙ ap (λ (t : ℕ). t * b) (mul_comm e 2)
 
-pub few_ticks : (R : InstanceState → InstanceState → Type 0) (Able : InstanceState → Type 0) (events start steps : ℕ) (old kept : List InstanceState) → Renews R Able old kept → steps ≤ start + events * length kept → steps ≤ start + 2 * events * length old
+pub flat_ticks : (focus : Bool) (events start now each : ℕ) → (focus ≡ false → now ≤ start + events * (2 * each)) → focus ≡ false → now ≤ start + 2 * events * each
+flat_ticks focus events start now each ticks flat = let t = ticks flat in let two = twice_each events each in omega arith
+
+pub few_ticks : (R : InstanceState → InstanceState → Type 0) (Able : InstanceState → Type 0) (events start steps : ℕ) (old kept : List InstanceState) → Renews R Able old kept → steps ≤ start + events * (2 * length kept) → steps ≤ start + 2 * events * length old
 few_ticks R Able events start steps old kept renews ticks =
     let few = sifted_few Able renews.0 kept renews.2 in
     let same = zip_length R old renews.0 renews.1 in
-    let more : events * length kept ≤ events * length old = times_more events (length kept) (length old) (omega arith) in
-    let two = twice events (length old) in
+    let more : 2 * events * length kept ≤ 2 * events * length old = times_more (2 * events) (length kept) (length old) (omega arith) in
+    let two = twice_each events (length kept) in
     omega arith
 
 -- ---- at a mark, and at the start

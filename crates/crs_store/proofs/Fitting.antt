@@ -51,7 +51,7 @@ module _ (plan : Plan) (proper : IsProper plan) (i : InstanceState) (of : IsOf p
   pub inside_window : IsInside (window_at i.windows e) (pos x.date)
   inside_window = must_be_inside plan proper i of e x inside free can.dates
 
-  binding_grows : Looser (look_of i.binding) can.look
+  pub binding_grows : Looser (look_of i.binding) can.look
   binding_grows v s l = of.binding.least can.look equal v s l
     where
       equal : EqualsAll (chronicle plan) i.partial can.look
@@ -59,7 +59,7 @@ module _ (plan : Plan) (proper : IsProper plan) (i : InstanceState) (of : IsOf p
           of_some (at (put i.partial e x) f) y _ (extends_put i.partial e x free f y m) (of_some (slice_get (chronicle plan).events f) ev _ k (can.binding.equal f))))
 
   module _ (def : EventDef Sym) (is : slice_get (chronicle plan).events e ≡ Some def) where
-    fits : PatternIs can.look def.pattern x
+    pub fits : PatternIs can.look def.pattern x
     fits = of_some (at (put i.partial e x) e) x _ (put_same i.partial e x within) (of_some (slice_get (chronicle plan).events e) def _ is (can.binding.equal e))
 
     module _ (h : Hook) (hook : IsHookOfEvent def h) where

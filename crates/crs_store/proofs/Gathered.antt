@@ -4,7 +4,7 @@ use Rattle.std.proofs.Math.Nat.{mul-add}
 use Rattle.std.proofs.lemmas.Bool.Decides.{eqb_tells}
 use Rattle.std.proofs.lemmas.List.{length-map, map-append, take_more, take_all}
 use Rattle.std.proofs.lemmas.Cmp.{ranked}
-use Rattle.std.specs.Prelude.{Option, Some, None, IfSome, slice_get, slice_index_or}
+use Rattle.std.specs.Prelude.{Option, Some, None, IfSome, slice_get, slice_index_or, replicate}
 use Rattle.std.specs.List.{AllByRecursion, AllZip}
 use Rattle.std.specs.List.Sorted.{IsStrictlySortedBy}
 use Rattle.std.specs.Ordering.{nat_cmp}
@@ -19,7 +19,7 @@ use Rattle.crs_base.proofs.Words.{in_append, in_append_left, in_append_right, in
 use Rattle.crs_history.specs.Histories.{HistoryState}
 use Rattle.crs_index.specs.declared.key.Key.{Key}
 use Rattle.crs_index.specs.Indexes.{IndexState, Cleans, bucket_at, number_of}
-use Rattle.crs_instance.specs.Instances.{InstanceState, IsOf, CanBe}
+use Rattle.crs_instance.specs.Instances.{InstanceState, IsOf, CanBe, IsBoundBy}
 use Rattle.crs_model.specs.declared.plan.Plan.{Plan}
 use Rattle.crs_model.specs.Images.{IsImage}
 use Rattle.crs_model.specs.Models.{EventDef}
@@ -31,6 +31,11 @@ use Rattle.crs_model.proofs.Images.{image_one}
 use Rattle.crs_model.proofs.ScanImages.{one_parent, same_event}
 use Rattle.crs_instance.proofs.Openings.{beginnings_can_be}
 use Rattle.crs_store.specs.declared.waiting.hooks.Hook.{Hook}
+use Rattle.crs_instance.proofs.BindAnswers.{get-replicate}
+use Rattle.crs_model.specs.Bindings.{look_of, Looser}
+use Rattle.crs_model.specs.Matching.{Binding, PatternIs}
+use Rattle.crs_model.proofs.Options.{of_some}
+use Rattle.crs_store.specs.Agreeing.{Agree, IsTaken}
 use Rattle.crs_store.specs.Forkings.{HaveWindow, IsNoted, AreCandidates, KeepsStanding, IsHookAt, AreLinkedAt, standing, ComeOf, IsForkWith, IsForkBelow, AreForksOfPlaces, AreForksOfEvent, AreForksOfAll}
 use Rattle.crs_store.specs.Hooks.{IsHookOfEvent, KeepsFresh, key_with, picked_argument}
 use Rattle.crs_store.specs.Links.{hook_at}
@@ -40,21 +45,21 @@ use Rattle.crs_store.specs.PlanLevels.{levels_in}
 use Rattle.crs_store.specs.Scannings.{Adds, AreForksAt}
 use Rattle.crs_store.specs.Windows.{IsAble, IsOpenAt, IsOver}
 use Rattle.crs_store.proofs.Chosen.{Ascends, standing_part, standing_in, part_few, part_map, part_ordered}
-use Rattle.crs_store.proofs.Fitting.{inside_window, fits_hook, fits_waits}
+use Rattle.crs_store.proofs.Fitting.{inside_window, fits, binding_grows, fits_hook, fits_waits}
 use Rattle.crs_store.proofs.Members.{at_within, at_member, member_at}
 use Rattle.crs_store.proofs.Noting.{fresh_at, get_any, cleans_keep, in_bucket}
 
 -- ---- the handles of a bucket, one after another
 
-pub record AreTried (slots : SlotsState) (e d : ℕ) (handles : List Handle) (old new : List ℕ) : Type 0 where
-  pub noted : (h : Handle) → IsIn h handles → IsNoted slots e d new h.place
+pub record AreTried (slots : SlotsState) (e d : ℕ) (symbols : List (Option Sym)) (handles : List Handle) (old new : List ℕ) : Type 0 where
+  pub noted : (h : Handle) → IsIn h handles → IsNoted slots e d symbols new h.place
   pub kept : (p : ℕ) → IsIn p old → IsIn p new
 
-pub tried_more : (slots : SlotsState) (e d : ℕ) (handles : List Handle) (k : ℕ) (z : Handle) (old now new : List ℕ) → k < length handles → AreTried slots e d (take k handles) old now → IsNoted slots e d new (get_or handles k z).place → ((p : ℕ) → IsIn p now → IsIn p new) → AreTried slots e d (take (k + 1) handles) old new
-tried_more slots e d handles k z old now new l a n keeps = record {
+pub tried_more : (slots : SlotsState) (e d : ℕ) (symbols : List (Option Sym)) (handles : List Handle) (k : ℕ) (z : Handle) (old now new : List ℕ) → k < length handles → AreTried slots e d symbols (take k handles) old now → IsNoted slots e d symbols new (get_or handles k z).place → ((p : ℕ) → IsIn p now → IsIn p new) → AreTried slots e d symbols (take (k + 1) handles) old new
+tried_more slots e d symbols handles k z old now new l a n keeps = record {
   noted = λ h j. elim (in_append (take k handles) (get_or handles k z ∷ []) h (subst (λ (t : List Handle). IsIn h t) (take_more handles k (get_or handles k z) l ∙ ap (λ (t : Handle). take k handles ++ t ∷ []) (get_any handles k (get_or handles k z) z l)) j)) [
-    | inl b ↦ (λ i s w. keeps h.place (a.noted h b i s w))
-    | inr b ↦ elim b [ inl s ↦ subst (λ (t : Handle). IsNoted slots e d new t.place) (sym s) n | inr never ↦ absurd never ]
+    | inl b ↦ (λ i s w m. keeps h.place (a.noted h b i s w m))
+    | inr b ↦ elim b [ inl s ↦ subst (λ (t : Handle). IsNoted slots e d symbols new t.place) (sym s) n | inr never ↦ absurd never ]
   ];
   kept = λ p i. keeps p (a.kept p i);
 }
@@ -65,14 +70,31 @@ stands_fresh slots len p i s = let l = at_within slots.slots p i s in omega arit
 pub keeps_standing : (slots : SlotsState) → length slots.serials ≡ length slots.slots → (old new : IndexState) → KeepsFresh slots.serials old new → KeepsStanding slots old new
 keeps_standing slots len old new keeps k p i s w = keeps k (handle_at slots p) (fresh_at slots.serials p (stands_fresh slots len p i s)) w
 
-pub tried_whole : (slots : SlotsState) → length slots.serials ≡ length slots.slots → (e d : ℕ) (old new : IndexState) (n : ℕ) (key : Key) → number_of old key ≡ Some n → Cleans old new n slots.serials → (handles : List Handle) (k : ℕ) → length handles ≤ k → handles ≡ bucket_at new.buckets n → (was places : List ℕ) → AreTried slots e d (take k handles) was places → AreCandidates slots old key e d places
-tried_whole slots len e d old new n key numbered cleans handles k l are was places tried p w i s inside =
-    let whole : AreTried slots e d handles was places = subst (λ (t : List Handle). AreTried slots e d t was places) (take_all k handles l) tried in
+pub tried_whole : (slots : SlotsState) → length slots.serials ≡ length slots.slots → (e d : ℕ) (symbols : List (Option Sym)) (old new : IndexState) (n : ℕ) (key : Key) → number_of old key ≡ Some n → Cleans old new n slots.serials → (handles : List Handle) (k : ℕ) → length handles ≤ k → handles ≡ bucket_at new.buckets n → (was places : List ℕ) → AreTried slots e d symbols (take k handles) was places → AreCandidates slots old key e d symbols places
+tried_whole slots len e d symbols old new n key numbered cleans handles k l are was places tried p w i s inside agrees =
+    let whole : AreTried slots e d symbols handles was places = subst (λ (t : List Handle). AreTried slots e d symbols t was places) (take_all k handles l) tried in
     let kept = cleans_keep old new n slots.serials cleans key (handle_at slots p) (fresh_at slots.serials p (stands_fresh slots len p i s)) w in
-    whole.noted (handle_at slots p) (subst (λ (t : List Handle). IsIn (handle_at slots p) t) (sym are) (in_bucket new key n (handle_at slots p) (cleans.numbers key ∙ numbered) kept)) i s inside
+    whole.noted (handle_at slots p) (subst (λ (t : List Handle). IsIn (handle_at slots p) t) (sym are) (in_bucket new key n (handle_at slots p) (cleans.numbers key ∙ numbered) kept)) i s inside agrees
 
 pub have_window : (plan : Plan) → IsProper plan → (slots : SlotsState) → AllOf plan (members slots.slots) → (e : ℕ) → e < length plan.chronicle.events → HaveWindow slots e
 have_window plan proper slots all e l p i s = let of = in_from_each (IsOf plan) (members slots.slots) all i (at_member slots.slots p i s) in let a = of.window_count in let b = proper.points in omega arith
+
+in_none : {A : Type 0} (xs : List A) (x : A) → length xs ≡ 0 → IsIn x xs → ⊥
+in_none [] x e i = i
+in_none (y ∷ xs) x e i = absurd (omega arith)
+
+-- ---- symbols that agree
+
+-- where both are part of one, they agree
+both_below : (one other all : Binding Sym) → Looser one all → Looser other all → Agree one other
+both_below one other all l m v x y a b =
+    let s = l v x a in
+    let t = m v y b in
+    cc
+
+-- nothing bound is part of all
+none_looser : (n : ℕ) (all : Binding Sym) → Looser (look_of (replicate n None)) all
+none_looser n all v x e = let none : look_of (replicate n None) v ≡ None = get-replicate n v None in absurd cc
 
 -- ---- the forks at one event
 
@@ -279,39 +301,69 @@ module _ (plan : Plan) (focus : Bool) (history : HistoryState) (x : Entry Sym) (
       name_one : hook.name ≡ x.name
       name_one = let v = event_there inside in fits_hook plan proper i of_one e x inside (f.0).unbound can_one hook hooked v.0 v.1
 
-      found_one : (index : IndexState) (places : List ℕ) → AreLinkedAt plan focus hook slots index e x.date → AreCandidates slots index (key_with e None) e x.date places → AreCandidates slots index (key_with e (picked_argument hook.pick x.args)) e x.date places → IsIn i (standing slots.slots places)
-      found_one index places linked lacking having =
+      can_said : (v : EventDef Sym) → slice_get (chronicle plan).events e ≡ Some v → PatternIs can_one.look v.pattern x
+      can_said v is = fits plan proper i of_one e x inside (f.0).unbound can_one v is
+
+      -- it leaves the symbols that the event's pattern has in x
+      agrees_one : (symbols : List (Option Sym)) → IsTaken plan e x (Some symbols) → Agree (look_of i.binding) (look_of symbols)
+      agrees_one symbols taken =
+          let v = event_there inside in
+          let t : IsBoundBy (chronicle plan) (v.0).pattern (replicate (length plan.chronicle.variables) None) x (Some symbols) = of_some (slice_get (chronicle plan).events e) v.0 _ v.1 taken in
+          both_below (look_of i.binding) (look_of symbols) can_one.look (binding_grows plan proper i of_one e x inside (f.0).unbound can_one) ((t.0).least can_one.look (none_looser (length plan.chronicle.variables) can_one.look) (can_said v.0 v.1))
+
+      -- and there are such symbols
+      never_refused : IsTaken plan e x None → ⊥
+      never_refused taken =
+          let v = event_there inside in
+          let t : IsBoundBy (chronicle plan) (v.0).pattern (replicate (length plan.chronicle.variables) None) x None = of_some (slice_get (chronicle plan).events e) v.0 _ v.1 taken in
+          t can_one.look (none_looser (length plan.chronicle.variables) can_one.look) (can_said v.0 v.1) can_one.allowed
+
+      found_one : (symbols : List (Option Sym)) → IsTaken plan e x (Some symbols) → (index : IndexState) (places : List ℕ) → AreLinkedAt plan focus hook slots index e x.date → AreCandidates slots index (key_with e None) e x.date symbols places → AreCandidates slots index (key_with e (picked_argument hook.pick x.args)) e x.date symbols places → IsIn i (standing slots.slots places)
+      found_one symbols taken index places linked lacking having =
           let v = event_there inside in
           let m = member_at slots.slots i j in
           let w = inside_window plan proper i of_one e x inside (f.0).unbound can_one in
+          let a = agrees_one symbols taken in
           standing_in slots.slots places m.0 i (elim (fits_waits plan proper i of_one e x inside (f.0).unbound can_one hook hooked v.0 v.1 index (handle_at slots m.0) (λ within unbound can. linked m.0 i m.1 f.0 can)) [
-            | inl k ↦ lacking m.0 k i m.1 w
-            | inr k ↦ having m.0 k i m.1 w
+            | inl k ↦ lacking m.0 k i m.1 w a
+            | inr k ↦ having m.0 k i m.1 w a
           ]) m.1
 
-    -- where the name is another
-    pub none_named : (hook.name ≡ x.name → ⊥) → AreForksOfEvent plan focus history x since until slots e []
-    none_named other = λ pool entries now later over ready. (
+    -- where none comes of any
+    none_come : ((pool entries : List (Entry Sym)) (i : InstanceState) → IsIn i (members slots.slots) → (y : Partial Sym) → IsForkWith (levels_in plan focus) x e (IsOpenAt plan focus pool entries until) i.partial y → ⊥) → AreForksOfEvent plan focus history x since until slots e []
+    none_come never = λ pool entries now later over ready. (
       record {
         distinct = tt;
         sound = λ y k. absurd k;
         complete = λ a y k f.
             let r = in_map_back (λ (s : InstanceState). s.partial) (members slots.slots) a k in
-            absurd (other (name_one pool entries r.0 r.1 y (subst (λ (z : Partial Sym). IsForkWith (levels_in plan focus) x e (IsOpenAt plan focus pool entries until) z y) r.2 f)));
+            absurd (never pool entries r.0 r.1 y (subst (λ (z : Partial Sym). IsForkWith (levels_in plan focus) x e (IsOpenAt plan focus pool entries until) z y) r.2 f));
       },
       tt,
     )
 
+    -- where the name is another
+    pub none_named : (hook.name ≡ x.name → ⊥) → AreForksOfEvent plan focus history x since until slots e []
+    none_named other = none_come (λ pool entries i j y f. other (name_one pool entries i j y f))
+
+    -- where the event's pattern refuses x
+    pub none_taken : IsTaken plan e x None → AreForksOfEvent plan focus history x since until slots e []
+    none_taken taken = none_come (λ pool entries i j y f. never_refused pool entries i j y f taken)
+
+    -- where nothing is held
+    pub none_held : length (members slots.slots) ≡ 0 → AreForksOfEvent plan focus history x since until slots e []
+    none_held empty = none_come (λ pool entries i j y f. in_none (members slots.slots) i empty j)
+
     -- the candidates are enough
-    pub all_found : (index : IndexState) (places : List ℕ) (out : List InstanceState) → AreLinkedAt plan focus hook slots index e x.date → AreCandidates slots index (key_with e None) e x.date places → AreCandidates slots index (key_with e (picked_argument hook.pick x.args)) e x.date places
+    pub all_found : (symbols : List (Option Sym)) → IsTaken plan e x (Some symbols) → (index : IndexState) (places : List ℕ) (out : List InstanceState) → AreLinkedAt plan focus hook slots index e x.date → AreCandidates slots index (key_with e None) e x.date symbols places → AreCandidates slots index (key_with e (picked_argument hook.pick x.args)) e x.date symbols places
         → AreForksOfPlaces plan focus history x since until slots e places out → AreForksOfEvent plan focus history x since until slots e out
-    all_found index places out linked lacking having h = λ pool entries now later over ready.
+    all_found symbols taken index places out linked lacking having h = λ pool entries now later over ready.
         let k = h pool entries now later over ready in (
           widen (IsForkWith (levels_in plan focus) x e (IsOpenAt plan focus pool entries until)) (parts (standing slots.slots places)) (parts (members slots.slots)) (parts out)
               (λ a j. let r = in_map_back (λ (s : InstanceState). s.partial) (standing slots.slots places) a j in subst (λ (z : Partial Sym). IsIn z (parts (members slots.slots))) (sym r.2) (in_map (λ (s : InstanceState). s.partial) (members slots.slots) r.0 (standing_back slots.slots places r.0 r.1)))
               (λ a y j f. let r = in_map_back (λ (s : InstanceState). s.partial) (members slots.slots) a j in
               subst (λ (z : Partial Sym). IsIn z (parts (standing slots.slots places))) (sym r.2) (in_map (λ (s : InstanceState). s.partial) (standing slots.slots places) r.0
-              (found_one pool entries r.0 r.1 y (subst (λ (z : Partial Sym). IsForkWith (levels_in plan focus) x e (IsOpenAt plan focus pool entries until) z y) r.2 f) index places linked lacking having)))
+              (found_one pool entries r.0 r.1 y (subst (λ (z : Partial Sym). IsForkWith (levels_in plan focus) x e (IsOpenAt plan focus pool entries until) z y) r.2 f) symbols taken index places linked lacking having)))
               k.0,
           k.1,
         )

@@ -17,6 +17,7 @@ use Rattle.crs_model.specs.Scans.{StartsAt, IsForkByLevel}
 use Rattle.crs_model.specs.declared.plan.Plan.{Plan}
 use Rattle.crs_store.specs.declared.waiting.hooks.Hook.{Hook}
 use Rattle.crs_store.specs.PlanLevels.{levels_in}
+use Rattle.crs_store.specs.Agreeing.{Agree}
 use Rattle.crs_store.specs.Hooks.{IsHookOfEvent, Waits, key_of}
 use Rattle.crs_store.specs.Links.{CanStart}
 use Rattle.crs_store.specs.Slots.{SlotsState, slot_at, handle_at, members}
@@ -28,13 +29,13 @@ use Rattle.crs_store.specs.Windows.{IsOpenAt, IsOver}
 abbrev pub HaveWindow : SlotsState → ℕ → Type 0
 HaveWindow slots e = (p : ℕ) (i : InstanceState) → slot_at slots p ≡ Some i → e < length i.windows
 
--- the place is among the places, if an instance stands there to whose event the date is left
-abbrev pub IsNoted : SlotsState → ℕ → ℕ → List ℕ → ℕ → Type 0
-IsNoted slots e d places p = (i : InstanceState) → slot_at slots p ≡ Some i → IsInside (window_at i.windows e) (pos d) → IsIn p places
+-- the place is among the places, if an instance stands there that leaves the date and the symbols to the event
+abbrev pub IsNoted : SlotsState → ℕ → ℕ → List (Option Sym) → List ℕ → ℕ → Type 0
+IsNoted slots e d symbols places p = (i : InstanceState) → slot_at slots p ≡ Some i → IsInside (window_at i.windows e) (pos d) → Agree (look_of i.binding) (look_of symbols) → IsIn p places
 
--- those that wait under the key, and to whose event the date is left, are in the places
-abbrev pub AreCandidates : SlotsState → IndexState → Key → ℕ → ℕ → List ℕ → Type 0
-AreCandidates slots index k e d places = (p : ℕ) → Waits index k (handle_at slots p) → IsNoted slots e d places p
+-- those that wait under the key, and leave the date and the symbols to the event, are in the places
+abbrev pub AreCandidates : SlotsState → IndexState → Key → ℕ → ℕ → List (Option Sym) → List ℕ → Type 0
+AreCandidates slots index k e d symbols places = (p : ℕ) → Waits index k (handle_at slots p) → IsNoted slots e d symbols places p
 
 -- those that stand in a place and waited still wait
 abbrev pub KeepsStanding : SlotsState → IndexState → IndexState → Type 0

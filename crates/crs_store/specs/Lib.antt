@@ -1,3 +1,4 @@
+pub mod Agreeing
 pub mod PlanLevels
 pub mod Ahead
 pub mod Stores

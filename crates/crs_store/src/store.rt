@@ -135,7 +135,7 @@ fn take_prompt<L: Ledger>(
     requires tidy { IsTidyHolding moment.now.plan.now moment.now.focus moment.now.hooks.now holding.old moment.now.since }
     ensures tidy { OnOk result (IsTidyHolding moment.now.plan.now moment.now.focus moment.now.hooks.now holding.new moment.now.since) }
     ensures taken { OnOk result (TakesPrompt moment.now.plan.now moment.now.focus moment.now.history.now (entry_of moment.now.entry.now.value) moment.now.since (members holding.old.slots.slots) (members holding.new.slots.slots)) }
-    ensures cost { steps.new ≤ steps.old + length moment.now.plan.now.chronicle.events * length (members holding.old.slots.slots) }
+    ensures cost { steps.new ≤ steps.old + 2 * length moment.now.plan.now.chronicle.events * length (members holding.old.slots.slots) }
 {
     let arrival = Arrival {
         alloc: moment.alloc,

@@ -1,8 +1,8 @@
-use Rattle.std.proofs.Common.{[]}
+use Rattle.std.proofs.Common.{[], length}
 use Rattle.crs_base.specs.Seen.{entry_of}
 use Rattle.crs_store.specs.Ahead.{MayGo}
 use Rattle.crs_store.specs.Slots.{members}
-use Rattle.crs_store.proofs.Assembled.{tidy_all, tidy_able, tidy_standing}
+use Rattle.crs_store.proofs.Assembled.{flat_ticks, tidy_all, tidy_able, tidy_standing}
 use Rattle.crs_store.proofs.Joined.{part_of}
 use Rattle.crs_store.proofs.Prompting.{taken_prompt}
 use Rattle.crs_store.proofs.store.take_prompt.Goals as goal
@@ -23,3 +23,12 @@ returns-clause-taken g c =
     taken_prompt plan focus c.requires.moment.proper c.requires.moment.flat c.args.moment.now.history.now (entry_of c.args.moment.now.entry.now.value) c.args.moment.now.since held born new (tidy_all plan focus c.args.moment.now.hooks.now c.args.holding.now c.args.moment.now.since c.requires.tidy)
     (tidy_able plan focus c.args.moment.now.hooks.now c.args.holding.now c.args.moment.now.since c.requires.tidy) ((c.in_ok-forks.ensures {u = tt}).able) ((c.in_ok-forks.ensures {u = tt}).image)
     (part_of (MayGo plan focus [] 0) held born new ((c.in_ok-hold_all.ensures {u = tt}).joins))
+
+pub returns-in_err-forks-clause-cost : goal.returns-in_err-forks-clause-cost
+returns-in_err-forks-clause-cost g c = flat_ticks c.args.moment.now.focus (length c.args.moment.now.plan.now.chronicle.events) c.args.steps.now c.forks.new.steps (length (members c.args.holding.now.slots.slots)) c.forks.ensures.cost c.requires.moment.flat
+
+pub returns-in_err-hold_all-clause-cost : goal.returns-in_err-hold_all-clause-cost
+returns-in_err-hold_all-clause-cost g c = flat_ticks c.args.moment.now.focus (length c.args.moment.now.plan.now.chronicle.events) c.args.steps.now c.forks.new.steps (length (members c.args.holding.now.slots.slots)) c.forks.ensures.cost c.requires.moment.flat
+
+pub returns-clause-cost : goal.returns-clause-cost
+returns-clause-cost g c = flat_ticks c.args.moment.now.focus (length c.args.moment.now.plan.now.chronicle.events) c.args.steps.now c.forks.new.steps (length (members c.args.holding.now.slots.slots)) c.forks.ensures.cost c.requires.moment.flat

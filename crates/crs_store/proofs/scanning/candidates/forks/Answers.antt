@@ -1,4 +1,4 @@
-use Rattle.std.proofs.Common.{rules, ◌≡◌, [], length, sym, arith}
+use Rattle.std.proofs.Common.{rules, ◌≡◌, ◌*◌, [], length, sym, arith}
 use Rattle.std.proofs.lemmas.List.{append-nil}
 use Rattle.crs_base.specs.Seen.{entry_of}
 use Rattle.crs_store.specs.Links.{hook_at}
@@ -29,7 +29,7 @@ loop-event-preserved g c = record {
       gathered_more c.args.arrival.now.plan.now c.args.arrival.now.focus c.args.arrival.now.history.now (entry_of c.args.arrival.now.entry.now.value) c.args.arrival.now.since c.args.arrival.now.until c.args.slots.now c.loop-event.event c.loop-event.out.items adds.more c.forks_of_event.new.out.items adds.grown adds.of adds.able adds.are c.loop-event.invariant.gathered;
   fresh = λ k h f w. c.forks_of_event.ensures.fresh k h f (c.loop-event.invariant.fresh k h f w);
   standing = λ k p i s w. c.forks_of_event.ensures.standing k p i s (c.loop-event.invariant.standing k p i s w);
-  cost = events_cost c.args.arrival.now.focus c.args.steps.now c.loop-event.steps c.forks_of_event.new.steps c.loop-event.event (length (members c.args.slots.now.slots)) c.loop-event.invariant.cost c.forks_of_event.ensures.cost;
+  cost = events_cost c.args.arrival.now.focus c.args.steps.now c.loop-event.steps c.forks_of_event.new.steps c.loop-event.event (2 * length (members c.args.slots.now.slots)) c.loop-event.invariant.cost c.forks_of_event.ensures.cost;
 }
 
 pub loop-event-preserved-then-ne : goal.loop-event-preserved-then-ne
