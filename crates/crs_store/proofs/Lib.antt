@@ -33,3 +33,4 @@ pub mod Registering
 pub mod Held
 pub mod Assembled
 pub mod Passing
+pub mod Choosing

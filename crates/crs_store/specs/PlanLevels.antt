@@ -46,3 +46,7 @@ pub record AreAwaited (level : ℕ → ℕ) (a : Partial Sym) (n : ℕ) (events 
   pub all : (f : ℕ) → f < n → IsAwaited level a f → IsIn f events
   pub apart : Ordered (λ e f. e ≢ f) events
   pub few : length events ≤ n
+
+-- where the ones are the awaited events, so are the others
+abbrev pub KeepsAwaited : List ℕ → List ℕ → Type 0
+KeepsAwaited these those = (level : ℕ → ℕ) (a : Partial Sym) (n : ℕ) → AreAwaited level a n these → AreAwaited level a n those

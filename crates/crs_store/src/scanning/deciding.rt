@@ -4,7 +4,7 @@ ghost use Rattle.std.specs.Prelude.{◌≡◌, ◌<◌, ◌≤◌, ◌^◌, ◌+
 ghost use Rattle.crs_base.specs.Seen.{entry_of};
 ghost use Rattle.crs_base.specs.Words.{IsIn};
 ghost use Rattle.crs_instance.specs.Instances.{IsOf, window_at};
-ghost use Rattle.crs_store.specs.PlanLevels.{levels_in, AreToDecide};
+ghost use Rattle.crs_store.specs.PlanLevels.{levels_in, AreToDecide, KeepsAwaited};
 ghost use Rattle.crs_store.specs.Scans.{IsScan};
 ghost use Rattle.crs_store.specs.Scannings.{Adds, IsKeptIfAble, IsDecided, IsDecidedAt, AreDecidedWith};
 
@@ -83,6 +83,71 @@ fn can_be_left(instance: &Instance, event: u8, until: u64) -> bool
     }
 }
 
+/// So many entries of an event are counted: what has more needn't be told apart.
+const MOST: usize = 8;
+
+/// How many entries are there that the event may be bound to, as far as its name and its dates tell, up to
+/// `MOST`.
+fn how_many(scan: &Scan<'_>, next: &Instance, event: u8) -> usize
+    requires scan { IsScan scan.now }
+    requires next { IsOf scan.now.plan.now next.now }
+    requires event { event < length scan.now.plan.now.chronicle.events }
+{
+    let name = scan.plan.chronicle.events.as_slice()[event as usize]
+        .pattern
+        .name;
+    let mut found = candidates(scan.history, name, next.date_window(event), scan.entry);
+    for count in 0..MOST {
+        if found.next().is_none() {
+            return count;
+        }
+    }
+    MOST
+}
+
+/// The place of the event of which the fewest entries are there, the last of such. None where there is
+/// no event.
+fn fewest(scan: &Scan<'_>, next: &Instance, todo: &[u8]) -> Option<usize>
+    requires scan { IsScan scan.now }
+    requires next { IsOf scan.now.plan.now next.now }
+    requires todo { (f : _) → IsIn f todo.now → f < length scan.now.plan.now.chronicle.events }
+    ensures some { IfSome result (λ p. p < length todo.now) }
+{
+    if todo.is_empty() {
+        return None;
+    }
+    let mut place = 0;
+    let mut few = MOST;
+    for i in 0..todo.len() {
+        let count = how_many(scan, next, todo[i]);
+        if count <= few {
+            few = count;
+            place = i;
+        }
+    }
+    Some(place)
+}
+
+/// Puts the event of which the fewest entries are there behind the others, so that it is decided on first:
+/// it leaves the least to try, and nothing where it has none and can't be left. A level of nine events, of
+/// which one never came and each other six times, took 5,000 times the instructions.
+fn put_fewest_last(scan: &Scan<'_>, next: &Instance, todo: &mut Vec<u8>) -> Result<(), AllocError>
+    requires scan { IsScan scan.now }
+    requires next { IsOf scan.now.plan.now next.now }
+    requires todo { (f : _) → IsIn f todo.old.items → f < length scan.now.plan.now.chronicle.events }
+    ensures { OnOk result (KeepsAwaited todo.old.items todo.new.items) }
+{
+    if todo.len() < 2 {
+        return Ok(());
+    }
+    let Some(place) = fewest(scan, next, todo.as_slice()) else {
+        return Ok(());
+    };
+    let event = todo.remove(place);
+    todo.push(event)?;
+    Ok(())
+}
+
 /// Adds what comes of an instance, where some events of a level are still to be decided on: each
 /// is bound to an entry that is there, or left for one that comes at or after `until`.
 #[cycle(deciding)]
@@ -133,7 +198,8 @@ fn decide_higher<L: Ledger>(
     let Some(higher) = next_level(scan.plan, scan.focus, &next, level) else {
         return keep_if_able(scan, next, out);
     };
-    let todo = awaited_events(scan.alloc, scan.plan, scan.focus, &next)?;
+    let mut todo = awaited_events(scan.alloc, scan.plan, scan.focus, &next)?;
+    put_fewest_last(scan, &next, &mut todo)?;
     decide(scan, next, higher, todo, steps, out)
 }
 

@@ -11,7 +11,7 @@ use Rattle.crs_focus.specs.Candidacy.{IsCandidate, IsHeldFor}
 use Rattle.crs_focus.proofs.UpTo.{by_date}
 use Rattle.crs_history.specs.Histories.{IsKept}
 use Rattle.crs_instance.specs.Instances.{InstanceState, IsForked}
-use Rattle.crs_store.specs.PlanLevels.{levels_in, AreToDecide, IsLevelAbove, IsNoLevelAbove}
+use Rattle.crs_store.specs.PlanLevels.{levels_in, AreToDecide, AreAwaited, IsLevelAbove, IsNoLevelAbove}
 use Rattle.crs_store.specs.Scannings.{Adds, IsKeptIfAble, IsDecided, IsDecidedAt, AreDecidedWith}
 use Rattle.crs_store.proofs.Scanned.{adds_none, adds_as, adds_both, none_above, last_awaited, rest_to_decide, bound_to_decide, unbound_with, bound_with, none_with, more_with, enough_at, decided_both, never_decided, ended, gone_up, to_decide, fresh_next, named_as}
 use Rattle.crs_store.proofs.scanning.deciding.+deciding.Goals as goal
@@ -160,21 +160,26 @@ decide_higher-returns-in_default-clause-decided g t c =
 pub decide_higher-returns-clause-decided : goal.decide_higher-returns-clause-decided
 decide_higher-returns-clause-decided g t c =
     let above : IsLevelAbove (levels_in c.args.scan.now.plan.now c.args.scan.now.focus) c.args.next.partial c.args.level c.in-Some.higher = search rules in
+    let are : AreAwaited (levels_in c.args.scan.now.plan.now c.args.scan.now.focus) c.args.next.partial (length c.args.scan.now.plan.now.chronicle.events) c.put_fewest_last.new.todo.items = (c.in_ok-put_fewest_last.ensures {u = tt}) (levels_in c.args.scan.now.plan.now c.args.scan.now.focus) c.args.next.partial (length c.args.scan.now.plan.now.chronicle.events) (c.in_ok-todo.ensures {u = tt}) in
     let long : length c.args.scan.now.plan.now.chronicle.events ≡ length c.args.next.partial = sym c.requires.next.len in
     on_ok_weaker c.decide.result
-    (adds_as c.args.scan.now.plan.now c.args.scan.now.focus c.args.scan.now.until (IsDecided c.args.scan.now.plan.now c.args.scan.now.focus c.args.scan.now.history.now (entry_of c.args.scan.now.entry.now) c.args.scan.now.since c.args.scan.now.until c.args.scan.now.parent.now c.args.next c.in-Some.higher c.in_ok-todo.todo.items) (IsDecided c.args.scan.now.plan.now c.args.scan.now.focus c.args.scan.now.history.now (entry_of c.args.scan.now.entry.now) c.args.scan.now.since c.args.scan.now.until c.args.scan.now.parent.now c.args.next c.args.level []) c.args.out.now.items c.decide.new.out.items
-    (λ more decided. gone_up c.args.scan.now.plan.now c.args.scan.now.focus c.args.scan.now.history.now (entry_of c.args.scan.now.entry.now) c.args.scan.now.since c.args.scan.now.until c.args.scan.now.parent.now c.args.next c.args.level c.in-Some.higher above (length c.args.scan.now.plan.now.chronicle.events) long c.in_ok-todo.todo.items (c.in_ok-todo.ensures {u = tt}) more decided))
+    (adds_as c.args.scan.now.plan.now c.args.scan.now.focus c.args.scan.now.until (IsDecided c.args.scan.now.plan.now c.args.scan.now.focus c.args.scan.now.history.now (entry_of c.args.scan.now.entry.now) c.args.scan.now.since c.args.scan.now.until c.args.scan.now.parent.now c.args.next c.in-Some.higher c.put_fewest_last.new.todo.items) (IsDecided c.args.scan.now.plan.now c.args.scan.now.focus c.args.scan.now.history.now (entry_of c.args.scan.now.entry.now) c.args.scan.now.since c.args.scan.now.until c.args.scan.now.parent.now c.args.next c.args.level []) c.args.out.now.items c.decide.new.out.items
+    (λ more decided. gone_up c.args.scan.now.plan.now c.args.scan.now.focus c.args.scan.now.history.now (entry_of c.args.scan.now.entry.now) c.args.scan.now.since c.args.scan.now.until c.args.scan.now.parent.now c.args.next c.args.level c.in-Some.higher above (length c.args.scan.now.plan.now.chronicle.events) long c.put_fewest_last.new.todo.items are more decided))
     c.decide.ensures.decided
 
 pub decide_higher-decide-requires : goal.decide_higher-decide-requires
 decide_higher-decide-requires g t c = λ κs le.
     let above : IsLevelAbove (levels_in c.args.scan.now.plan.now c.args.scan.now.focus) c.args.next.partial c.args.level c.in-Some.higher = search rules in
-    let todo = to_decide c.args.scan.now.plan.now c.args.scan.now.focus c.args.scan.now.history.now (entry_of c.args.scan.now.entry.now) c.args.scan.now.since c.args.scan.now.until c.args.scan.now.parent.now c.args.next c.args.level c.in-Some.higher above (length c.args.scan.now.plan.now.chronicle.events) c.requires.scan.proper.events_few c.in_ok-todo.todo.items (c.in_ok-todo.ensures {u = tt}) in
+    let are : AreAwaited (levels_in c.args.scan.now.plan.now c.args.scan.now.focus) c.args.next.partial (length c.args.scan.now.plan.now.chronicle.events) c.put_fewest_last.new.todo.items = (c.in_ok-put_fewest_last.ensures {u = tt}) (levels_in c.args.scan.now.plan.now c.args.scan.now.focus) c.args.next.partial (length c.args.scan.now.plan.now.chronicle.events) (c.in_ok-todo.ensures {u = tt}) in
+    let todo = to_decide c.args.scan.now.plan.now c.args.scan.now.focus c.args.scan.now.history.now (entry_of c.args.scan.now.entry.now) c.args.scan.now.since c.args.scan.now.until c.args.scan.now.parent.now c.args.next c.args.level c.in-Some.higher above (length c.args.scan.now.plan.now.chronicle.events) c.requires.scan.proper.events_few c.put_fewest_last.new.todo.items are in
     let few = todo.few in
     let up = above.above in
     let small : c.in-Some.higher < 256 = search rules in
-    let fewer : 4 * ((256 - c.in-Some.higher) * 17 + length c.in_ok-todo.todo.items) + 1 < t = omega (arith, c.decreases) in
+    let fewer : 4 * ((256 - c.in-Some.higher) * 17 + length c.put_fewest_last.new.todo.items) + 1 < t = omega (arith, c.decreases) in
     (fewer, (le, (c.requires.scan, (c.requires.next, (todo, λ flat. absurd (none_above c.args.scan.now.plan.now c.args.scan.now.focus c.args.next.partial c.args.level c.in-Some.higher above flat))))))
+
+pub decide_higher-put_fewest_last-requires-clause-todo : goal.decide_higher-put_fewest_last-requires-clause-todo
+decide_higher-put_fewest_last-requires-clause-todo g t c = (c.in_ok-todo.ensures {u = tt}).below
 
 -- ---- decide_with
 
