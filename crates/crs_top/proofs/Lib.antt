@@ -15,6 +15,8 @@ pub mod MadeLogs
 pub mod Unrefused
 pub mod Preparing
 pub mod Tables
+pub mod EmitSymbols
+pub mod AlikeStrata
 pub mod Parting
 pub mod Rearranging
 pub mod CitedWords

@@ -6,8 +6,7 @@ use Rattle.crs_base.specs.Lines.{Line, bytes_of}
 use Rattle.crs_log.specs.Items.{Item, Delay, Clock, Finish, Happens, Event}
 use Rattle.crs_log.specs.ItemOf.{What, Empty, Is, Faulty, what_of}
 use Rattle.crs_layers.specs.Runs.{State, Effect}
-use Rattle.crs_session.specs.Laws.{ArePlaced}
-use Rattle.crs_top.specs.ModelTexts.{GiveNothing}
+use Rattle.crs_top.specs.ModelTexts.{IsAccepted}
 use Rattle.crs_session.specs.Texts.{Frame, IsTraceOf, IsTextOf, has_refused}
 
 -- the item of a line, and none where it is blank or a comment
@@ -64,14 +63,12 @@ pub record IsRearranged (p q : Part) : Type 0 where
 abbrev pub AreRearranged : List Line → List Line → Type 0
 AreRearranged xs ys = AllZip IsRearranged (parts_of 0 (items_of xs)) (parts_of 0 (items_of ys))
 
--- no line is refused
+-- no line is refused, and each stratum has room for what it is given
 abbrev pub NoneIsRefused : Frame → List Line → Type 0
 NoneIsRefused f lines = (effects : List Effect) × (last : State) × IsTraceOf f lines effects last × (list_any has_refused effects ≡ false)
 
--- what is written for two logs without refused lines that are rearranged is the same, where no chronicle gives entries, and entries aren't
--- cited: their numbers tell the order
+-- what is written for two logs without refused lines that are rearranged is the same, where entries aren't cited: their numbers tell the order
 abbrev pub RearrangedLogsHaveOneText : Type 0
 RearrangedLogsHaveOneText =
-    (f : Frame) (xs ys : List Line) (a b : List ℕ) → ArePlaced f.models.chronicles f.placed → GiveNothing f
-    → f.cite ≡ false → NoneIsRefused f xs → NoneIsRefused f ys → AreRearranged xs ys
-    → IsTextOf f xs a → IsTextOf f ys b → a ≡ b
+    (symbols entries : ℕ) (models : List ℕ) (f : Frame) (xs ys : List Line) (a b : List ℕ) → IsAccepted false symbols entries models f
+    → NoneIsRefused f xs → NoneIsRefused f ys → AreRearranged xs ys → IsTextOf f xs a → IsTextOf f ys b → a ≡ b
