@@ -1,13 +1,16 @@
 -- Strata that are given entries.
-use Rattle.std.proofs.Common.{◌≡◌, ℕ, zero, suc, ◌+◌, ◌<◌, ◌≤◌, ◌^◌, ◌||◌, Bool, true, false, nat_lt, cond, List, [], ◌∷◌, ◌++◌, length, map, refl, sym, ap, subst, ◌∙◌, inl, inr, arith, true≢false, length-append, append-nil, append_assoc, lt-ltb}
+use Rattle.std.proofs.Common.{◌≡◌, ℕ, zero, suc, ◌+◌, ◌<◌, ◌≤◌, ◌^◌, ◌||◌, Bool, true, false, nat_lt, cond, List, [], ◌∷◌, ◌++◌, length, map, take, get_or, refl, sym, ap, subst, ◌∙◌, inl, inr, arith, true≢false, length-append, append-nil, append_assoc, lt-ltb}
 use Rattle.std.specs.Prelude.{IsTrue, ◌↔◌}
 use Rattle.std.specs.List.{AllByRecursion, AllZip, list_any}
 use Rattle.std.specs.Prelude.{Option, Some, None, slice_get}
 use Rattle.std.specs.List.{flat_map}
 use Rattle.std.specs.Option.{option_to_list}
 use Rattle.std.proofs.lemmas.Bool.{cases_lt, le-ltb}
+use Rattle.std.proofs.lemmas.List.{take_more, flat_map_more}
 use Rattle.crs_base.proofs.Alls.{all_append}
-use Rattle.crs_model.specs.Models.{Term, Value, Var, Any}
+use Rattle.crs_model.specs.declared.plan.Plan.{Plan}
+use Rattle.crs_model.specs.Models.{Term, Value, Var, Any, Emit}
+use Rattle.crs_model.specs.Plans.{chronicle}
 use Rattle.crs_model.specs.Renaming.{AreKnown, IsTermOf}
 use Rattle.std.specs.declared.rc.Rc.{Rc}
 use Rattle.std.proofs.Common.{Global}
@@ -25,7 +28,7 @@ use Rattle.crs_layers.specs.Strata.{taken, with_given}
 use Rattle.crs_layers.specs.declared.layer.Layer.{Layer}
 use Rattle.crs_layers.specs.Accepting.{IsSameLayer, HasLogged}
 use Rattle.crs_layers.specs.Standing.{IsLayerAt}
-use Rattle.crs_layers.specs.Giving.{IsGoing, is_flooded_by, AreDue, HasTaken, HaveTaken}
+use Rattle.crs_layers.specs.Giving.{IsGoing, is_flooded_by, AreDue, HasTaken, HaveTaken, emits_at}
 use Rattle.crs_layers.proofs.Logging.{logged_at}
 
 -- ---- what is taken of more and more
@@ -219,7 +222,27 @@ have_more ys zs ls ms ns f g p q = record {
   flood_is = (λ i. p.flood_is i || q.flood_is i) ∙ all_flood (length ys) (length zs) ys ls ms refl p.taken ∙ ap (λ (n : ℕ). list_any (is_flooded_by n) ls) (sym (length-append ys zs));
 }
 
+-- ---- what some give, one after another
+
+module _ {A : Type 0} (f : A → List (Entry Sym)) where
+  pub due_at : (ls : List Layer) (xs : List A) (i : ℕ) (x : A) → i < length xs → x ≡ get_or xs i x → AreDue ls (flat_map f xs) → AreDue ls (f x)
+  due_at ls [] i x l e h = absurd (omega (arith, l))
+  due_at ls (y ∷ xs) zero x l e h = subst (λ (z : A). AreDue ls (f z)) (sym e) (due_left ls (f y) (flat_map f xs) h)
+  due_at ls (y ∷ xs) (suc i) x l e h = due_at ls xs i x (omega (arith, l)) e (due_right ls (f y) (flat_map f xs) h)
+
+  pub have_next : (xs : List A) (i : ℕ) (x : A) (ls ms ns : List Layer) (b c : Bool) → i < length xs → x ≡ get_or xs i x
+      → HaveTaken (flat_map f (take i xs)) ls ms b → HaveTaken (f x) ms ns c → HaveTaken (flat_map f (take (i + 1) xs)) ls ns (b || c)
+  have_next xs i x ls ms ns b c l e p q =
+      let next : take i xs ++ x ∷ [] ≡ take (i + 1) xs = ap (λ (z : A). take i xs ++ z ∷ []) e ∙ sym (take_more xs i x l) in
+      subst (λ (ys : List (Entry Sym)). HaveTaken ys ls ns (b || c)) (flat_map_more f [] (take i xs) x ∙ ap (flat_map f) next)
+      (have_more (flat_map f (take i xs)) (f x) ls ms ns b c p q)
+
 -- ---- what an emit gives
+
+pub emits_all : (P : Emit Sym → Type 0) (ps : List Plan) (n : ℕ) → AllByRecursion (λ p. AllByRecursion P (chronicle p).emits) ps → AllByRecursion P (emits_at ps n)
+emits_all P [] n h = tt
+emits_all P (p ∷ ps) zero h = subst (AllByRecursion P) (sym (append-nil (chronicle p).emits)) h.0
+emits_all P (p ∷ ps) (suc n) h = emits_all P ps n h.1
 
 pub got_map : {A B : Type 0} (f : A → B) (xs : List A) (n : ℕ) (x : A) → slice_get xs n ≡ Some x → slice_get (map f xs) n ≡ Some (f x)
 got_map f [] n x e = absurd cc

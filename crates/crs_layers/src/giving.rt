@@ -122,6 +122,9 @@ fn emits_of(plans: &Plans, number: u32) -> &[Emit]
 
 /// Gives each stratum what recognitions give, one after another. True where there is no room for all of
 /// it in one.
+///
+/// It is a loop, and not a call for the rest as those above: a stratum has a few emits, but a mark may
+/// have more recognitions than the stack has room for calls (160,000 overflow 8 MB).
 pub(crate) fn give_found(
     alloc: Global,
     above: &mut [Layer],
@@ -136,13 +139,11 @@ pub(crate) fn give_found(
     ensures same { AllZip IsSameLayer above.old above.new }
     ensures taken { IfOk result (HaveTaken (flat_map (given_of (text_in symbols.now.texts) (plans_of plans.now)) answer.now) above.old above.new) }
 {
-    match answer.split_first() {
-        None => Ok(false),
-        Some((first, rest)) => {
-            let emits = emits_of(plans, first.chronicle);
-            let flood = give_emits(alloc, above, symbols, emits, first)?;
-            let more = give_found(alloc, above, symbols, plans, rest)?;
-            Ok(either(flood, more))
-        }
+    let mut flood = false;
+    for found in answer {
+        let emits = emits_of(plans, found.chronicle);
+        let more = give_emits(alloc, above, symbols, emits, found)?;
+        flood = either(flood, more);
     }
+    Ok(flood)
 }
