@@ -2,13 +2,13 @@
 # Makes the figures of docs/PERFORMANCE.md anew, and the plot, and puts them into the page.
 #
 # usage: CRS=/path/to/crs docs/measure.sh [TABLE ..]     the tables to make, all where none is named:
-#            build costs growth instructions alive marks focus chronicles symbols peers colliding audits claims plot
+#            build costs growth instructions alive focus chronicles hazards symbols peers colliding audits claims plot
 #
 # Environment:
 #   CRS       the program; crates/crs/out/crs where none is given
 #   BUILD     words that tell which build it is
 #   OTHER     a plain recogniser, or an older build, that has the same commands: ratios to it are given too
-#   N         events of the tables 'alive', 'marks' and 'chronicles' (10000)
+#   N         events of the tables 'alive', 'chronicles' and 'hazards' (10000)
 #   FOCUS_N   events of the table 'focus' (100000)
 #   LINES     the greatest number of events in 'growth', and the number in 'costs' and 'symbols' (1000000)
 #   BUDGET    'growth' doubles a log until a run takes so many seconds (2)
@@ -149,17 +149,6 @@ alive() {
     done
 }
 
-marks() {
-    local p
-    echo "| Events between two clocks | Microseconds an event | MB | Times the plain recogniser |"
-    echo "|---|---|---|---|"
-    for p in 1 4 16 64 256 1024; do
-        make drill "$n" $p
-        run
-        echo "| $(grouped $p) | $(each "$n" 1e6) | $(mb) | $(to_other) |"
-    done
-}
-
 focus() {
     local kind option row
     echo "| Log of $(grouped "$focus_n") events | Command | Microseconds an event | MB | Instances alive, at most | Recognitions | Times the plain recogniser |"
@@ -192,6 +181,24 @@ chronicles() {
         make same "$n" $p
         run
         echo "| $p | $own | $own_other | $(each "$n" 1e6) | $(calc %.1f "$(summed recognitions) / $n") | $(to_other) |"
+    done
+}
+
+hazards() {
+    local kind option events half row
+    echo "| Load | Events | Seconds | Times half of it | Times the plain recogniser |"
+    echo "|---|---|---|---|---|"
+    for kind in site least ahead second back again levels; do
+        option=
+        [ $kind = levels ] && option=--focus
+        half=
+        for events in $((n / 2)) "$n"; do
+            make $kind "$events"
+            run $option
+            row="| $kind | $(grouped "$events") | $(seconds) | ${half:+$(calc %.1f "${cpu:-$limit} / $half")}"
+            half=$cpu
+        done
+        echo "$row | $(to_other $option) |"
     done
 }
 
@@ -319,7 +326,7 @@ put() {
         !skip' "$page" >"$work/page" && cat "$work/page" >"$page"
 }
 
-all='build costs growth instructions alive marks focus chronicles symbols peers colliding audits claims plot'
+all='build costs growth instructions alive focus chronicles hazards symbols peers colliding audits claims plot'
 for name in "$@"; do
     case " $all " in *" $name "*) ;; *) echo "no table $name: $all" >&2; exit 2 ;; esac
 done

@@ -19,9 +19,37 @@ usage: loads.py KIND N FOLDER [P]        N is the number of events, or of what t
   own         P chronicles (1), each of two messages of its own
   same        P chronicles (1), all of the same two messages
   rare        two frequent events of level 1 on 16 units, and one of level 0 that comes once in P events (1000)
+
+Where each event of the second half may concern what came of each one of the first:
+
+  site        a[?s, ?u] of one site, and then `b` of the same site and of another unit
+  least       `occurs` of 3 or more in a window without an end
+  ahead       `noevent` in a window far ahead
+  second      `noevent` of one second argument, and then events of another
+  back        `noevent` back over events of another unit
+  again       `hold`, and then its value told again
+  levels      with `--focus`: an event of level 0, back over those of level 1 of another unit
 """
 
 import sys
+
+
+# declarations, the chronicle, a line before the events, an event of the first half and one of the second
+HAZARDS = {
+    "site": (["message a 2", "message b 2"], ["event(a[?s, ?u], t1)", "event(b[?s, ?u], t2)", "t2 - t1 in [0, 10000000]"],
+             "0 x", "a[s,u#]", "b[s,w]"),
+    "least": (["message a 0"], ["event(a, t1)", "occurs((3, inf), a, (t1, t1 + 10000000))"], "0 x", "a", "a"),
+    "ahead": (["message a 0", "message b 0"], ["event(a, t1)", "noevent(b, (t1 + 5000000, t1 + 5000010))"],
+              "0 x", "a", "b"),
+    "second": (["message a 1", "message b 2"], ["event(a[?u], t1)", "noevent(b[?u, x], (t1, t1 + 10000000))"],
+               "0 x", "a[u]", "b[u,y]"),
+    "back": (["message a 1", "message b 1"], ["event(a[?u], t1)", "noevent(b[?u], (t1 - 10000000, t1))"],
+             "0 x", "b[w]", "a[u]"),
+    "again": (["message a 1", "attribute v 1"], ["event(a[?u], t1)", "hold(v[?u]: on, (t1, t1 + 10000000))"],
+              "0 v[u]: (off, on)", "a[u]", "v[u]: (on, on)"),
+    "levels": (["message a 1", "message b 1"], ["event(a[?u], t1) level 1", "event(b[?u], t2)", "t2 - t1 in [0, 10000000]"],
+               "0 x", "a[w]", "b[u]"),
+}
 
 
 class Draws:
@@ -80,7 +108,16 @@ def ticking(n, event):
     yield "end"
 
 
+def hazard(kind, n):
+    declared, body, before, first, second = HAZARDS[kind]
+    models = declared + ["chronicle c {"] + ["  " + line for line in body] + ["}"]
+    events = ("%d %s" % (i, (first if 2 * i <= n else second).replace("#", str(i))) for i in range(1, n + 1))
+    return models, [before, *events, "end"]
+
+
 def load(kind, n, p):
+    if kind in HAZARDS:
+        return hazard(kind, n)
     ab = ["message a 1", "message b 1"]
     if kind == "drill":
         return drill_models(100, 60), drill_log(n, 64, p or 16)
