@@ -11,6 +11,9 @@ use crate::timed::{Handle, Timed};
 use std::alloc::{AllocError, Global};
 use std::marker::Model;
 
+/// No pair is dated at or after it.
+const FAR: u64 = 1 << 45;
+
 /// Handles by date, of which one of the least date is taken out, and none is put in before a date
 /// at which the calendar stood: a radix heap (Ahuja, Mehlhorn, Orlin and Tarjan, 1990).
 ///
@@ -105,8 +108,9 @@ impl Calendar {
         let from = start_of(self.base, self.wait);
         let at = first_full(self.buckets.as_slice(), from);
         if at == self.buckets.len() {
+            // nothing is there until something is put in: the empty buckets are walked once, not at each call
             self.stands = h;
-            self.wait = h;
+            self.wait = h.max(FAR);
             return None;
         }
         let bucket = &self.buckets[at];

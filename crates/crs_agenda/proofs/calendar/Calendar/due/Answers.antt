@@ -24,8 +24,8 @@ invariant_of-self-then-at-len c =
     let bs = s.buckets.items in
     let l : s.buckets.len ≡ length bs = s.buckets.ok.0 in
     let d : s.stands ≡ c.args.self.now.date = ap (λ (x : Schedule). x.date) c.self.view_is in
-    waited s.base s.stands s.wait s.size c.args.h c.args.h bs c.self.invariant (omega arith) (omega arith)
-    (none_read (λ t. c.args.h ≤ t.date) c.first_full-at.result bs c.as_slice.result.now c.as_slice.ensures.value c.first_full-at.ensures.before (omega arith))
+    waited s.base s.stands s.wait s.size c.args.h c.max-self-inside.result bs c.self.invariant (omega arith) (let m = c.max-self-inside.ensures in omega (arith, m))
+    (none_read (λ t. c.max-self-inside.result ≤ t.date) c.first_full-at.result bs c.as_slice.result.now c.as_slice.ensures.value c.first_full-at.ensures.before (omega arith))
 
 pub returns-then-at-len-clause-none : goal.returns-then-at-len-clause-none
 returns-then-at-len-clause-none c =
