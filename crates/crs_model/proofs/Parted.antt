@@ -1,16 +1,14 @@
 -- All accepted entries in key order, and where a horizon parts them.
-use Rattle.std.proofs.Common.{◌≡◌, ◌≢◌, ◌<◌, ◌≤◌, ℕ, Bool, true, false, cond, not, List, [], ◌∷◌, ◌++◌, map, filter, nat_lt, refl, ap, ◌∙◌, inl, inr, Less, lt-ltb, ltb-true, arith}
+use Rattle.std.proofs.Common.{◌≡◌, ◌≢◌, ◌<◌, ◌≤◌, ℕ, Bool, true, false, cond, not, List, [], ◌∷◌, ◌++◌, filter, nat_lt, refl, ap, ◌∙◌, Less, lt-ltb, ltb-true, arith}
 use Rattle.std.specs.List.{AllByRecursion}
-use Rattle.crs_base.specs.Words.{IsIn, Ordered}
+use Rattle.crs_base.specs.Words.{Ordered}
 use Rattle.crs_base.specs.Entry.{Entry, entry_cmp}
-use Rattle.crs_base.proofs.Words.{in_filter, in_filter_back, ordered_filter, each_from_in, in_from_each, in_append, in_append_left, in_append_right}
+use Rattle.crs_base.proofs.Words.{in_filter, in_filter_back, ordered_filter, each_from_in, in_from_each}
 use Rattle.crs_base.proofs.KeyOrder.{entry_total}
-use Rattle.crs_model.specs.Order.{put_in_order, dated_before, HaveSameMembers}
+use Rattle.crs_model.specs.Order.{dated_before, HaveSameMembers}
 use Rattle.crs_model.specs.Open.{before}
-use Rattle.crs_model.specs.Renaming.{renamed_entry}
-use Rattle.crs_model.proofs.InOrder.{in_put}
 use Rattle.crs_model.proofs.Unique.{same_members}
-use Rattle.crs_model.proofs.Settled.{put_in, of_settled, settled_of, settled_in_order}
+use Rattle.crs_model.proofs.Settled.{of_settled, settled_of, settled_in_order}
 
 module _ {S : Type 0} where
   -- the entries dated at or after h
@@ -51,54 +49,6 @@ module _ {S : Type 0} where
       before_more h h settled waiting (omega arith) k
       ∙ ap (λ (zs : List (Entry S)). settled ++ zs) (filter_none (λ e. nat_lt e.date h) waiting (each_from_in (λ (e : Entry S). nat_lt e.date h ≡ false) waiting (λ e i. not_before e h (nat_lt e.date h) refl (in_from_each (λ (e : Entry S). h ≤ e.date) waiting m e i))))
 
-  either_side : (h : ℕ) (x : Entry S) (waiting : List (Entry S)) (b : Bool) → nat_lt x.date h ≡ b → IsIn x waiting → IsIn x (before h waiting ++ since h waiting)
-  either_side h x waiting true q i = in_append_left (before h waiting) (since h waiting) x (in_filter (λ e. nat_lt e.date h) waiting x i q)
-  either_side h x waiting false q i = in_append_right (before h waiting) (since h waiting) x (in_filter (λ e. not (nat_lt e.date h)) waiting x i (ap not q))
-
-  of_sides : (h : ℕ) (x : Entry S) (waiting : List (Entry S)) → IsIn x (before h waiting ++ since h waiting) → IsIn x waiting
-  of_sides h x waiting i = elim (in_append (before h waiting) (since h waiting) x i) [
-    | inl k ↦ (in_filter_back (λ e. nat_lt e.date h) waiting x k).0
-    | inr k ↦ (in_filter_back (λ e. not (nat_lt e.date h)) waiting x k).0
-  ]
-
-  -- parting the waiting entries leaves the members
-  pub parted_members : (h : ℕ) (settled waiting : List (Entry S)) → HaveSameMembers ((settled ++ before h waiting) ++ since h waiting) (settled ++ waiting)
-  parted_members h settled waiting = record {
-    there = λ x i. elim (in_append (settled ++ before h waiting) (since h waiting) x i) [
-      | inl k ↦ (elim (in_append settled (before h waiting) x k) [
-        | inl m ↦ in_append_left settled waiting x m
-        | inr m ↦ in_append_right settled waiting x (of_sides h x waiting (in_append_left (before h waiting) (since h waiting) x m))
-      ])
-      | inr k ↦ in_append_right settled waiting x (of_sides h x waiting (in_append_right (before h waiting) (since h waiting) x k))
-    ];
-    back = λ x i. elim (in_append settled waiting x i) [
-      | inl k ↦ in_append_left (settled ++ before h waiting) (since h waiting) x (in_append_left settled (before h waiting) x k)
-      | inr k ↦ (elim (in_append (before h waiting) (since h waiting) x (either_side h x waiting (nat_lt x.date h) refl k)) [
-        | inl m ↦ in_append_left (settled ++ before h waiting) (since h waiting) x (in_append_right settled (before h waiting) x m)
-        | inr m ↦ in_append_right (settled ++ before h waiting) (since h waiting) x m
-      ])
-    ];
-  }
-
-  -- an entry that is put among the waiting ones is one more member
-  pub put_members : (x : Entry S) (settled waiting : List (Entry S)) → HaveSameMembers (settled ++ put_in_order x waiting) ((settled ++ waiting) ++ x ∷ [])
-  put_members x settled waiting = record {
-    there = λ y i. elim (in_append settled (put_in_order x waiting) y i) [
-      | inl k ↦ in_append_left (settled ++ waiting) (x ∷ []) y (in_append_left settled waiting y k)
-      | inr k ↦ (elim (in_put entry_total x y waiting k) [
-        | inl e ↦ in_append_right (settled ++ waiting) (x ∷ []) y (inl e)
-        | inr m ↦ in_append_left (settled ++ waiting) (x ∷ []) y (in_append_right settled waiting y m)
-      ])
-    ];
-    back = λ y i. elim (in_append (settled ++ waiting) (x ∷ []) y i) [
-      | inl k ↦ (elim (in_append settled waiting y k) [
-        | inl m ↦ in_append_left settled (put_in_order x waiting) y m
-        | inr m ↦ in_append_right settled (put_in_order x waiting) y (put_in x y waiting (inr m))
-      ])
-      | inr k ↦ in_append_right settled (put_in_order x waiting) y (put_in x y waiting (elim k [ inl e ↦ inl e | inr n ↦ absurd n ]))
-    ];
-  }
-
   -- Those of all that are dated before the horizon, put in key order, are those of the key order that are dated before it.
   pub settled_is : (h : ℕ) (all ordered : List (Entry S)) → Ordered (λ d e. d.arrival ≢ e.arrival) all → Ordered (λ a b. entry_cmp a b ≡ Less) ordered → HaveSameMembers ordered all → before h ordered ≡ dated_before h all
   settled_is h all ordered distinct asc same = same_members entry_total (before h ordered) (dated_before h all)
@@ -106,13 +56,3 @@ module _ {S : Type 0} where
       (settled_in_order entry_total h all distinct)
       (λ x i. let k = in_filter_back (λ e. nat_lt e.date h) ordered x i in settled_of entry_total h all x (same.there x k.0) (ltb-true x.date h k.1))
       (λ x i. let k = of_settled entry_total h all x i in in_filter (λ e. nat_lt e.date h) ordered x (same.back x k.0) (lt-ltb x.date h k.1))
-
-module _ {S T : Type 0} (f : S → T) where
-  pub before_renamed : (h : ℕ) (xs : List (Entry S)) → map (renamed_entry f) (before h xs) ≡ before h (map (renamed_entry f) xs)
-  before_renamed h [] = refl
-  before_renamed h (x ∷ xs) = by (nat_lt x.date h) (before_renamed h xs)
-    where
-      by : (b : Bool) → map (renamed_entry f) (before h xs) ≡ before h (map (renamed_entry f) xs)
-          → map (renamed_entry f) (cond b (x ∷ before h xs) (before h xs)) ≡ cond b (renamed_entry f x ∷ before h (map (renamed_entry f) xs)) (before h (map (renamed_entry f) xs))
-      by true e = ap (λ zs. renamed_entry f x ∷ zs) e
-      by false e = e

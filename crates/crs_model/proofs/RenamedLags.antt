@@ -146,7 +146,7 @@ module _ {S T : Type 0} (f : S → T) where
       each_on (d ∷ ds) [] p h = h
       each_on (d ∷ ds) (n ∷ ns) p h = (above_same d n p.0 h.0, each_on ds ns p.1 h.1)
 
-      strata_on : AreStrata cs strata → AreStrata (map (renamed_chronicle f) cs) strata
+      pub strata_on : AreStrata cs strata → AreStrata (map (renamed_chronicle f) cs) strata
       strata_on h = each_on cs strata of h
 
     pub in_time_on : (cs : List (Chronicle S)) → AllByRecursion (IsChronicleOf P) cs → AreInTime S cs → AreInTime T (map (renamed_chronicle f) cs)

@@ -1,6 +1,5 @@
 pub mod Answered
 pub mod Ordering
-pub mod StrataOn
 pub mod Accepted
 pub mod Summing
 pub mod LogReading

@@ -28,8 +28,7 @@ use Rattle.crs_parse.specs.Meant.{models_read}
 use Rattle.crs_compile.specs.Compiled.{chronicles_in, ClosesFirst, IsModelsRefusal}
 use Rattle.crs_compile.proofs.InTime.{lags_are}
 use Rattle.crs_model.specs.ShortLags.{AreLags, AreInTime, AreSlow, HaveShortLags}
-use Rattle.crs_model.proofs.RenamedLags.{lags_on, in_time_on, closes_slow_on}
-use Rattle.crs_top.proofs.StrataOn.{strata_on}
+use Rattle.crs_model.proofs.RenamedLags.{lags_on, strata_on, in_time_on, closes_slow_on}
 use Rattle.crs_engine.specs.Engines.{plans_of}
 use Rattle.crs_layers.specs.Halts.{AreNew}
 use Rattle.crs_layers.specs.LayerPlans.{placed_of}

@@ -1,10 +1,8 @@
 -- Lines that were given, and the numbers of a log whose lines were all taken.
 use Rattle.std.proofs.Common.{◌≡◌, ◌∙◌, ap, sym, refl, subst, ℕ, ◌+◌, nat_lt, zero-add, Bool, false, List, [], ◌∷◌, ◌++◌, length, append-nil}
 use Rattle.std.proofs.Common.{append_assoc, length-append, map}
-use Rattle.std.specs.List.{list_any}
 use Rattle.crs_base.specs.Lines.{lines_of}
-use Rattle.crs_log.specs.Reading.{Reader, Given, HasGiven, HasNoLine, given, given_lines, numbered, ahead}
-use Rattle.crs_layers.proofs.OneRun.{one_run}
+use Rattle.crs_log.specs.Reading.{Reader, Given, HasGiven, HasNoLine, given, given_lines, ahead}
 use Rattle.crs_layers.specs.Runs.{State, Effect, IsRun, views_of}
 use Rattle.crs_report.specs.Listeners.{notice_of}
 use Rattle.crs_report.specs.declared.summary.Summary.{Summary}
@@ -109,11 +107,6 @@ begun_by f x r u = record {
 -- some line is refused exactly where as many are counted
 refused_of : (f : Frame) (log : List ℕ) (es : List Effect) (last : State) → IsTraceOf f (lines_of log) es last → SomeRefused f log (nat_lt 0 (capped (refused_in es)))
 refused_of f log es last h = (es, last, h, positive (refused_in es) ∙ some_counted es)
-
--- it is said once whether one is
-pub one_refused : (f : Frame) (log : List ℕ) (a b : Bool) → SomeRefused f log a → SomeRefused f log b → a ≡ b
-one_refused f log a b h k =
-    h.3 ∙ ap (list_any has_refused) (one_run (setting_of f) (start_of f) (numbered (lines_of log)) h.0 k.0 h.1 k.1 h.2 k.2).0 ∙ sym k.3
 
 -- all lines of the log were taken
 module _ (f : Frame) (log : List ℕ) (focus : Bool) (start : Counts) (begun : HasBegun f focus start) (y : Session) (told : List Given)
