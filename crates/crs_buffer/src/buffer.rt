@@ -82,6 +82,7 @@ impl Buffer {
         ensures first { result ≡ option_map (λ e. e.date) (slice_get self.now 0) }
         ensures none { IsNone result ↔ (self.now ≡ []) }
         ensures least { IfSome result (λ d. AllByRecursion (λ e. d ≤ e.date) self.now) }
+        ensures in_order { IsInKeyOrder self.now }
     {
         let first = first_of(&self.set, &self.queue)?;
         Some(first.entry.date)

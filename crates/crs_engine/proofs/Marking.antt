@@ -1,11 +1,11 @@
 -- What an engine stands for after a mark, and its answer.
-use Rattle.std.proofs.Common.{◌≡◌, ◌≢◌, max, ℕ, zero, suc, ◌<◌, ◌≤◌, ◌^◌, List, [], ◌∷◌, ◌++◌, length, refl, sym, ap, subst, ◌∙◌, inl, inr, arith, append_assoc, append-nil, length-append, take, drop, Bool, true, not, nat_lt}
+use Rattle.std.proofs.Common.{◌≡◌, ◌≢◌, ℕ, zero, suc, ◌<◌, ◌≤◌, ◌^◌, List, [], ◌∷◌, ◌++◌, length, refl, sym, ap, subst, ◌∙◌, inl, inr, arith, append_assoc, append-nil, length-append, take, drop, Bool, true, not, nat_lt}
 use Rattle.std.specs.List.{AllByRecursion, AllZip, list_any}
 use Rattle.std.proofs.lemmas.Bool.{true≢false, or_parts}
 use Rattle.std.specs.declared.cmp.Ordering.TheVariants.{Less}
 use Rattle.std.proofs.lemmas.List.{take_all}
 use Rattle.crs_history.proofs.FarBack.{far_later}
-use Rattle.std.proofs.Math.Nat.{le-max_left, max-eq_right}
+use Rattle.std.proofs.Math.Nat.{max-eq_right}
 use Rattle.crs_base.specs.declared.symbols.Sym.{Sym}
 use Rattle.crs_base.specs.Words.{IsIn, Ordered}
 use Rattle.crs_base.specs.Entry.{Entry, entry_cmp, IsInKeyOrder}
@@ -22,8 +22,8 @@ use Rattle.crs_model.specs.Order.{arrived}
 use Rattle.crs_model.specs.Scopes.{Scope, scope_of}
 use Rattle.crs_model.specs.Plans.{chronicle}
 use Rattle.crs_store.specs.Ahead.{AreAhead}
-use Rattle.crs_store.specs.Stores.{StoreState, Stands, StandsAhead, IsSameStore}
-use Rattle.crs_store.proofs.Standing.{ahead_of}
+use Rattle.crs_store.specs.Stores.{StoreState, Stands, StandsAhead, StandsComing, IsSameStore}
+use Rattle.crs_store.proofs.Standing.{ahead_of, coming_of, last_of}
 use Rattle.crs_store.specs.Answers.{IsAnswer, IsMarked, IsAdvanced}
 use Rattle.std.specs.Prelude.{ℤ, ◌≤ℤ◌, false, Result, Ok, Err, IfOk, OnOk}
 use Rattle.crs_history.specs.Histories.{HistoryState, lowest, IsFarBack, StandsFor as HistoryStandsFor}
@@ -32,25 +32,25 @@ use Rattle.crs_engine.specs.declared.refused.Refused.{Refused}
 use Rattle.crs_engine.specs.Engines.{HasMoved, EngineState, StandsFor, HaveNumbersBelow, IsStoreAt, IsStoreOf, AreStoresOf, IsWaiting, IsEngine, plans_of, scope_at, has_prompt, not_arrived, floor_at, since}
 use Rattle.crs_engine.proofs.Floors.{floor_later}
 use Rattle.crs_engine.specs.Marks.{ListsAllNew, AfterMark}
-use Rattle.crs_engine.specs.Moves.{AreSameStores, IsTakenIn, IsGivenFresh, AreGivenFresh, AreOffered, HasPut, AreOfferedAll, AreAdvanced, AreMarked, IsRestOf, date_after}
+use Rattle.crs_engine.specs.Moves.{AreSameStores, IsTakenIn, IsGivenFresh, AreGivenOne, AreGivenFresh, AreOffered, HasPut, AreOfferedAll, AreAdvanced, AreMarked, IsRestOf, date_after}
 use Rattle.crs_engine.proofs.Settling.{date_within, offered_without}
 use Rattle.crs_engine.proofs.Pools.{arrived_all, arrived_none, pool_to, pool_from, pool_apart, stands_alike, among_plain, among_prompt}
 use Rattle.crs_engine.proofs.Order.{numbers_few, ordered_left, ordered_right, ordered_cross, before_parts, since_parts}
 
--- a store once those accepted since the last mark came to the pools
-pub record StandsFresh (s : StoreState) (settled was pool : List (Entry Sym)) (g : ℕ) : Type 0 where
+-- A store while those accepted since the last mark come to the pools. Of a prompt chronicle some are still coming, which make its pool whole, and all entries are settled by h.
+pub record StandsFresh (s : StoreState) (whole all coming settled was pool : List (Entry Sym)) (g h : ℕ) : Type 0 where
   pub plain : s.plan.chronicle.prompt ≡ false → Stands s settled settled settled g g
-  pub prompt : s.plan.chronicle.prompt ≡ true → Stands s was pool settled g g
+  pub prompt : s.plan.chronicle.prompt ≡ true → StandsComing s whole all coming was pool settled g g h
 
-abbrev pub AllFresh : List StoreState → List (Entry Sym) → List (Entry Sym) → List (Entry Sym) → ℕ → Type 0
-AllFresh ss settled was pool g = AllByRecursion (λ s. StandsFresh s settled was pool g) ss
+abbrev pub AllFresh : List StoreState → List (Entry Sym) → List (Entry Sym) → List (Entry Sym) → List (Entry Sym) → List (Entry Sym) → List (Entry Sym) → ℕ → ℕ → Type 0
+AllFresh ss whole all coming settled was pool g h = AllByRecursion (λ s. StandsFresh s whole all coming settled was pool g h) ss
 
 -- A store that was judged at a date that isn't after d. The later entries come next, up to h. Of a plain chronicle the pool is what is settled, and was what had been settled; of a prompt one it is what came, and was what had come.
 pub record StandsBy (s : StoreState) (was had settled came later : List (Entry Sym)) (d g h : ℕ) : Type 0 where
   pub date : ℕ
   pub within : date ≤ d
   pub plain : s.plan.chronicle.prompt ≡ false → StandsAhead s was settled settled later date g h
-  pub prompt : s.plan.chronicle.prompt ≡ true → Stands s had came settled date g
+  pub prompt : s.plan.chronicle.prompt ≡ true → StandsComing s came (settled ++ later) [] had came settled date g h
 
 abbrev pub AllStandBy : List StoreState → List (Entry Sym) → List (Entry Sym) → List (Entry Sym) → List (Entry Sym) → List (Entry Sym) → ℕ → ℕ → ℕ → Type 0
 AllStandBy ss was had settled came later d g h = AllByRecursion (λ s. StandsBy s was had settled came later d g h) ss
@@ -89,48 +89,48 @@ prompt_same o n same b e = sym (ap (λ (p : Plan). p.chronicle.prompt) same.plan
 never_both : (b : Bool) → b ≡ true → b ≡ false → ⊥
 never_both b t f = true≢false (sym t ∙ f)
 
-module _ (history : HistoryState) (settled was : List (Entry Sym)) (g : ℕ) (kept : HistoryStandsFor settled history) (few : length settled < 2 ^ 32) where
-  fresh_one : (o n : StoreState) (x : Entry Sym) (pool : List (Entry Sym)) → StandsFresh o settled was pool g → IsGivenFresh o history x n → IsFarBack o.plan.reach g history.floor → IsFresh pool x → g ≤ x.date → StandsFresh n settled was (pool ++ x ∷ []) g
-  fresh_one o n x pool st k far fresh dated = record {
+module _ (history : HistoryState) (settled was whole all : List (Entry Sym)) (g h : ℕ) (kept : HistoryStandsFor settled history) (few : length settled < 2 ^ 32) where
+  fresh_one : (o n : StoreState) (x : Entry Sym) (ahead : List (Entry Sym)) (beyond : ℕ) (coming pool : List (Entry Sym)) → StandsFresh o whole all (x ∷ coming) settled was pool g h → AreAhead ahead beyond coming h → IsGivenFresh o history x ahead beyond n → IsFarBack o.plan.reach g history.floor → IsFresh pool x → g ≤ x.date → StandsFresh n whole all coming settled was (pool ++ x ∷ []) g h
+  fresh_one o n x ahead beyond coming pool st near k far fresh dated = record {
     plain = λ e. (let f = prompt_same o n k.same false e in subst (λ (t : StoreState). Stands t settled settled settled g g) (sym (k.plain f)) (st.plain f));
-    prompt = λ e. (let f = prompt_same o n k.same true e in (k.prompt f) was pool settled g (st.prompt f) kept far few fresh dated);
+    prompt = λ e. (let f = prompt_same o n k.same true e in (k.prompt f) whole all coming was pool settled g h (st.prompt f) near kept far few fresh dated);
   }
 
-  fresh_each : (olds news : List StoreState) (x : Entry Sym) (pool : List (Entry Sym)) → AllFresh olds settled was pool g → AllZip (λ o n. IsGivenFresh o history x n) olds news → AllFar olds g history.floor → IsFresh pool x → g ≤ x.date → AllFresh news settled was (pool ++ x ∷ []) g
-  fresh_each [] [] x pool st k far fresh dated = tt
-  fresh_each [] (n ∷ news) x pool st k far fresh dated = absurd k
-  fresh_each (o ∷ olds) [] x pool st k far fresh dated = absurd k
-  fresh_each (o ∷ olds) (n ∷ news) x pool st k far fresh dated = (fresh_one o n x pool st.0 k.0 far.0 fresh dated, fresh_each olds news x pool st.1 k.1 far.1 fresh dated)
+  fresh_each : (olds news : List StoreState) (x : Entry Sym) (ahead : List (Entry Sym)) (beyond : ℕ) (coming pool : List (Entry Sym)) → AllFresh olds whole all (x ∷ coming) settled was pool g h → AreAhead ahead beyond coming h → AreGivenOne olds history x ahead beyond news → AllFar olds g history.floor → IsFresh pool x → g ≤ x.date → AllFresh news whole all coming settled was (pool ++ x ∷ []) g h
+  fresh_each [] [] x ahead beyond coming pool st near k far fresh dated = tt
+  fresh_each [] (n ∷ news) x ahead beyond coming pool st near k far fresh dated = absurd k
+  fresh_each (o ∷ olds) [] x ahead beyond coming pool st near k far fresh dated = absurd k
+  fresh_each (o ∷ olds) (n ∷ news) x ahead beyond coming pool st near k far fresh dated = (fresh_one o n x ahead beyond coming pool st.0 near k.0 far.0 fresh dated, fresh_each olds news x ahead beyond coming pool st.1 near k.1 far.1 fresh dated)
 
-  given_same : (olds news : List StoreState) (x : Entry Sym) → AllZip (λ o n. IsGivenFresh o history x n) olds news → AreSameStores olds news
-  given_same [] [] x k = tt
-  given_same [] (n ∷ news) x k = absurd k
-  given_same (o ∷ olds) [] x k = absurd k
-  given_same (o ∷ olds) (n ∷ news) x k = ((k.0).same, given_same olds news x k.1)
+  given_same : (olds news : List StoreState) (x : Entry Sym) (ahead : List (Entry Sym)) (beyond : ℕ) → AreGivenOne olds history x ahead beyond news → AreSameStores olds news
+  given_same [] [] x ahead beyond k = tt
+  given_same [] (n ∷ news) x ahead beyond k = absurd k
+  given_same (o ∷ olds) [] x ahead beyond k = absurd k
+  given_same (o ∷ olds) (n ∷ news) x ahead beyond k = ((k.0).same, given_same olds news x ahead beyond k.1)
 
-  fresh_all : (xs : List (Entry Sym)) (olds news : List StoreState) (pool : List (Entry Sym)) → AllFresh olds settled was pool g → AllFar olds g history.floor → AreGivenFresh history xs olds news → AreDistinct (pool ++ xs) → AllByRecursion (λ x. g ≤ x.date) xs → AllFresh news settled was (pool ++ xs) g
-  fresh_all [] olds news pool st far k apart dated = subst (λ (t : List (Entry Sym)). AllFresh news settled was t g) (sym (append-nil pool)) (subst (λ (t : List StoreState). AllFresh t settled was pool g) (sym k) st)
+  fresh_all : (xs : List (Entry Sym)) (olds news : List StoreState) (pool : List (Entry Sym)) → AllFresh olds whole all xs settled was pool g h → AllFar olds g history.floor → AreGivenFresh h history xs olds news → AreDistinct (pool ++ xs) → AllByRecursion (λ x. g ≤ x.date) xs → AllFresh news whole all [] settled was (pool ++ xs) g h
+  fresh_all [] olds news pool st far k apart dated = subst (λ (t : List (Entry Sym)). AllFresh news whole all [] settled was t g h) (sym (append-nil pool)) (subst (λ (t : List StoreState). AllFresh t whole all [] settled was pool g h) (sym k) st)
   fresh_all (x ∷ xs) olds news pool st far k apart dated =
       let joined : (pool ++ x ∷ []) ++ xs ≡ pool ++ x ∷ xs = append_assoc pool (x ∷ []) xs in
-      let one = fresh_each olds k.0 x pool st k.1 far (λ e i. ordered_cross (λ a b. a.arrival ≢ b.arrival) pool (x ∷ xs) apart e x i (inl refl)) dated.0 in
-      subst (λ (t : List (Entry Sym)). AllFresh news settled was t g) joined
-      (fresh_all xs k.0 news (pool ++ x ∷ []) one (same_far g history.floor olds k.0 (given_same olds k.0 x k.1) far) k.2 (subst AreDistinct (sym joined) apart) dated.1)
+      let one = fresh_each olds k.0 x k.1 k.2 xs pool st k.3 k.4 far (λ e i. ordered_cross (λ a b. a.arrival ≢ b.arrival) pool (x ∷ xs) apart e x i (inl refl)) dated.0 in
+      subst (λ (t : List (Entry Sym)). AllFresh news whole all [] settled was t g h) joined
+      (fresh_all xs k.0 news (pool ++ x ∷ []) one (same_far g history.floor olds k.0 (given_same olds k.0 x k.1 k.2 k.4) far) k.5 (subst AreDistinct (sym joined) apart) dated.1)
 
 -- where no chronicle is prompt, nothing changes
 abbrev pub ArePlain : List StoreState → Type 0
 ArePlain ss = AllByRecursion (λ s. s.plan.chronicle.prompt ≡ false) ss
 
-plain_each : (history : HistoryState) (x : Entry Sym) (olds news : List StoreState) → ArePlain olds → AllZip (λ o n. IsGivenFresh o history x n) olds news → news ≡ olds
-plain_each history x [] [] p k = refl
-plain_each history x [] (n ∷ news) p k = absurd k
-plain_each history x (o ∷ olds) [] p k = absurd k
-plain_each history x (o ∷ olds) (n ∷ news) p k = ap (λ (t : StoreState). t ∷ news) ((k.0).plain p.0) ∙ ap (λ (t : List StoreState). o ∷ t) (plain_each history x olds news p.1 k.1)
+plain_each : (history : HistoryState) (x : Entry Sym) (ahead : List (Entry Sym)) (beyond : ℕ) (olds news : List StoreState) → ArePlain olds → AreGivenOne olds history x ahead beyond news → news ≡ olds
+plain_each history x ahead beyond [] [] p k = refl
+plain_each history x ahead beyond [] (n ∷ news) p k = absurd k
+plain_each history x ahead beyond (o ∷ olds) [] p k = absurd k
+plain_each history x ahead beyond (o ∷ olds) (n ∷ news) p k = ap (λ (t : StoreState). t ∷ news) ((k.0).plain p.0) ∙ ap (λ (t : List StoreState). o ∷ t) (plain_each history x ahead beyond olds news p.1 k.1)
 
-plain_all : (history : HistoryState) (xs : List (Entry Sym)) (olds news : List StoreState) → ArePlain olds → AreGivenFresh history xs olds news → news ≡ olds
-plain_all history [] olds news p k = k
-plain_all history (x ∷ xs) olds news p k =
-    let one = plain_each history x olds k.0 p k.1 in
-    plain_all history xs k.0 news (subst ArePlain (sym one) p) k.2 ∙ one
+plain_all : (h : ℕ) (history : HistoryState) (xs : List (Entry Sym)) (olds news : List StoreState) → ArePlain olds → AreGivenFresh h history xs olds news → news ≡ olds
+plain_all h history [] olds news p k = k
+plain_all h history (x ∷ xs) olds news p k =
+    let one = plain_each history x k.1 k.2 olds k.0 p k.4 in
+    plain_all h history xs k.0 news (subst ArePlain (sym one) p) k.5 ∙ one
 
 stores_plain : (focus : Bool) (ps : List Plan) (n : ℕ) (ss : List StoreState) → AreStoresOf focus ps n ss → list_any (λ p. p.chronicle.prompt) ps ≡ false → ArePlain ss
 stores_plain focus [] n [] of e = tt
@@ -140,15 +140,15 @@ stores_plain focus (p ∷ ps) n (s ∷ ss) of e =
     let parts = or_parts p.chronicle.prompt (list_any (λ q. q.chronicle.prompt) ps) e in
     (ap (λ (q : Plan). q.chronicle.prompt) (of.0).plan ∙ parts.0, stores_plain focus ps (suc n) ss of.1 parts.1)
 
-fresh_plain : (settled was pool other : List (Entry Sym)) (g : ℕ) (ss : List StoreState) → ArePlain ss → AllFresh ss settled was pool g → AllFresh ss settled was other g
-fresh_plain settled was pool other g [] p k = tt
-fresh_plain settled was pool other g (s ∷ ss) p k = (record { plain = (k.0).plain; prompt = λ e. absurd (never_both s.plan.chronicle.prompt e p.0) }, fresh_plain settled was pool other g ss p.1 k.1)
+fresh_plain : (whole all coming settled was pool other : List (Entry Sym)) (g h : ℕ) (ss : List StoreState) → ArePlain ss → AllFresh ss whole all coming settled was pool g h → AllFresh ss whole all coming settled was other g h
+fresh_plain whole all coming settled was pool other g h [] p k = tt
+fresh_plain whole all coming settled was pool other g h (s ∷ ss) p k = (record { plain = (k.0).plain; prompt = λ e. absurd (never_both s.plan.chronicle.prompt e p.0) }, fresh_plain whole all coming settled was pool other g h ss p.1 k.1)
 
-fresh_alike : (settled was pool other : List (Entry Sym)) (g : ℕ) → ((e : Entry Sym) → IsIn e pool → IsIn e other) → ((e : Entry Sym) → IsIn e other → IsIn e pool) → (ss : List StoreState) → AllFresh ss settled was pool g → AllFresh ss settled was other g
-fresh_alike settled was pool other g there back [] k = tt
-fresh_alike settled was pool other g there back (s ∷ ss) k = (record { plain = (k.0).plain; prompt = λ e. stands_alike s was pool other settled g g there back ((k.0).prompt e) }, fresh_alike settled was pool other g there back ss k.1)
+fresh_alike : (whole all coming settled was pool other : List (Entry Sym)) (g h : ℕ) → ((e : Entry Sym) → IsIn e pool → IsIn e other) → ((e : Entry Sym) → IsIn e other → IsIn e pool) → (ss : List StoreState) → AllFresh ss whole all coming settled was pool g h → AllFresh ss whole all coming settled was other g h
+fresh_alike whole all coming settled was pool other g h there back [] k = tt
+fresh_alike whole all coming settled was pool other g h there back (s ∷ ss) k = (record { plain = (k.0).plain; prompt = λ e. stands_alike s whole all coming was pool other settled g g h there back ((k.0).prompt e) }, fresh_alike whole all coming settled was pool other g h there back ss k.1)
 
-begin_each : (settled was pool later : List (Entry Sym)) (g h : ℕ) (ss : List StoreState) → AllFresh ss settled was pool g → AllStandBy ss settled was settled pool later g g h
+begin_each : (settled was pool later : List (Entry Sym)) (g h : ℕ) (ss : List StoreState) → AllFresh ss pool (settled ++ later) [] settled was pool g h → AllStandBy ss settled was settled pool later g g h
 begin_each settled was pool later g h [] k = tt
 begin_each settled was pool later g h (s ∷ ss) k = (record { date = g; within = omega arith; plain = λ e. ahead_of s settled settled settled later g g h ((k.0).plain e); prompt = (k.0).prompt }, begin_each settled was pool later g h ss k.1)
 
@@ -172,7 +172,8 @@ taken_one o n put x until ahead beyond was had settled came later d g h same st 
       date = x.date;
       within = ends;
       plain = λ f. absurd (never_both o.plan.chronicle.prompt e (prompt_same o n same false f));
-      prompt = λ f. (k.prompt e) had came settled st.date g (st.prompt e) kept far few inside after_d;
+      prompt = λ f. subst (λ (t : List (Entry Sym)). StandsComing n came t [] had came (settled ++ x ∷ []) x.date g h) (sym (append_assoc settled (x ∷ []) later))
+          ((k.prompt e) came (settled ++ x ∷ later) [] had came settled st.date g h (st.prompt e) kept far few inside after_d);
     }
 
 offered_one : (olds news : List StoreState) (put : HistoryState) (x : Entry Sym) (until : ℕ) (ahead : List (Entry Sym)) (beyond : ℕ) (was had settled came later : List (Entry Sym)) (d g h : ℕ)
@@ -270,7 +271,7 @@ module _ (history : HistoryState) (mark : Mark) (was had settled came : List (En
                 (subst (λ (t : List (Entry Sym)). IsAnswer (chronicle p) n mark (record { pool = was; settled = was; horizon = g }) (record { pool = t; settled = settled; horizon = h }) first) (sym pools) (answer_as p n o mark was was settled settled g h first sp sn sw m.answers)),
           )
       by true e =
-          let m : IsMarked o x mark had came settled g h first = k had came settled st.date g (ahead_of o had came settled [] st.date g h (st.prompt e)) kept far few apart_came at_most dated dates in
+          let m : IsMarked o x mark had came settled g h first = k had came settled st.date g (last_of o had came settled st.date g h (st.prompt e)) kept far few apart_came at_most dated dates in
           let pools = among_prompt p o.plan sp e settled came in (
             subst (λ (t : List (Entry Sym)). Stands x t t settled h h) (sym pools) m.stands,
             subst (λ (t : List (Entry Sym)). IsAnswer (chronicle p) n mark (record { pool = t; settled = was; horizon = g }) (scope_of (chronicle p) settled came h) first) (sym (among_prompt p o.plan sp e was had))
@@ -308,17 +309,17 @@ stores_same focus (p ∷ ps) n [] news h k = absurd h
 stores_same focus (p ∷ ps) n (o ∷ olds) [] h k = absurd k
 stores_same focus (p ∷ ps) n (o ∷ olds) (x ∷ news) h k = (same_store_of focus p n o x h.0 k.0, stores_same focus ps (suc n) olds news h.1 k.1)
 
-fresh_at : (focus : Bool) (m : ℕ) (settled waiting : List (Entry Sym)) (h : ℕ) (p : Plan) (s : StoreState) → IsStoreAt focus m settled waiting h p s → StandsFresh s settled (arrived m (settled ++ waiting)) (arrived m (settled ++ waiting)) h
-fresh_at focus m settled waiting h p s z = record {
+fresh_at : (focus : Bool) (m : ℕ) (settled waiting : List (Entry Sym)) (h : ℕ) (p : Plan) (s : StoreState) → IsStoreAt focus m settled waiting h p s → (whole all coming : List (Entry Sym)) (k : ℕ) → StandsFresh s whole all coming settled (arrived m (settled ++ waiting)) (arrived m (settled ++ waiting)) h k
+fresh_at focus m settled waiting h p s z whole all coming k = record {
   plain = λ e. subst (λ (t : List (Entry Sym)). Stands s t t settled h h) (among_plain p s.plan z.plan e settled (arrived m (settled ++ waiting))) z.stands;
-  prompt = λ e. subst (λ (t : List (Entry Sym)). Stands s t t settled h h) (among_prompt p s.plan z.plan e settled (arrived m (settled ++ waiting))) z.stands;
+  prompt = λ e. coming_of s whole all coming (arrived m (settled ++ waiting)) (arrived m (settled ++ waiting)) settled h h k (subst (λ (t : List (Entry Sym)). Stands s t t settled h h) (among_prompt p s.plan z.plan e settled (arrived m (settled ++ waiting))) z.stands);
 }
 
-all_fresh : (focus : Bool) (m : ℕ) (settled waiting : List (Entry Sym)) (h : ℕ) (ps : List Plan) (ss : List StoreState) → AllZip (IsStoreAt focus m settled waiting h) ps ss → AllFresh ss settled (arrived m (settled ++ waiting)) (arrived m (settled ++ waiting)) h
-all_fresh focus m settled waiting h [] [] z = tt
-all_fresh focus m settled waiting h [] (s ∷ ss) z = absurd z
-all_fresh focus m settled waiting h (p ∷ ps) [] z = absurd z
-all_fresh focus m settled waiting h (p ∷ ps) (s ∷ ss) z = (fresh_at focus m settled waiting h p s z.0, all_fresh focus m settled waiting h ps ss z.1)
+all_fresh : (focus : Bool) (m : ℕ) (settled waiting : List (Entry Sym)) (h : ℕ) (ps : List Plan) (ss : List StoreState) → AllZip (IsStoreAt focus m settled waiting h) ps ss → (whole all coming : List (Entry Sym)) (k : ℕ) → AllFresh ss whole all coming settled (arrived m (settled ++ waiting)) (arrived m (settled ++ waiting)) h k
+all_fresh focus m settled waiting h [] [] z whole all coming k = tt
+all_fresh focus m settled waiting h [] (s ∷ ss) z whole all coming k = absurd z
+all_fresh focus m settled waiting h (p ∷ ps) [] z whole all coming k = absurd z
+all_fresh focus m settled waiting h (p ∷ ps) (s ∷ ss) z whole all coming k = (fresh_at focus m settled waiting h p s z.0 whole all coming k, all_fresh focus m settled waiting h ps ss z.1 whole all coming k)
 
 pub stores_at : (focus : Bool) (m : ℕ) (settled waiting : List (Entry Sym)) (h : ℕ) (ps : List Plan) (n : ℕ) (ss : List StoreState)
     → AreStoresOf focus ps n ss → AllStand ps ss settled (arrived m (settled ++ waiting)) h → AllZip (IsStoreAt focus m settled waiting h) ps ss
@@ -380,21 +381,21 @@ module _ (seen new : EngineState) (mark : Mark) (answer : List Recognition) (sam
   far_before : AllFar seen.stores seen.horizon seen.history.floor
   far_before = stores_far seen.horizon seen.history.floor seen.focus (plans_of seen.plans) 0 seen.stores of stands.far_back
 
-  old_fresh : AllFresh seen.stores s had had seen.horizon
-  old_fresh = all_fresh seen.focus seen.marked s w seen.horizon (plans_of seen.plans) seen.stores stands.stores
+  old_fresh : (coming : List (Entry Sym)) → AllFresh seen.stores (s ++ w) (s ++ (marked.settled).done) coming s had had seen.horizon new.horizon
+  old_fresh coming = all_fresh seen.focus seen.marked s w seen.horizon (plans_of seen.plans) seen.stores stands.stores (s ++ w) (s ++ (marked.settled).done) coming new.horizon
 
   all_apart : AreDistinct (s ++ w)
   all_apart = stands.numbered.distinct
 
-  pooled_fresh : (b : Bool) → has_prompt seen.plans ≡ b → AllFresh marked.pooled s had (s ++ w) seen.horizon
+  pooled_fresh : (b : Bool) → has_prompt seen.plans ≡ b → AllFresh marked.pooled (s ++ w) (s ++ (marked.settled).done) [] s had (s ++ w) seen.horizon new.horizon
   pooled_fresh true e =
-      let given : AreGivenFresh seen.history (not_arrived seen.marked w) seen.stores marked.pooled = subst (λ (t : List (Entry Sym)). AreGivenFresh seen.history t seen.stores marked.pooled) (stands.fresh_is e) marked.given in
-      fresh_alike s had (had ++ not_arrived seen.marked w) (s ++ w) seen.horizon (pool_to s w seen.marked stands.arrived_settled) (pool_from s w seen.marked stands.arrived_settled) marked.pooled
-      (fresh_all seen.history s had seen.horizon stands.history few_before (not_arrived seen.marked w) seen.stores marked.pooled had old_fresh far_before given (pool_apart s w seen.marked stands.arrived_settled all_apart) fresh_after)
+      let given : AreGivenFresh new.horizon seen.history (not_arrived seen.marked w) seen.stores marked.pooled = subst (λ (t : List (Entry Sym)). AreGivenFresh new.horizon seen.history t seen.stores marked.pooled) (stands.fresh_is e) marked.given in
+      fresh_alike (s ++ w) (s ++ (marked.settled).done) [] s had (had ++ not_arrived seen.marked w) (s ++ w) seen.horizon new.horizon (pool_to s w seen.marked stands.arrived_settled) (pool_from s w seen.marked stands.arrived_settled) marked.pooled
+      (fresh_all seen.history s had (s ++ w) (s ++ (marked.settled).done) seen.horizon new.horizon stands.history few_before (not_arrived seen.marked w) seen.stores marked.pooled had (old_fresh (not_arrived seen.marked w)) far_before given (pool_apart s w seen.marked stands.arrived_settled all_apart) fresh_after)
   pooled_fresh false e =
       let plain = stores_plain seen.focus (plans_of seen.plans) 0 seen.stores of e in
-      subst (λ (t : List StoreState). AllFresh t s had (s ++ w) seen.horizon) (sym (plain_all seen.history seen.fresh seen.stores marked.pooled plain marked.given))
-      (fresh_plain s had had (s ++ w) seen.horizon seen.stores plain old_fresh)
+      subst (λ (t : List StoreState). AllFresh t (s ++ w) (s ++ (marked.settled).done) [] s had (s ++ w) seen.horizon new.horizon) (sym (plain_all new.horizon seen.history seen.fresh seen.stores marked.pooled plain marked.given))
+      (fresh_plain (s ++ w) (s ++ (marked.settled).done) [] s had had (s ++ w) seen.horizon new.horizon seen.stores plain (old_fresh []))
 
   together : StandTogether marked.pooled seen.history s had s (s ++ w) (marked.settled).done seen.horizon seen.horizon new.horizon
   together = record {
@@ -559,16 +560,3 @@ delayed seen old d view s w stands =
 -- the horizon moves where that is forward
 pub moved_forward : (old new : EngineState) (t h : ℕ) → HasMoved old new t h → old.horizon ≤ h → new.horizon ≡ h
 moved_forward old new t h m l = m.moved ∙ max-eq_right l
-
--- a horizon that was there already stays
-pub moved_to : (old new : EngineState) (t h : ℕ) → HasMoved old new t h → HasMoved old new t (max old.horizon h)
-moved_to old new t h m = record {
-  same_plans = m.same_plans;
-  same_focus = m.same_focus;
-  same_limit = m.same_limit;
-  same_delay = m.same_delay;
-  same_count = m.same_count;
-  clock = m.clock;
-  moved = m.moved ∙ sym (max-eq_right (le-max_left old.horizon h));
-  marked = m.marked;
-}

@@ -19,7 +19,7 @@ use Rattle.crs_model.specs.Open.{IsOpen, pool_among}
 use Rattle.crs_model.specs.Order.{put_in_order, arrived}
 use Rattle.crs_model.specs.Plans.{chronicle}
 use Rattle.crs_model.proofs.Options.{of_some, some_if}
-use Rattle.crs_store.specs.Stores.{StoreState, Stands, levels_of}
+use Rattle.crs_store.specs.Stores.{StoreState, StandsComing, levels_of}
 use Rattle.crs_engine.specs.Engines.{not_arrived}
 use Rattle.crs_engine.proofs.Order.{put_cases, ordered_right}
 
@@ -115,8 +115,8 @@ module _ (c : Chronicle Sym) where
     windows = k.windows;
   }
 
-pub stands_alike : (s : StoreState) (was pool other entries : List (Entry Sym)) (d g : ℕ) → ((e : Entry Sym) → IsIn e pool → IsIn e other) → ((e : Entry Sym) → IsIn e other → IsIn e pool) → Stands s was pool entries d g → Stands s was other entries d g
-stands_alike s was pool other entries d g there back k =
+pub stands_alike : (s : StoreState) (whole all coming was pool other entries : List (Entry Sym)) (d g h : ℕ) → ((e : Entry Sym) → IsIn e pool → IsIn e other) → ((e : Entry Sym) → IsIn e other → IsIn e pool) → StandsComing s whole all coming was pool entries d g h → StandsComing s whole all coming was other entries d g h
+stands_alike s whole all coming was pool other entries d g h there back k =
     let c = chronicle s.plan in
     record {
       stands = record {

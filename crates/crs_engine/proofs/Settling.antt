@@ -1,7 +1,8 @@
 -- The entries that are settled one after another, and all stores' part in it.
-use Rattle.std.proofs.Common.{◌≡◌, ℕ, ◌<◌, ◌≤◌, ◌^◌, List, [], ◌∷◌, ◌++◌, refl, sym, ap, subst, ◌∙◌, inl, inr, arith, append_assoc, append-nil, cond, nat_lt, Bool, true, false}
+use Rattle.std.proofs.Common.{◌≡◌, ℕ, ◌<◌, ◌≤◌, ◌^◌, List, [], ◌∷◌, ◌++◌, refl, sym, ap, subst, ◌∙◌, inl, inr, arith, append_assoc, append-nil, cond, nat_lt, Bool, true, false, take, drop, map, length}
 use Rattle.std.specs.Prelude.{Some, None, min, pos, ◌≤ℤ◌, ℤ}
 use Rattle.std.proofs.lemmas.Int.{ints}
+use Rattle.std.proofs.lemmas.List.{map-append, take-append-drop}
 use Rattle.std.specs.List.{AllByRecursion, AllZip}
 use Rattle.std.proofs.lemmas.Bool.{ltb-true, le-ltb}
 use Rattle.crs_base.specs.declared.symbols.Sym.{Sym}
@@ -18,7 +19,7 @@ use Rattle.crs_history.specs.Histories.{HistoryState, EndsWith, IsAfterAll, Stan
 use Rattle.crs_store.specs.Ahead.{AreAhead}
 use Rattle.crs_store.specs.Stores.{StoreState, IsSameStore}
 use Rattle.crs_store.specs.Answers.{IsAdvanced}
-use Rattle.crs_engine.specs.Moves.{AreSameStores, IsGivenFresh, AreGivenFresh, AreOffered, HasPut, AreOfferedAll, AreTaken, ArePut, AreSettled, IsRestOf, AreAdvanced, date_after}
+use Rattle.crs_engine.specs.Moves.{AreSameStores, AreGivenOne, AreGivenFresh, AreOffered, HasPut, AreOfferedAll, AreTaken, ArePut, AreSettled, IsRestOf, AreAdvanced, date_after}
 use Rattle.crs_engine.proofs.Order.{ordered_cross, ordered_right, ordered_without}
 
 pub same_all : (ss : List StoreState) → AreSameStores ss ss
@@ -103,6 +104,15 @@ date_within h [] = omega arith
 date_within h (y ∷ es) = omega arith
 
 -- ---- the entries that come next
+
+-- what is made of an empty list
+pub none_mapped : {A B : Type 0} (f : A → B) (xs : List A) → length xs ≡ 0 → map f xs ≡ []
+none_mapped f [] e = refl
+none_mapped f (x ∷ xs) e = absurd (omega (arith, e))
+
+-- what is made of a list that is cut at a place
+pub map_parted : {A B : Type 0} (f : A → B) (xs front back : List A) (n : ℕ) → front ≡ take n xs → back ≡ drop n xs → map f xs ≡ map f front ++ map f back
+map_parted f xs front back n e k = ap (map f) (sym (take-append-drop n xs) ∙ ap (λ (t : List _). take n xs ++ t) (sym k) ∙ ap (λ (t : List _). t ++ back) (sym e)) ∙ map-append f front back
 
 first_before : (h : ℕ) (es : List (Entry Sym)) → IsInKeyOrder es → (x : Entry Sym) → IsIn x es → date_after h es ≤ x.date
 first_before h [] o x i = absurd i
@@ -379,45 +389,73 @@ each_late olds news past now held h rest so all = subst (λ (z : ℤ). AllByRecu
 
 -- ---- what comes to the pools
 
--- what is known while those accepted since the last mark come to the pools
-pub record AreGivenSoFar (olds : List StoreState) (history : HistoryState) (fresh : List (Entry Sym)) (news : List StoreState) (rest : List (Entry Sym)) : Type 0 where
-  pub same : AreSameStores olds news
+-- what was taken out of the buffer so far, and what is left there
+pub record AreTakenOut (held taken rest : List (Entry Sym)) : Type 0 where
+  pub parted : held ≡ taken ++ rest
   pub small : AllByRecursion IsSmall rest
-  pub done : List (Entry Sym)
-  pub parted : fresh ≡ done ++ rest
-  pub given : AreGivenFresh history done olds news
 
-pub given_none : (olds : List StoreState) (history : HistoryState) (fresh : List (Entry Sym)) → AllByRecursion IsSmall fresh → AreGivenSoFar olds history fresh olds fresh
-given_none olds history fresh small = record { same = same_all olds; small = small; done = []; parted = refl; given = refl }
+pub out_none : (held taken : List (Entry Sym)) → taken ≡ [] → AllByRecursion IsSmall held → AreTakenOut held taken held
+out_none held taken none small = record { parted = ap (λ (t : List (Entry Sym)). t ++ held) (sym none); small = small }
 
-given_on : (history : HistoryState) (xs : List (Entry Sym)) (x : Entry Sym) (olds mid news : List StoreState) → AreGivenFresh history xs olds mid → AllZip (λ o n. IsGivenFresh o history x n) mid news → AreGivenFresh history (xs ++ x ∷ []) olds news
-given_on history [] x olds mid news k z = (news, subst (λ (t : List StoreState). AllZip (λ o n. IsGivenFresh o history x n) t news) k z, refl)
-given_on history (y ∷ xs) x olds mid news k z = (k.0, k.1, given_on history xs x k.0 mid news k.2 z)
-
-module _ (olds : List StoreState) (history : HistoryState) (fresh : List (Entry Sym)) (mid : List StoreState) (rest : List (Entry Sym)) (so : AreGivenSoFar olds history fresh mid rest) where
-  pub given_more : (h : ℕ) (x : Entry Sym) (after : List (Entry Sym)) (news : List StoreState) → released rest h ≡ Some x → after ≡ left rest h → AreSameStores mid news → AllZip (λ o n. IsGivenFresh o history x n) mid news → AreGivenSoFar olds history fresh news after
-  given_more h x after news e r same z =
+module _ (held taken rest : List (Entry Sym)) (so : AreTakenOut held taken rest) (h : ℕ) where
+  pub out_more : (x : Entry Sym) (after next : List (Entry Sym)) → released rest h ≡ Some x → after ≡ left rest h → next ≡ taken ++ x ∷ [] → AreTakenOut held next after
+  out_more x after next e r n =
       let out = first_taken h rest after x e r in
       record {
-        same = same_on olds mid news so.same same;
+        parted = so.parted ∙ ap (λ (t : List (Entry Sym)). taken ++ t) out.0 ∙ sym (append_assoc taken (x ∷ []) after) ∙ ap (λ (t : List (Entry Sym)). t ++ after) (sym n);
         small = (subst (AllByRecursion IsSmall) out.0 so.small).1;
-        done = so.done ++ x ∷ [];
-        parted = so.parted ∙ ap (λ (t : List (Entry Sym)). so.done ++ t) out.0 ∙ sym (append_assoc so.done (x ∷ []) after);
-        given = given_on history so.done x olds mid news so.given z;
       }
 
-  pub first_small : (h : ℕ) (x : Entry Sym) → released rest h ≡ Some x → x.date < 2 ^ 40
-  first_small h x e = (subst (AllByRecursion IsSmall) (came_out rest h x e).0 so.small).0
+  none_left : (xs : List (Entry Sym)) → 2 ^ 40 ≤ h → AllByRecursion IsSmall xs → AllByRecursion (λ x. h ≤ x.date) xs → xs ≡ []
+  none_left [] l a b = refl
+  none_left (x ∷ xs) l a b = let s = a.0 in let t = b.0 in absurd (omega arith)
 
-  none_left : (h : ℕ) → 2 ^ 40 ≤ h → (xs : List (Entry Sym)) → AllByRecursion IsSmall xs → AllByRecursion (λ x. h ≤ x.date) xs → xs ≡ []
-  none_left h l [] a b = refl
-  none_left h l (x ∷ xs) a b = let s = a.0 in let t = b.0 in absurd (omega arith)
+  -- none is left where none is dated before a date that is after all
+  pub out_whole : 2 ^ 40 ≤ h → AllByRecursion (λ x. h ≤ x.date) rest → taken ≡ held
+  out_whole l none = sym (so.parted ∙ ap (λ (t : List (Entry Sym)). taken ++ t) (none_left rest l so.small none) ∙ append-nil taken)
 
-  pub given_whole : (h : ℕ) → 2 ^ 40 ≤ h → AllByRecursion (λ x. h ≤ x.date) rest → AreGivenFresh history fresh olds mid
-  given_whole h l none = subst (λ (t : List (Entry Sym)). AreGivenFresh history t olds mid) (sym (so.parted ∙ ap (λ (t : List (Entry Sym)). so.done ++ t) (none_left h l rest so.small none) ∙ append-nil so.done)) so.given
+  pub out_all : 2 ^ 40 ≤ h → AllByRecursion (λ x. h ≤ x.date) rest → (after : List (Entry Sym)) → after ≡ left rest h → after ≡ []
+  out_all l none after r = r ∙ left_none h rest none ∙ none_left rest l so.small none
 
-  pub given_out : (h : ℕ) → 2 ^ 40 ≤ h → AllByRecursion (λ x. h ≤ x.date) rest → (after : List (Entry Sym)) → after ≡ left rest h → after ≡ []
-  given_out h l none after r = r ∙ left_none h rest none ∙ none_left h l rest so.small none
+-- what is known while those accepted since the last mark come to the pools: what is shown of those that are left is shown of all
+pub record AreGivenSoFar (olds : List StoreState) (history : HistoryState) (due : List (Entry Sym)) (h : ℕ) (news : List StoreState) (rest : List (Entry Sym)) : Type 0 where
+  pub same : AreSameStores olds news
+  pub small : AllByRecursion IsSmall rest
+  pub order : IsInKeyOrder rest
+  pub shown : (last : List StoreState) → AreGivenFresh h history rest news last → AreGivenFresh h history due olds last
+
+pub given_none : (olds : List StoreState) (history : HistoryState) (due : List (Entry Sym)) (h : ℕ) → AllByRecursion IsSmall due → IsInKeyOrder due → AreGivenSoFar olds history due h olds due
+given_none olds history due h small order = record { same = same_all olds; small = small; order = order; shown = λ last k. k }
+
+module _ (olds : List StoreState) (history : HistoryState) (due : List (Entry Sym)) (h : ℕ) (mid : List StoreState) (rest : List (Entry Sym)) (so : AreGivenSoFar olds history due h mid rest) where
+  module _ (x : Entry Sym) (after : List (Entry Sym)) (cut : rest ≡ x ∷ after) where
+    small_now : AllByRecursion IsSmall (x ∷ after)
+    small_now = subst (AllByRecursion IsSmall) cut so.small
+
+    order_now : IsInKeyOrder (x ∷ after)
+    order_now = subst IsInKeyOrder cut so.order
+
+    pub first_small : x.date < 2 ^ 40
+    first_small = small_now.0
+
+    pub given_more : (ahead others : List (Entry Sym)) (beyond : ℕ) → after ≡ ahead ++ others → beyond ≡ date_after h others → (news : List StoreState) → AreSameStores mid news → AreGivenOne mid history x ahead beyond news → AreGivenSoFar olds history due h news after
+    given_more ahead others beyond parted b news same one = record {
+      same = same_on olds mid news so.same same;
+      small = small_now.1;
+      order = order_now.1;
+      shown = λ last k. so.shown last (subst (λ (t : List (Entry Sym)). AreGivenFresh h history t mid last) (sym cut) (news, ahead, beyond, subst (λ (d : ℕ). AreAhead ahead d after h) (sym b) (parted_ahead h after ahead others order_now.1 parted), one, k));
+    }
+
+  pub given_whole : rest ≡ [] → AreGivenFresh h history due olds mid
+  given_whole none = so.shown mid (subst (λ (t : List (Entry Sym)). AreGivenFresh h history t mid mid) (sym none) refl)
+
+-- where none came, nothing is given
+pub given_nothing : (history : HistoryState) (h : ℕ) (fresh : List (Entry Sym)) (stores : List StoreState) → fresh ≡ [] → AreGivenFresh h history fresh stores stores
+given_nothing history h fresh stores none = subst (λ (t : List (Entry Sym)). AreGivenFresh h history t stores stores) (sym none) refl
+
+-- a date that is told isn't after the horizon
+pub told_near : (h beyond : ℕ) (others : List (Entry Sym)) → beyond ≡ date_after h others → h ≤ 2 ^ 42 → beyond ≤ 2 ^ 42
+told_near h beyond others b l = let w = date_within h others in omega (arith, b, w)
 
 -- ---- lists of stores
 

@@ -7,7 +7,7 @@ use Rattle.crs_model.specs.declared.recognition.Mark.{Mark}
 use Rattle.crs_model.specs.declared.recognition.Recognition.{Recognition}
 use Rattle.crs_model.specs.Order.{put_in_order}
 use Rattle.crs_history.specs.Histories.{HistoryState, StandsFor}
-use Rattle.crs_store.specs.Stores.{StoreState, IsSameStore, IsOfferedUntil, IsOfferedPrompt, IsSettledWith}
+use Rattle.crs_store.specs.Stores.{StoreState, IsSameStore, IsOfferedUntil, IsOfferedPromptAhead, IsSettledComing}
 use Rattle.crs_store.specs.Ahead.{AreAhead}
 use Rattle.crs_store.specs.Answers.{IsAdvanced}
 
@@ -17,22 +17,27 @@ AreSameStores olds news = AllZip IsSameStore olds news
 -- it was offered x, or x was settled where its chronicle is prompt
 pub record IsTakenIn (o : StoreState) (history : HistoryState) (x : Entry Sym) (until : ℕ) (ahead : List (Entry Sym)) (beyond : ℕ) (n : StoreState) : Type 0 where
   pub plain : o.plan.chronicle.prompt ≡ false → IsOfferedUntil o history x until ahead beyond n
-  pub prompt : o.plan.chronicle.prompt ≡ true → IsSettledWith o history x n
+  pub prompt : o.plan.chronicle.prompt ≡ true → IsSettledComing o history x n
 
 -- each was offered x, which the history has as its last, and told of the entries ahead of all that are dated at or after a date, and all that it holds was judged at a date that isn't after `until`; where its chronicle is prompt, x was settled
 abbrev pub AreOffered : List StoreState → HistoryState → Entry Sym → ℕ → List (Entry Sym) → ℕ → List StoreState → Type 0
 AreOffered olds history x until ahead beyond news = AllZip (λ o n. IsTakenIn o history x until ahead beyond n) olds news
 
--- x came to its pool where its chronicle is prompt, and else nothing changed
-pub record IsGivenFresh (o : StoreState) (history : HistoryState) (x : Entry Sym) (n : StoreState) : Type 0 where
+-- x came to its pool where its chronicle is prompt, and it was told of the entries ahead of all that are dated at or after a date; else nothing changed
+pub record IsGivenFresh (o : StoreState) (history : HistoryState) (x : Entry Sym) (ahead : List (Entry Sym)) (beyond : ℕ) (n : StoreState) : Type 0 where
   pub same : IsSameStore o n
   pub plain : o.plan.chronicle.prompt ≡ false → n ≡ o
-  pub prompt : o.plan.chronicle.prompt ≡ true → IsOfferedPrompt o history x n
+  pub prompt : o.plan.chronicle.prompt ≡ true → IsOfferedPromptAhead o history x ahead beyond n
 
--- each entry in turn came to the pools of the prompt chronicles
-abbrev pub AreGivenFresh : HistoryState → List (Entry Sym) → List StoreState → List StoreState → Type 0
-AreGivenFresh history [] olds news = news ≡ olds
-AreGivenFresh history (x ∷ xs) olds news = (next : List StoreState) × AllZip (λ o n. IsGivenFresh o history x n) olds next × AreGivenFresh history xs next news
+-- so of each
+abbrev pub AreGivenOne : List StoreState → HistoryState → Entry Sym → List (Entry Sym) → ℕ → List StoreState → Type 0
+AreGivenOne olds history x ahead beyond news = AllZip (λ o n. IsGivenFresh o history x ahead beyond n) olds news
+
+-- each entry in turn came to the pools of the prompt chronicles, whose stores were told of some of those after it, up to h
+abbrev pub AreGivenFresh : ℕ → HistoryState → List (Entry Sym) → List StoreState → List StoreState → Type 0
+AreGivenFresh h history [] olds news = news ≡ olds
+AreGivenFresh h history (x ∷ xs) olds news =
+    (next : List StoreState) × (ahead : List (Entry Sym)) × (beyond : ℕ) × AreAhead ahead beyond xs h × AreGivenOne olds history x ahead beyond next × AreGivenFresh h history xs next news
 
 -- put in order, where it is wanted
 abbrev pub put_where : Bool → Entry Sym → List (Entry Sym) → List (Entry Sym)
@@ -88,7 +93,7 @@ AreAdvanced history h mark (o ∷ olds) news answer =
 -- those accepted since the last mark came to the pools, the entries dated before h were settled and no others, and then each store was advanced
 pub record AreMarked (h : ℕ) (mark : Mark) (olds : List StoreState) (past : HistoryState) (held fresh : List (Entry Sym)) (news : List StoreState) (now : HistoryState) (rest : List (Entry Sym)) (answer : List Recognition) : Type 0 where
   pub pooled : List StoreState
-  pub given : AreGivenFresh past fresh olds pooled
+  pub given : AreGivenFresh h past fresh olds pooled
   pub same_pooled : AreSameStores olds pooled
   pub between : List StoreState
   pub settled : AreSettled pooled past held h between now rest

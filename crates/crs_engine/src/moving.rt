@@ -6,11 +6,10 @@ ghost use Rattle.crs_base.specs.Entry.{Entry as LogEntry, IsInKeyOrder};
 ghost use Rattle.crs_base.specs.Seen.{entry_of};
 ghost use Rattle.crs_history.specs.Histories.{EndsWith, StandsFor};
 ghost use Rattle.crs_model.specs.declared.recognition.Recognition.{Recognition};
-ghost use Rattle.crs_engine.specs.Moves.{IsTakenIn, IsGivenFresh, AreGivenFresh, put_where, AreSameStores, AreOffered, AreOfferedAll, AreTaken, ArePut, AreSettled, IsRestOf, AreAdvanced, AreMarked, date_after};
+ghost use Rattle.crs_engine.specs.Moves.{IsTakenIn, IsGivenFresh, AreGivenOne, AreGivenFresh, put_where, AreSameStores, AreOffered, AreOfferedAll, AreTaken, ArePut, AreSettled, IsRestOf, AreAdvanced, AreMarked, date_after};
 ghost use Rattle.crs_buffer.specs.Entries.{IsNewKey};
 ghost use Rattle.crs_model.specs.Order.{put_in_order};
 ghost use Rattle.crs_store.specs.Stores.{IsSameStore};
-ghost use Rattle.std.specs.List.{AllZip};
 
 use crate::refused::NoMemory;
 use crs_base::{Entry, List, Steps};
@@ -84,64 +83,53 @@ fn offer_all<L: Ledger>(
     }
 }
 
-/// Offers the entry, which isn't settled yet, to the store of a prompt chronicle.
+/// Offers the entry, which isn't settled yet, to the store of a prompt chronicle, and tells it of those
+/// that come next.
 fn offer_prompt_one<L: Ledger>(
     store: &mut Store,
     history: &History,
     entry: &Rc<Entry>,
+    ahead: &[Rc<Entry>],
+    beyond: u64,
     steps: &mut Steps<L>,
 ) -> Result<(), NoMemory>
     requires date { entry.now.value.date < 2 ^ 40 }
+    requires near { beyond ≤ 2 ^ 42 }
     ensures same { IsSameStore store.old store.new }
-    ensures given { OnOk result (IsGivenFresh store.old history.now (entry_of entry.now.value) store.new) }
+    ensures given { OnOk result (IsGivenFresh store.old history.now (entry_of entry.now.value) (map (λ r. entry_of r.value) ahead.now) beyond store.new) }
 {
     if store.is_prompt() {
-        store.offer_prompt(history, entry, steps)?;
+        store.offer_prompt_ahead(history, entry, ahead, beyond, steps)?;
     }
     Ok(())
 }
 
-/// Offers the entry, which isn't settled yet, to each store of a prompt chronicle.
+/// Offers the entry, which isn't settled yet, to each store of a prompt chronicle, and tells it of those
+/// that come next.
 fn offer_prompt_all<L: Ledger>(
     stores: &mut [Store],
     history: &History,
     entry: &Rc<Entry>,
+    ahead: &[Rc<Entry>],
+    beyond: u64,
     steps: &mut Steps<L>,
 ) -> Result<(), NoMemory>
     requires date { entry.now.value.date < 2 ^ 40 }
+    requires near { beyond ≤ 2 ^ 42 }
     ensures same { AreSameStores stores.old stores.new }
-    ensures given { OnOk result (AllZip (λ o n. IsGivenFresh o history.now (entry_of entry.now.value) n) stores.old stores.new) }
+    ensures given { OnOk result (AreGivenOne stores.old history.now (entry_of entry.now.value) (map (λ r. entry_of r.value) ahead.now) beyond stores.new) }
 {
     match stores.split_first_mut() {
         None => Ok(()),
         Some((first, rest)) => {
-            offer_prompt_one(first, history, entry, steps)?;
-            offer_prompt_all(rest, history, entry, steps)
+            offer_prompt_one(first, history, entry, ahead, beyond, steps)?;
+            offer_prompt_all(rest, history, entry, ahead, beyond, steps)
         }
     }
 }
 
 /// It is after each date of an entry.
 const END: u64 = 4_398_046_511_104;
-
-/// Offers the entries that were accepted since the last mark to the stores of prompt chronicles, in
-/// key order.
-fn offer_fresh<L: Ledger>(
-    stores: &mut [Store],
-    history: &History,
-    fresh: &mut Buffer,
-    steps: &mut Steps<L>,
-) -> Result<(), NoMemory>
-    requires small { AllByRecursion (λ x. x.date < 2 ^ 40) fresh.old }
-    ensures same { AreSameStores stores.old stores.new }
-    ensures none { OnOk result (fresh.new ≡ []) }
-    ensures given { OnOk result (AreGivenFresh history.now fresh.old stores.old stores.new) }
-{
-    while let Some(entry) = fresh.release_before(END) {
-        offer_prompt_all(stores, history, &entry, steps)?;
-    }
-    Ok(())
-}
 
 /// The date of the first of the entries, or `h` where that is the lesser or there is none.
 fn date_after(entries: &[Rc<Entry>], h: u64) -> u64
@@ -184,6 +172,71 @@ fn date_behind(buffer: &Buffer, h: u64) -> u64
         Some(date) => date.min(h),
         None => h,
     }
+}
+
+/// Takes all entries out of the buffer, and fills the list anew with them, in key order. What an error
+/// leaves in the list is not to be used.
+fn take_all(fresh: &mut Buffer, due: &mut Vec<Rc<Entry>>) -> Result<(), AllocError>
+    requires small { AllByRecursion (λ x. x.date < 2 ^ 40) fresh.old }
+    ensures none { OnOk result (fresh.new ≡ []) }
+    ensures taken { OnOk result (map (λ r. entry_of r.value) due.new.items ≡ fresh.old) }
+{
+    due.clear();
+    while let Some(entry) = fresh.release_before(END) {
+        due.push(entry)?;
+    }
+    Ok(())
+}
+
+/// Offers the entries, which are in key order, to the stores of prompt chronicles. Each is told of
+/// those that come next, before all that are dated at or after a date that isn't after `h`.
+fn offer_in_turn<L: Ledger>(
+    stores: &mut [Store],
+    history: &History,
+    due: &[Rc<Entry>],
+    h: u64,
+    steps: &mut Steps<L>,
+) -> Result<(), NoMemory>
+    requires small { AllByRecursion (λ x. x.date < 2 ^ 40) (map (λ r. entry_of r.value) due.now) }
+    requires order { IsInKeyOrder (map (λ r. entry_of r.value) due.now) }
+    requires horizon { h ≤ 2 ^ 42 }
+    ensures same { AreSameStores stores.old stores.new }
+    ensures given { OnOk result (AreGivenFresh h history.now (map (λ r. entry_of r.value) due.now) stores.old stores.new) }
+{
+    let mut left = due;
+    while let Some((entry, rest)) = left.split_first() {
+        let (ahead, others) = rest.split_at(rest.len().min(AHEAD));
+        let beyond = date_after(others, h);
+        offer_prompt_all(stores, history, entry, ahead, beyond, steps)?;
+        left = rest;
+    }
+    Ok(())
+}
+
+/// Offers the entries that were accepted since the last mark to the stores of prompt chronicles, in
+/// key order, before the mark's horizon `h`. The list is filled anew with them: a store that is told
+/// what comes next holds no instance that only an entry before the horizon could complete, which
+/// takes a fifth off a prompt drill.
+fn offer_fresh<L: Ledger>(
+    stores: &mut [Store],
+    history: &History,
+    fresh: &mut Buffer,
+    due: &mut Vec<Rc<Entry>>,
+    h: u64,
+    steps: &mut Steps<L>,
+) -> Result<(), NoMemory>
+    requires small { AllByRecursion (λ x. x.date < 2 ^ 40) fresh.old }
+    requires horizon { h ≤ 2 ^ 42 }
+    ensures same { AreSameStores stores.old stores.new }
+    ensures none { OnOk result (fresh.new ≡ []) }
+    ensures given { OnOk result (AreGivenFresh h history.now fresh.old stores.old stores.new) }
+{
+    if fresh.first_date().is_none() {
+        return Ok(());
+    }
+    take_all(fresh, due)?;
+    offer_in_turn(stores, history, due.as_slice(), h, steps)?;
+    Ok(())
 }
 
 /// Adds each of the entries, which are dated before `h` and in key order, to the history, and offers
@@ -340,7 +393,7 @@ pub(crate) fn mark_all<L: Ledger>(
     ensures none { OnOk result (fresh.new ≡ []) }
     ensures marked { IfOk result (AreMarked h mark stores.old history.old buffer.old fresh.old stores.new history.new buffer.new) }
 {
-    offer_fresh(stores, history, fresh, steps)?;
+    offer_fresh(stores, history, fresh, due, h, steps)?;
     settle(stores, history, buffer, due, h, steps)?;
     let answer = advance(alloc, stores, history, h, mark)?;
     Ok(answer)

@@ -23,7 +23,7 @@ both_equal Less s h = absurd (cc)
 both_equal Equal s h = (refl, h)
 both_equal Greater s h = absurd (cc)
 
-key_from : (k q : Key) → k.class ≡ q.class → k.first ≡ q.first → k.second ≡ q.second → k.third ≡ q.third → k ≡ q
+pub key_from : (k q : Key) → k.class ≡ q.class → k.first ≡ q.first → k.second ≡ q.second → k.third ≡ q.third → k ≡ q
 key_from k q c f s t = λ i. record { class = c i; first = f i; second = s i; third = t i }
 
 is_key-true : (k q : Key) → is_key k q ≡ true → k ≡ q

@@ -8,11 +8,12 @@ use Rattle.crs_base.proofs.Words.{in_append, in_append_right}
 use Rattle.crs_base.specs.Entry.{Entry}
 use Rattle.crs_base.specs.Values.{Attribute, IsChange, NewIs, HasValue}
 use Rattle.crs_base.proofs.Values.{value_forth}
-use Rattle.crs_base.proofs.Deciding.{Tells, value_carries}
-use Rattle.crs_model.specs.Models.{Body, NoEvent, Occurs, Hold}
-use Rattle.crs_model.specs.Matching.{Binding}
+use Rattle.crs_base.proofs.Deciding.{Either, Tells, value_carries}
+use Rattle.std.specs.List.{AllZip}
+use Rattle.crs_model.specs.Models.{Term, Value, Var, Any, Pattern, Body, NoEvent, Occurs, Hold}
+use Rattle.crs_model.specs.Matching.{Binding, TermIs, ChangeIs, PatternIs}
 use Rattle.crs_model.specs.Verdicts.{Count, IsDatedIn, IsCount, IsSo, IsSpoilt, BodyIsBound}
-use Rattle.crs_model.specs.HasProgress.{IsCounted, IsBroken, IsWholeFor, IsUnbroken, IsProgress, IsInRange, IsAbove, IsMetBy, IsLostBy, Hits, Breaks, Spares, StartsWell, StartsIll}
+use Rattle.crs_model.specs.HasProgress.{IsEnough, IsReached, IsCounted, IsBroken, IsWholeFor, IsUnbroken, IsProgress, IsInRange, IsAbove, IsMetBy, IsLostBy, Hits, Breaks, Spares, StartsWell, StartsIll}
 use Rattle.crs_model.proofs.Least.{Looser}
 use Rattle.crs_model.proofs.Lost.{count_unique, spoilt_grows, spoilt_not_so, spoilt_up, count_up, held_down}
 
@@ -33,12 +34,14 @@ module _ {S : Type 0} (look : Binding S) (from to : ℤ) where
 
   pub counted_hit : (body : Body S) (entries : List (Entry S)) (x : Entry S) (n : ℕ) → IsCounted entries look body from to n → Hits look body from to x → IsCounted (entries ++ x ∷ []) look body from to (suc n)
   counted_hit (NoEvent p) entries x n h hit = count_hit _ entries x n h hit
-  counted_hit (Occurs least most p) entries x n h hit = count_hit _ entries x n h hit
+  counted_hit (Occurs least most p) entries x n (inl h) hit = inl (count_hit _ entries x n h hit)
+  counted_hit (Occurs least most p) entries x n (inr e) hit = inr ((e.0.0, let a = e.0.1 in omega arith), (suc e.1.0, count_hit _ entries x e.1.0 e.1.1 hit, let a = e.1.2 in omega arith))
   counted_hit (Hold name terms value) entries x n h hit = absurd hit
 
   pub counted_miss : (body : Body S) (entries : List (Entry S)) (x : Entry S) (n : ℕ) → IsCounted entries look body from to n → (Hits look body from to x → ⊥) → IsCounted (entries ++ x ∷ []) look body from to n
   counted_miss (NoEvent p) entries x n h hit = count_miss _ entries x n h hit
-  counted_miss (Occurs least most p) entries x n h hit = count_miss _ entries x n h hit
+  counted_miss (Occurs least most p) entries x n (inl h) hit = inl (count_miss _ entries x n h hit)
+  counted_miss (Occurs least most p) entries x n (inr e) hit = inr (e.0, (e.1.0, count_miss _ entries x e.1.0 e.1.1 hit, e.1.2))
   counted_miss (Hold name terms value) entries x n h hit = h
 
   module _ (entries : List (Entry S)) (x : Entry S) (h : ℕ) (late : h ≤ x.date) where
@@ -93,6 +96,70 @@ module _ {S : Type 0} (look : Binding S) (from to : ℤ) where
         | inl s ↦ (let q = s.1 in absurd (cc))
         | inr s ↦ unbroken_by body (p.is_whole s.0) s.1
       ];
+    }
+
+  -- ---- a count that is enough: one more entry changes nothing
+
+  module _ (tells : Tells S) where
+    term_tells : (t : Term S) (y : S) → Either (TermIs look t y)
+    term_tells (Value z) y = tells z y
+    term_tells (Var v) y = by (look v)
+      where
+        by : (o : Option S) → Either (o ≡ Some y)
+        by None = inr (λ e. cc)
+        by (Some z) = elim (tells z y) [ inl e ↦ inl (ap Some e) | inr n ↦ inr (λ e. let f : z ≡ y = cc in n f) ]
+    term_tells Any y = inl tt
+
+    terms_tell : (ts : List (Term S)) (ys : List S) → Either (AllZip (TermIs look) ts ys)
+    terms_tell [] [] = inl tt
+    terms_tell [] (y ∷ ys) = inr (λ z. z)
+    terms_tell (t ∷ ts) [] = inr (λ z. z)
+    terms_tell (t ∷ ts) (y ∷ ys) = elim (term_tells t y) [
+      | inr n ↦ inr (λ z. n z.0)
+      | inl h ↦ elim (terms_tell ts ys) [ inl k ↦ inl (h, k) | inr n ↦ inr (λ z. n z.1) ]
+    ]
+
+    change_tells : (o : Option (Term S × Term S)) (c : Option (S × S)) → Either (ChangeIs look o c)
+    change_tells None None = inl tt
+    change_tells None (Some c) = inr (λ h. h)
+    change_tells (Some t) None = inr (λ h. h)
+    change_tells (Some t) (Some c) = elim (term_tells t.0 c.0) [
+      | inr n ↦ inr (λ h. n h.0)
+      | inl h ↦ elim (term_tells t.1 c.1) [ inl k ↦ inl (h, k) | inr n ↦ inr (λ z. n z.1) ]
+    ]
+
+    pattern_tells : (p : Pattern S) (x : Entry S) → Either (PatternIs look p x)
+    pattern_tells p x = elim (tells p.name x.name) [
+      | inr n ↦ inr (λ h. n h.name)
+      | inl a ↦ elim (terms_tell p.terms x.args) [
+        | inr n ↦ inr (λ h. n h.terms)
+        | inl b ↦ elim (change_tells p.change x.change) [ inl c ↦ inl (record { name = a; terms = b; change = c }) | inr n ↦ inr (λ h. n h.change) ]
+      ]
+    ]
+
+    dated_tells : (x : Entry S) → Either (IsDatedIn from to x)
+    dated_tells x = by_lt_z (pos x.date) from (λ l. inr (λ d. let a = d.0 in omega (arith, ints)))
+        (λ l. by_lt_z (pos x.date) to (λ m. inl (l, m)) (λ m. inr (λ d. let a = d.1 in omega (arith, ints))))
+
+    hit_tells : (p : Pattern S) (x : Entry S) → Either (IsDatedIn from to x × PatternIs look p x)
+    hit_tells p x = elim (dated_tells x) [
+      | inr n ↦ inr (λ h. n h.0)
+      | inl d ↦ elim (pattern_tells p x) [ inl h ↦ inl (d, h) | inr n ↦ inr (λ z. n z.1) ]
+    ]
+
+    reached_more : (p : Pattern S) (entries : List (Entry S)) (x : Entry S) (n c : ℕ) → IsCount entries look p from to c → n ≤ c → IsReached (entries ++ x ∷ []) look p from to n
+    reached_more p entries x n c k l = elim (hit_tells p x) [
+      | inl h ↦ (suc c, count_hit _ entries x c k h, omega arith)
+      | inr m ↦ (c, count_miss _ entries x c k m, l)
+    ]
+
+    pub enough_stays : (body : Body S) (entries : List (Entry S)) (x : Entry S) (h : ℤ) (count : ℕ) (broken : Bool) → IsEnough body count → IsProgress entries look body from to h count broken → IsProgress (entries ++ x ∷ []) look body from to h count broken
+    enough_stays (NoEvent p) entries x h count broken e k = absurd e
+    enough_stays (Hold name terms value) entries x h count broken e k = absurd e
+    enough_stays (Occurs least most p) entries x h count broken e k = record {
+      counted = inr (e, elim k.counted [ inl c ↦ reached_more p entries x count count c (omega arith) | inr c ↦ reached_more p entries x count c.1.0 c.1.1 c.1.2 ]);
+      is_broken = k.is_broken;
+      is_whole = k.is_whole;
     }
 
   -- ---- pass: a later date, over the same entries
@@ -181,14 +248,27 @@ module _ {S : Type 0} (look : Binding S) (from to : ℤ) where
     in_time : (t : ℤ) → to ≤ℤ pos h → t <ℤ to → t <ℤ pos h
     in_time t l m = omega (arith, ints)
 
+    -- no count is too great without an upper bound
+    none_most : (most : Option ℕ) (n : ℕ) → most ≡ None → IfSome most (λ m. n ≤ m)
+    none_most None n e = tt
+    none_most (Some m) n e = absurd cc
+
+    none_above : (most : Option ℕ) (P : ℕ → Type 0) → most ≡ None → IsSomeAnd most P → ⊥
+    none_above None P e s = s
+    none_above (Some m) P e s = cc
+
     pub so_by : (body : Body S) (count : ℕ) (broken : Bool) → IsProgress entries look body from to (pos h) count broken → IsMetBy body to (pos h) count broken → IsSo entries look body from to
     so_by (NoEvent p) count broken k (l, r, b) = subst (λ (n : ℕ). IsCount entries look p from to n) r k.counted
-    so_by (Occurs least most p) count broken k (l, r, b) = (count, k.counted, r.0, r.1)
+    so_by (Occurs least most p) count broken k (l, r, b) = elim k.counted [
+      | inl c ↦ (count, c, r.0, r.1)
+      | inr e ↦ (e.1.0, e.1.1, (let m = r.0 in let n = e.1.2 in omega arith), none_most most e.1.0 e.0.0)
+    ]
     so_by (Hold name terms value) count broken k (l, r, b) = λ a v is t m n. (k.is_whole b a v is).values t m n (in_time t l n)
 
     in_range : (body : Body S) (count : ℕ) → IsCounted entries look body from to count → IsSo entries look body from to → IsInRange body count
     in_range (NoEvent p) count k so = count_unique _ entries count 0 k so
-    in_range (Occurs least most p) count k so = let q = count_unique _ entries so.0 count so.1 k in (subst (λ (n : ℕ). least ≤ n) q so.2, subst (λ (n : ℕ). IfSome most (λ m. n ≤ m)) q so.3)
+    in_range (Occurs least most p) count (inr e) so = (e.0.1, none_most most count e.0.0)
+    in_range (Occurs least most p) count (inl k) so = let q = count_unique _ entries so.0 count so.1 k in (subst (λ (n : ℕ). least ≤ n) q so.2, subst (λ (n : ℕ). IfSome most (λ m. n ≤ m)) q so.3)
     in_range (Hold name terms value) count k so = tt
 
     broken_not_so : (body : Body S) → IsBroken entries look body from to (pos h) → IsSo entries look body from to → ⊥
@@ -208,7 +288,8 @@ module _ {S : Type 0} (look : Binding S) (from to : ℤ) where
 
     above_spoilt : (body : Body S) (count : ℕ) → IsCounted entries look body from to count → IsAbove body count → IsSpoilt entries look body from to (pos h)
     above_spoilt (NoEvent p) count k l = λ so. let q = count_unique _ entries count 0 k so in omega arith
-    above_spoilt (Occurs least most p) count k l = above_of most (λ n. IsCount entries look p from to n) count (λ n q. count_unique _ entries n count q k) l
+    above_spoilt (Occurs least most p) count (inr e) l = absurd (none_above most (λ m. m < count) e.0.0 l)
+    above_spoilt (Occurs least most p) count (inl k) l = above_of most (λ n. IsCount entries look p from to n) count (λ n q. count_unique _ entries n count q k) l
     above_spoilt (Hold name terms value) count k l = absurd l
 
     broken_spoilt : (body : Body S) → IsBroken entries look body from to (pos h) → IsSpoilt entries look body from to (pos h)
@@ -236,7 +317,8 @@ module _ {S : Type 0} (look : Binding S) (from to : ℤ) where
         by : (n : ℕ) → IsCount entries look p from to n → 0 < n
         by zero q = absurd (s q)
         by (suc n) q = omega arith
-    spoilt_back (Occurs least most p) count k u s = below_of most (λ n. IsCount entries look p from to n) count k s
+    spoilt_back (Occurs least most p) count (inr e) u s = absurd (none_above most (λ m. (n : ℕ) → IsCount entries look p from to n → m < n) e.0.0 s)
+    spoilt_back (Occurs least most p) count (inl k) u s = below_of most (λ n. IsCount entries look p from to n) count k s
     spoilt_back (Hold name terms value) count k u (a, v, is, inl w) = w.4 ((u a v is).values w.0 w.1 w.2 w.3)
     spoilt_back (Hold name terms value) count k u (a, v, is, inr w) = w.4 ((u a v is).changes w.0 w.1 w.2 w.3)
 
@@ -264,7 +346,8 @@ module _ {S : Type 0} (look : Binding S) (from to : ℤ) where
 module _ {S : Type 0} (small look : Binding S) (looser : Looser small look) (entries : List (Entry S)) (from to : ℤ) where
   counted_up : (body : Body S) (n : ℕ) → BodyIsBound small body → IsCounted entries small body from to n → IsCounted entries look body from to n
   counted_up (NoEvent p) n b k = count_up small look looser entries from to p n b k
-  counted_up (Occurs least most p) n b k = count_up small look looser entries from to p n b k
+  counted_up (Occurs least most p) n b (inl k) = inl (count_up small look looser entries from to p n b k)
+  counted_up (Occurs least most p) n b (inr e) = inr (e.0, (e.1.0, count_up small look looser entries from to p e.1.0 b e.1.1, e.1.2))
   counted_up (Hold name terms value) n b k = k
 
   broken_up : (body : Body S) (h : ℤ) → BodyIsBound small body → IsBroken entries small body from to h → IsBroken entries look body from to h

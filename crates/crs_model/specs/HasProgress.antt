@@ -1,18 +1,28 @@
 -- The progress of windows: the count of entries, and whether a `hold` is broken.
-use Rattle.std.specs.Prelude.{◌≡◌, ◌⊎◌, ℕ, ◌≤◌, ◌<◌, ℤ, pos, ◌≤ℤ◌, ◌<ℤ◌, Bool, true, false, List, IfSome, IsSomeAnd, slice_get}
+use Rattle.std.specs.Prelude.{◌≡◌, ◌⊎◌, ℕ, ◌≤◌, ◌<◌, ℤ, pos, ◌≤ℤ◌, ◌<ℤ◌, Bool, true, false, List, None, IfSome, IsSomeAnd, slice_get}
 use Rattle.crs_base.specs.Words.{IsIn}
 use Rattle.crs_base.specs.Entry.{Entry}
 use Rattle.crs_base.specs.Values.{Attribute, IsChange, NewIs, HasValue}
-use Rattle.crs_model.specs.Models.{Chronicle, Body, NoEvent, Occurs, Hold}
+use Rattle.crs_model.specs.Models.{Chronicle, Pattern, Body, NoEvent, Occurs, Hold}
 use Rattle.crs_model.specs.Matching.{Binding, PatternIs}
 use Rattle.crs_model.specs.Partial.{Partial}
 use Rattle.crs_model.specs.Verdicts.{IsDatedIn, IsHeld, IsCount, IsSpoilt, IsStretch, BodyIsBound}
 
 module _ {S : Type 0} where
-  -- how many entries count: those of the pattern dated in the stretch, and none for a `hold`
+  -- the count is enough, whatever comes: the window has no upper bound, and wants no more
+  abbrev pub IsEnough : Body S → ℕ → Type 0
+  IsEnough (NoEvent p) n = ⊥
+  IsEnough (Occurs least most p) n = (most ≡ None) × (least ≤ n)
+  IsEnough (Hold name terms value) n = ⊥
+
+  -- so many entries at least are of the pattern and dated in the stretch
+  abbrev pub IsReached : List (Entry S) → Binding S → Pattern S → ℤ → ℤ → ℕ → Type 0
+  IsReached entries look p from to n = (c : ℕ) × IsCount entries look p from to c × (n ≤ c)
+
+  -- how many entries count: those of the pattern dated in the stretch, or some of them that are enough, and none for a `hold`
   abbrev pub IsCounted : List (Entry S) → Binding S → Body S → ℤ → ℤ → ℕ → Type 0
   IsCounted entries look (NoEvent p) from to n = IsCount entries look p from to n
-  IsCounted entries look (Occurs least most p) from to n = IsCount entries look p from to n
+  IsCounted entries look (Occurs least most p) from to n = IsCount entries look p from to n ⊎ (IsEnough (Occurs least most p) n × IsReached entries look p from to n)
   IsCounted entries look (Hold name terms value) from to n = n ≡ 0
 
   -- a `hold` whose value at some date of the stretch before h isn't the wanted one, or of which a change dated in the stretch brings another

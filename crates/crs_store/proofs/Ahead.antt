@@ -17,12 +17,16 @@ use Rattle.crs_model.proofs.Offers.{before_more, recognised_full, recognised_giv
 use Rattle.crs_model.proofs.Options.{of_some}
 use Rattle.crs_model.proofs.Parts.{at_within, none_back, put_same, open_back}
 use Rattle.crs_model.proofs.Rests.{rest, length_rest, rest_at, rest_part, rest_free, rest_closed, rest_awaits, rest_grows}
-use Rattle.crs_store.specs.Ahead.{IsWanted}
+use Rattle.crs_store.specs.Ahead.{MayBecome, IsWanted}
 
 module _ (c : Chronicle Sym) (level : ℕ → ℕ) (held : List (Partial Sym)) (was pool entries : List (Entry Sym)) (d g : ℕ) where
   -- what has all that is open has all that is wanted
   pub stands_ahead : StandsFor c level AllWanted held was pool entries d g → (later : List (Entry Sym)) (h : ℕ) → StandsFor c level (IsWanted c level pool entries later h) held was pool entries d g
   stands_ahead s later h = record { was_in = s.was_in; entries_in = s.entries_in; marked = s.marked; distinct = s.distinct; each = s.each; all = λ a k w. s.all a k tt }
+
+  -- what is open is so itself, where nothing is coming
+  pub itself : (h : ℕ) (a : Partial Sym) → IsOpen c level pool entries h a → MayBecome c level pool entries [] h a
+  itself h a k = record { grown = a; fine = k; has = λ e x i. i; added = λ e x w i. let u = w.unbound in absurd (cc) }
 
   -- what is open at h is wanted where nothing more comes
   wanted_last : (h : ℕ) (a : Partial Sym) → IsOpen c level pool entries h a → IsWanted c level pool entries [] h a
@@ -52,9 +56,9 @@ module _ (c : Chronicle Sym) (level : ℕ → ℕ) (held : List (Partial Sym)) (
       open_before a k = same_pool c pool entries [] was d h g later (λ e i. absurd i) level a (subst (λ (t : List (Entry Sym)). IsOpen c level pool t h a) (sym (append-nil entries)) k)
 
 -- some of what is held, where what isn't there isn't wanted
-pub some_stand : (c : Chronicle Sym) (level : ℕ → ℕ) (held some : List (Partial Sym)) (was pool entries later : List (Entry Sym)) (d g h : ℕ) → StandsFor c level (IsWanted c level pool entries later h) held was pool entries d g → Ordered (λ a b. a ≡ b → ⊥) some → ((a : Partial Sym) → IsIn a some → IsIn a held) → ((a : Partial Sym) → IsIn a held → IsWanted c level pool entries later h a → IsIn a some)
-    → StandsFor c level (IsWanted c level pool entries later h) some was pool entries d g
-some_stand c level held some was pool entries later d g h s distinct back kept = record {
+pub some_stand : (c : Chronicle Sym) (level : ℕ → ℕ) (Wanted : Partial Sym → Type 0) (held some : List (Partial Sym)) (was pool entries : List (Entry Sym)) (d g : ℕ) → StandsFor c level Wanted held was pool entries d g → Ordered (λ a b. a ≡ b → ⊥) some → ((a : Partial Sym) → IsIn a some → IsIn a held) → ((a : Partial Sym) → IsIn a held → Wanted a → IsIn a some)
+    → StandsFor c level Wanted some was pool entries d g
+some_stand c level Wanted held some was pool entries d g s distinct back kept = record {
   was_in = s.was_in;
   entries_in = s.entries_in;
   marked = s.marked;
@@ -62,6 +66,42 @@ some_stand c level held some was pool entries later d g h s distinct back kept =
   each = λ a i. s.each a (back a i);
   all = λ a k w. kept a (s.all a k w) w;
 }
+
+-- ---- an entry comes
+
+-- what may become fine with those that come after an entry may do so with the entry too, and so may what it came of by the entry
+module _ (c : Chronicle Sym) (level : ℕ → ℕ) (whole all coming : List (Entry Sym)) (h : ℕ) (x : Entry Sym) (a : Partial Sym) (w : MayBecome c level whole all coming h a) where
+  pub becomes_without : MayBecome c level whole all (x ∷ coming) h a
+  becomes_without = record { grown = w.grown; fine = w.fine; has = w.has; added = λ e y awaited i. inr (w.added e y awaited i) }
+
+  pub becomes_parent : (e : ℕ) → at a e ≡ Some x → MayBecome c level whole all (x ∷ coming) h (rest level e a)
+  becomes_parent e i = record {
+    grown = w.grown;
+    fine = w.fine;
+    has = λ f y j. w.has f y (rest_part level e a f y j);
+    added = λ f y awaited j. elim (eqb_tells f e) [
+      | inl s ↦
+          let there : at w.grown f ≡ Some x = subst (λ (t : ℕ). at w.grown t ≡ Some x) (sym s.1) (w.has e x i) in
+          let one : y ≡ x = (let q : Some y ≡ Some x = sym j ∙ there in cc) in inl one
+      | inr other ↦ inr (w.added f y (still f other.1 awaited) j)
+    ];
+  }
+    where
+      within_same : length (rest level e a) ≡ length a
+      within_same = length_rest level e a
+
+      least_of : (f : ℕ) → IsAwaited level (rest level e a) f → level f ≤ level e
+      least_of f u = u.least e (let l = at_within a e x i in let o = within_same in omega arith) (rest_free level e a)
+
+      still : (f : ℕ) → (f ≡ e → ⊥) → IsAwaited level (rest level e a) f → IsAwaited level a f
+      still f other u = record {
+        within = let l = u.within in let o = within_same in omega arith;
+        unbound = elim (rest_at level e a f) [
+          | inl s ↦ sym s.2 ∙ u.unbound
+          | inr s ↦ elim s.0 [ inl q ↦ absurd (other q) | inr q ↦ (let l = least_of f u in absurd (omega arith)) ]
+        ];
+        least = λ k l m. u.least k (let o = within_same in omega arith) (none_back (rest level e a) a k (rest_part level e a) m);
+      }
 
 -- ---- an entry is offered
 
@@ -110,42 +150,16 @@ module _ (c : Chronicle Sym) (level : ℕ → ℕ) (pool entries was later : Lis
       ])
       (rest_closed level e a k.closed x i) k
 
-  grown_before : (b : Partial Sym) → IsOpen c level ((pool ++ x ∷ []) ++ later) ((entries ++ x ∷ []) ++ later) h b → IsOpen c level (pool ++ x ∷ later) (entries ++ x ∷ later) h b
-  grown_before b k = subst (λ (t : List (Entry Sym)). IsOpen c level t (entries ++ x ∷ later) h b) (append_assoc pool (x ∷ []) later) (subst (λ (t : List (Entry Sym)). IsOpen c level ((pool ++ x ∷ []) ++ later) t h b) (append_assoc entries (x ∷ []) later) k)
+  wanted_before : (b : Partial Sym) → Wanted b → MayBecome c level (pool ++ x ∷ later) (entries ++ x ∷ later) later h b
+  wanted_before b k = subst (λ (t : List (Entry Sym)). MayBecome c level t (entries ++ x ∷ later) later h b) (append_assoc pool (x ∷ []) later) (subst (λ (t : List (Entry Sym)). MayBecome c level ((pool ++ x ∷ []) ++ later) t later h b) (append_assoc entries (x ∷ []) later) k)
 
   -- what is wanted was wanted before
   wanted_without : (a : Partial Sym) → Wanted a → IsWanted c level pool entries (x ∷ later) h a
-  wanted_without a w = record { grown = w.grown; fine = grown_before w.grown w.fine; has = w.has; added = λ e y awaited i. inr (w.added e y awaited i) }
+  wanted_without a w = becomes_without c level (pool ++ x ∷ later) (entries ++ x ∷ later) later h x a (wanted_before a w)
 
   -- and so was what it came of
   wanted_parent : (a : Partial Sym) → Wanted a → (e : ℕ) → at a e ≡ Some x → IsWanted c level pool entries (x ∷ later) h (rest level e a)
-  wanted_parent a w e i = record {
-    grown = w.grown;
-    fine = grown_before w.grown w.fine;
-    has = λ f y j. w.has f y (rest_part level e a f y j);
-    added = λ f y awaited j. elim (eqb_tells f e) [
-      | inl s ↦
-          let there : at w.grown f ≡ Some x = subst (λ (t : ℕ). at w.grown t ≡ Some x) (sym s.1) (w.has e x i) in
-          let one : y ≡ x = (let q : Some y ≡ Some x = sym j ∙ there in cc) in inl one
-      | inr other ↦ inr (w.added f y (still f other.1 awaited) j)
-    ];
-  }
-    where
-      within_same : length (rest level e a) ≡ length a
-      within_same = length_rest level e a
-
-      least_of : (f : ℕ) → IsAwaited level (rest level e a) f → level f ≤ level e
-      least_of f u = u.least e (let l = at_within a e x i in let o = within_same in omega arith) (rest_free level e a)
-
-      still : (f : ℕ) → (f ≡ e → ⊥) → IsAwaited level (rest level e a) f → IsAwaited level a f
-      still f other u = record {
-        within = let l = u.within in let o = within_same in omega arith;
-        unbound = elim (rest_at level e a f) [
-          | inl s ↦ sym s.2 ∙ u.unbound
-          | inr s ↦ elim s.0 [ inl q ↦ absurd (other q) | inr q ↦ (let l = least_of f u in absurd (omega arith)) ]
-        ];
-        least = λ k l m. u.least k (let o = within_same in omega arith) (none_back (rest level e a) a k (rest_part level e a) m);
-      }
+  wanted_parent a w = becomes_parent c level (pool ++ x ∷ later) (entries ++ x ∷ later) later h x a (wanted_before a w)
 
   same_before : before g (entries ++ x ∷ []) ≡ before g entries
   same_before = before_more g entries (x ∷ []) (λ e i. let l = late e i in let m = stands.marked in omega arith)

@@ -42,7 +42,7 @@ module _ (plan : Plan) (focus : Bool) (hooks : Hooks) (holding : Holding) (d : �
           of = k.of;
           able = k.able;
           linked = λ e w can. keeps (key_of e (hook_at hooks.events.items e) (look_of i.binding)) p i is (k.linked e w can);
-          armed = λ n. some_if (slice_get (chronicle plan).windows n) _ (λ w at_n from to stretch bound far. keeps (key_of (16 + n) (hook_at hooks.windows.items n) (look_of i.binding)) p i is (of_some (slice_get (chronicle plan).windows n) w _ at_n (k.armed n) from to stretch bound far));
+          armed = λ n. some_if (slice_get (chronicle plan).windows n) _ (λ w at_n from to stretch bound wants near far. keeps (key_of (16 + n) (hook_at hooks.windows.items n) (look_of i.binding)) p i is (of_some (slice_get (chronicle plan).windows n) w _ at_n (k.armed n) from to stretch bound wants near far));
           due = k.due;
           done = k.done;
         };

@@ -28,7 +28,7 @@ use Rattle.crs_instance.specs.Followed.{IsStretchAt}
 use Rattle.crs_instance.specs.CurrentLevel.{IsCurrentLevel}
 use Rattle.crs_model.specs.Partial.{Partial}
 use Rattle.crs_store.specs.PlanLevels.{levels_in, IsLastOf, IsLastDate}
-use Rattle.crs_store.specs.Dues.{IsStart, IsDueFor, IsFirstOf, IsUndue, StandsAtEach, AreDue, AreKept, AreCollected, HasPlaces}
+use Rattle.crs_store.specs.Dues.{IsStart, IsNearing, IsDueFor, IsFirstOf, IsUndue, StandsAtEach, AreDue, AreKept, AreCollected, HasPlaces}
 use Rattle.crs_store.specs.Windows.{IsSameInstance}
 use Rattle.crs_store.proofs.Ascending.{moved_in}
 use Rattle.crs_store.proofs.Progress.{stretch_of}
@@ -94,15 +94,18 @@ module _ (plan : Plan) (i : InstanceState) (handle : Handle) (since : ℕ) where
   pub still_in : (Is : ℕ → Type 0) (old new : List Timed) → AreKept old new → StandsAtEach Is handle since old → StandsAtEach Is handle since new
   still_in Is old new kept put t s l m = kept _ (put t s l m)
 
-  pub window_put : (k : ℕ) (w : Window Sym) → slice_get (chronicle plan).windows k ≡ Some w → (s : Stretch) (o : Option Stretch) → o ≡ Some s → IsStretchAt plan i k o → (mid new : List Timed)
-      → StandsAtEach (IsStart w.body s.from s.to) handle since mid → AreKept mid new → StandsAtEach (λ t. (pos t +ℤ pos 1) ≡ s.to) handle since new → StandsAtEach (IsDueFor plan i k) handle since new
-  window_put k w is s o e h mid new starts kept ends t due l m =
+  pub window_put : (k : ℕ) (w : Window Sym) → slice_get (chronicle plan).windows k ≡ Some w → (s : Stretch) (o : Option Stretch) → o ≡ Some s → IsStretchAt plan i k o → (first mid new : List Timed)
+      → StandsAtEach (IsNearing s.from s.to) handle since first → AreKept first mid → StandsAtEach (IsStart w.body s.from s.to) handle since mid → AreKept mid new → StandsAtEach (λ t. (pos t +ℤ pos 1) ≡ s.to) handle since new → StandsAtEach (IsDueFor plan i k) handle since new
+  window_put k w is s o e h first mid new nears more starts kept ends t due l m =
       let st = stretch_of plan k w is i s o e h in
       let r = of_and (slice_get (chronicle plan).windows k) w _ is due in
       let same = same_stretch i.partial i.partial w s.from s.to r.0 r.1 (λ f x j. j) st.0 r.2 in
       elim r.4 [
         | inl a ↦ ends t (a ∙ sym same.1) l m
-        | inr b ↦ kept _ (starts t (subst (λ (z : ℤ). IsStart w.body z s.to t) (sym same.0) (subst (λ (z : ℤ). IsStart w.body r.0 z t) (sym same.1) b)) l m)
+        | inr b ↦ elim b [
+          | inl b ↦ kept _ (starts t (subst (λ (z : ℤ). IsStart w.body z s.to t) (sym same.0) (subst (λ (z : ℤ). IsStart w.body r.0 z t) (sym same.1) b)) l m)
+          | inr b ↦ kept _ (more _ (nears t (subst (λ (z : ℤ). IsNearing z s.to t) (sym same.0) (subst (λ (z : ℤ). IsNearing r.0 z t) (sym same.1) b)) l m))
+        ]
       ]
     where
       of_and : {A : Type 0} (o : Option A) (x : A) (P : A → Type 0) → o ≡ Some x → IsSomeAnd o P → P x

@@ -36,8 +36,8 @@ use Rattle.crs_model.specs.Bindings.{look_of, Looser}
 use Rattle.crs_model.specs.Matching.{Binding, PatternIs}
 use Rattle.crs_model.proofs.Options.{of_some}
 use Rattle.crs_store.specs.Agreeing.{Agree, IsTaken}
-use Rattle.crs_store.specs.Forkings.{HaveWindow, IsNoted, AreCandidates, KeepsStanding, IsHookAt, AreLinkedAt, standing, ComeOf, IsForkWith, IsForkBelow, AreForksOfPlaces, AreForksOfEvent, AreForksOfAll}
-use Rattle.crs_store.specs.Hooks.{IsHookOfEvent, KeepsFresh, key_with, picked_argument}
+use Rattle.crs_store.specs.Forkings.{HaveWindow, IsNoted, AreCandidates, AreCandidatesOf, KeepsStanding, IsHookAt, AreLinkedAt, standing, ComeOf, IsForkWith, IsForkBelow, AreForksOfPlaces, AreForksOfEvent, AreForksOfAll}
+use Rattle.crs_store.specs.Hooks.{IsHookOfEvent, KeepsFresh, picked_symbols, picked_arguments}
 use Rattle.crs_store.specs.Links.{hook_at}
 use Rattle.crs_store.specs.Slots.{SlotsState, slot_at, handle_at, members}
 use Rattle.crs_store.specs.Stores.{parts, AllOf}
@@ -45,7 +45,7 @@ use Rattle.crs_store.specs.PlanLevels.{levels_in}
 use Rattle.crs_store.specs.Scannings.{Adds, AreForksAt}
 use Rattle.crs_store.specs.Windows.{IsAble, IsOpenAt, IsOver}
 use Rattle.crs_store.proofs.Chosen.{Ascends, standing_part, standing_in, part_few, part_map, part_ordered}
-use Rattle.crs_store.proofs.Fitting.{inside_window, fits, binding_grows, fits_hook, fits_waits}
+use Rattle.crs_store.proofs.Fitting.{inside_window, fits, binding_grows, fits_hook, fits_part}
 use Rattle.crs_store.proofs.Members.{at_within, at_member, member_at}
 use Rattle.crs_store.proofs.Noting.{fresh_at, get_any, cleans_keep, in_bucket}
 
@@ -318,16 +318,14 @@ module _ (plan : Plan) (focus : Bool) (history : HistoryState) (x : Entry Sym) (
           let t : IsBoundBy (chronicle plan) (v.0).pattern (replicate (length plan.chronicle.variables) None) x None = of_some (slice_get (chronicle plan).events e) v.0 _ v.1 taken in
           t can_one.look (none_looser (length plan.chronicle.variables) can_one.look) (can_said v.0 v.1) can_one.allowed
 
-      found_one : (symbols : List (Option Sym)) → IsTaken plan e x (Some symbols) → (index : IndexState) (places : List ℕ) → AreLinkedAt plan focus hook slots index e x.date → AreCandidates slots index (key_with e None) e x.date symbols places → AreCandidates slots index (key_with e (picked_argument hook.pick x.args)) e x.date symbols places → IsIn i (standing slots.slots places)
-      found_one symbols taken index places linked lacking having =
+      found_one : (symbols : List (Option Sym)) → IsTaken plan e x (Some symbols) → (index : IndexState) (places : List ℕ) → AreLinkedAt plan focus hook slots index e x.date → AreCandidatesOf slots index (picked_arguments hook x.args) e x.date symbols places → IsIn i (standing slots.slots places)
+      found_one symbols taken index places linked candidates =
           let v = event_there inside in
           let m = member_at slots.slots i j in
           let w = inside_window plan proper i of_one e x inside (f.0).unbound can_one in
           let a = agrees_one symbols taken in
-          standing_in slots.slots places m.0 i (elim (fits_waits plan proper i of_one e x inside (f.0).unbound can_one hook hooked v.0 v.1 index (handle_at slots m.0) (λ within unbound can. linked m.0 i m.1 f.0 can)) [
-            | inl k ↦ lacking m.0 k i m.1 w a
-            | inr k ↦ having m.0 k i m.1 w a
-          ]) m.1
+          let part = fits_part plan proper i of_one e x inside (f.0).unbound can_one hook hooked v.0 v.1 in
+          standing_in slots.slots places m.0 i (candidates (picked_symbols hook (look_of i.binding)) part m.0 (linked m.0 i m.1 f.0 w.not_soon) i m.1 w a) m.1
 
     -- where none comes of any
     none_come : ((pool entries : List (Entry Sym)) (i : InstanceState) → IsIn i (members slots.slots) → (y : Partial Sym) → IsForkWith (levels_in plan focus) x e (IsOpenAt plan focus pool entries until) i.partial y → ⊥) → AreForksOfEvent plan focus history x since until slots e []
@@ -355,15 +353,15 @@ module _ (plan : Plan) (focus : Bool) (history : HistoryState) (x : Entry Sym) (
     none_held empty = none_come (λ pool entries i j y f. in_none (members slots.slots) i empty j)
 
     -- the candidates are enough
-    pub all_found : (symbols : List (Option Sym)) → IsTaken plan e x (Some symbols) → (index : IndexState) (places : List ℕ) (out : List InstanceState) → AreLinkedAt plan focus hook slots index e x.date → AreCandidates slots index (key_with e None) e x.date symbols places → AreCandidates slots index (key_with e (picked_argument hook.pick x.args)) e x.date symbols places
+    pub all_found : (symbols : List (Option Sym)) → IsTaken plan e x (Some symbols) → (index : IndexState) (places : List ℕ) (out : List InstanceState) → AreLinkedAt plan focus hook slots index e x.date → AreCandidatesOf slots index (picked_arguments hook x.args) e x.date symbols places
         → AreForksOfPlaces plan focus history x since until slots e places out → AreForksOfEvent plan focus history x since until slots e out
-    all_found symbols taken index places out linked lacking having h = λ pool entries now later over ready.
+    all_found symbols taken index places out linked candidates h = λ pool entries now later over ready.
         let k = h pool entries now later over ready in (
           widen (IsForkWith (levels_in plan focus) x e (IsOpenAt plan focus pool entries until)) (parts (standing slots.slots places)) (parts (members slots.slots)) (parts out)
               (λ a j. let r = in_map_back (λ (s : InstanceState). s.partial) (standing slots.slots places) a j in subst (λ (z : Partial Sym). IsIn z (parts (members slots.slots))) (sym r.2) (in_map (λ (s : InstanceState). s.partial) (members slots.slots) r.0 (standing_back slots.slots places r.0 r.1)))
               (λ a y j f. let r = in_map_back (λ (s : InstanceState). s.partial) (members slots.slots) a j in
               subst (λ (z : Partial Sym). IsIn z (parts (standing slots.slots places))) (sym r.2) (in_map (λ (s : InstanceState). s.partial) (standing slots.slots places) r.0
-              (found_one pool entries r.0 r.1 y (subst (λ (z : Partial Sym). IsForkWith (levels_in plan focus) x e (IsOpenAt plan focus pool entries until) z y) r.2 f) symbols taken index places linked lacking having)))
+              (found_one pool entries r.0 r.1 y (subst (λ (z : Partial Sym). IsForkWith (levels_in plan focus) x e (IsOpenAt plan focus pool entries until) z y) r.2 f) symbols taken index places linked candidates)))
               k.0,
           k.1,
         )

@@ -19,7 +19,7 @@ use Rattle.crs_base.proofs.Words.{in_from_each}
 use Rattle.crs_model.proofs.Options.{of_some, some_if, cases_of}
 use Rattle.crs_model.proofs.Parts.{agrees_part, agrees_at}
 use Rattle.crs_instance.specs.Instances.{InstanceState, IsOf, window_at}
-use Rattle.crs_store.specs.Ahead.{IsWanted, AreAhead, IsHopeless, MayGo}
+use Rattle.crs_store.specs.Ahead.{MayBecome, AreAhead, IsHopeless, MayGo}
 use Rattle.crs_store.specs.PlanLevels.{levels_in}
 use Rattle.crs_store.specs.Windows.{IsAble}
 
@@ -45,7 +45,7 @@ AllMiss name last xs = AllByRecursion (λ x. x.name ≡ name → last <ℤ pos x
 unbound_awaited : (plan : Plan) (a : Partial Sym) (e : ℕ) → e < length a → at a e ≡ None → IsAwaited (levels_in plan false) a e
 unbound_awaited plan a e l n = record { within = l; unbound = n; least = λ f m k. omega arith }
 
-module _ (plan : Plan) (proper : IsProper plan) (pool entries later ahead : List (Entry Sym)) (beyond h : ℕ) (i : InstanceState) (coming : AreAhead ahead beyond later h) (k : IsHopeless plan ahead beyond i) (w : IsWanted (chronicle plan) (levels_in plan false) pool entries later h i.partial) where
+module _ (plan : Plan) (proper : IsProper plan) (pool entries later ahead : List (Entry Sym)) (beyond h : ℕ) (i : InstanceState) (coming : AreAhead ahead beyond later h) (k : IsHopeless plan ahead beyond i) (w : MayBecome (chronicle plan) (levels_in plan false) pool entries later h i.partial) where
   e : ℕ
   e = k.event
 
@@ -84,17 +84,8 @@ module _ (plan : Plan) (proper : IsProper plan) (pool entries later ahead : List
       event_there : k.event < length (chronicle plan).events
       event_there = let a = k.of.len in let b = k.within in let c = same_events in omega arith
 
-pub hopeless_unwanted : (plan : Plan) → IsProper plan → (focus : Bool) (pool entries later ahead : List (Entry Sym)) (beyond h : ℕ) (i : InstanceState) → AreAhead ahead beyond later h → MayGo plan focus ahead beyond i → IsWanted (chronicle plan) (levels_in plan focus) pool entries later h i.partial → ⊥
-hopeless_unwanted plan proper focus pool entries later ahead beyond h i coming may w = hopeless_grown plan proper pool entries later ahead beyond h i coming may.1 (subst (λ (b : Bool). IsWanted (chronicle plan) (levels_in plan b) pool entries later h i.partial) may.0 w)
-
--- what is able isn't hopeless where nothing is known of what comes next
-pub able_hopeful : (plan : Plan) → IsProper plan → (focus : Bool) (g : ℕ) (i : InstanceState) → IsAble plan focus g i → MayGo plan focus [] 0 i → ⊥
-able_hopeful plan proper focus g i able may =
-    let k = may.1 in
-    let can = subst (λ (b : Bool). CanGoOn (chronicle plan) (levels_in plan b) i.partial g) may.0 able.0 in
-    let point : k.event < plan.network.points = (let a = k.of.len in let b = proper.points in let c = k.within in omega arith) in
-    let latest : IsLatest plan.chronicle.bounds (dates_of i.partial) k.event (Some k.last) = subst (IsLatest plan.chronicle.bounds (dates_of i.partial) k.event) k.is_last (k.of.most k.event point) in
-    too_soon (can.0 k.event) k.last 0 g (latest.0 can.0 can.1 can.2) k.early (omega arith) (can.3 k.event (unbound_awaited plan i.partial k.event k.within k.unbound))
+pub hopeless_unwanted : (plan : Plan) → IsProper plan → (focus : Bool) (pool entries later ahead : List (Entry Sym)) (beyond h : ℕ) (i : InstanceState) → AreAhead ahead beyond later h → MayGo plan focus ahead beyond i → MayBecome (chronicle plan) (levels_in plan focus) pool entries later h i.partial → ⊥
+hopeless_unwanted plan proper focus pool entries later ahead beyond h i coming may w = hopeless_grown plan proper pool entries later ahead beyond h i coming may.1 (subst (λ (b : Bool). MayBecome (chronicle plan) (levels_in plan b) pool entries later h i.partial) may.0 w)
 
 -- ---- how it is found
 

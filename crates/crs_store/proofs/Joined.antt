@@ -32,7 +32,7 @@ known_more plan focus events windows was index old pairs old_ripe ripe handle h 
   of = k.of;
   able = k.able;
   linked = λ e w can. grows (key_of e (hook_at events e) (look_of i.binding)) handle (k.linked e w can);
-  armed = λ n. some_if (slice_get (chronicle plan).windows n) _ (λ w is from to stretch bound far. grows (key_of (16 + n) (hook_at windows n) (look_of i.binding)) handle (of_some (slice_get (chronicle plan).windows n) w _ is (k.armed n) from to stretch bound far));
+  armed = λ n. some_if (slice_get (chronicle plan).windows n) _ (λ w is from to stretch bound wants near far. grows (key_of (16 + n) (hook_at windows n) (look_of i.binding)) handle (of_some (slice_get (chronicle plan).windows n) w _ is (k.armed n) from to stretch bound wants near far));
   due = λ t due l m. kept _ (k.due t due l m);
   done = λ done. ripens handle.place (k.done done);
 }

@@ -1,5 +1,5 @@
 -- As handles are put under keys: the events and the windows of an instance, one after another.
-use Rattle.std.proofs.Common.{Bool, true, false, ◌≡◌, ◌⊎◌, ℕ, ◌<◌, ◌≤◌, ◌+◌, ◌^◌, List, [], ◌∷◌, length, refl, sym, subst, inl, inr, arith}
+use Rattle.std.proofs.Common.{Bool, true, false, ◌≡◌, ◌⊎◌, ℕ, ◌<◌, ◌≤◌, ◌+◌, ◌^◌, List, [], ◌∷◌, length, refl, sym, subst, ◌∙◌, inl, inr, arith}
 use Rattle.std.specs.Prelude.{ℤ, pos, ◌≤ℤ◌, Option, Some, None, IfSome, slice_get, if◌then◌else◌}
 use Rattle.std.proofs.lemmas.Int.{ints}
 use Rattle.std.proofs.lemmas.Bool.{cases_lt}
@@ -11,18 +11,20 @@ use Rattle.crs_index.specs.declared.key.Key.{Key}
 use Rattle.crs_index.specs.Indexes.{IndexState, Puts, IsSame, bucket_of}
 use Rattle.crs_index.proofs.Keys.{key_or_not, apart_from}
 use Rattle.crs_instance.specs.Followed.{IsStretchAt}
-use Rattle.crs_instance.specs.Instances.{InstanceState, window_at}
+use Rattle.crs_instance.specs.Instances.{InstanceState, window_at, progress_at}
 use Rattle.crs_model.specs.declared.plan.Plan.{Plan}
 use Rattle.crs_model.specs.declared.progress.Stretch.{Stretch}
+use Rattle.crs_base.specs.declared.symbols.Sym.{Sym}
 use Rattle.crs_model.specs.Bindings.{look_of}
+use Rattle.crs_model.specs.HasProgress.{IsEnough}
+use Rattle.crs_model.specs.Models.{Window}
 use Rattle.crs_model.specs.Plans.{chronicle}
 use Rattle.crs_model.specs.SeenModels.{window_of}
 use Rattle.crs_model.proofs.Options.{of_some, some_if, get_within}
 use Rattle.crs_store.specs.declared.waiting.hooks.Hook.{Hook}
 use Rattle.crs_store.specs.Hooks.{Waits, key_of}
-use Rattle.crs_store.specs.Links.{linked_by, Grows, IsLinked, IsLinkedAnew, IsArmed, hook_at}
+use Rattle.crs_store.specs.Links.{linked_by, CanStart, Grows, IsLinked, IsLinkedAnew, IsNear, IsArmedAnew, hook_at}
 use Rattle.crs_store.specs.Linkings.{IsLinkedAt, IsArmedAt}
-use Rattle.crs_store.specs.Slots.{SlotsState, slot_at, handle_at}
 
 -- ---- one handle under a key
 
@@ -59,38 +61,55 @@ if_more : {A : Type 0} (o : Option A) (P Q : A → Type 0) → IfSome o P → ((
 if_more None P Q p f = tt
 if_more (Some x) P Q p f = f x p
 
-module _ (plan : Plan) (i : InstanceState) (k : ℕ) (hook : Hook) (index : IndexState) (handle : Handle) (h : ℕ) where
-  pub unbegun_armed : (o : Option Stretch) → o ≡ None → IsStretchAt plan i k o → IsArmedAt plan hook index handle h i k
-  unbegun_armed o e s = if_more (slice_get (chronicle plan).windows k) _ _ (subst (IsStretchAt plan i k) e s) (λ w none from to st b l. absurd (none from to st b))
+module _ (plan : Plan) (i : InstanceState) (k : ℕ) (hook : Hook) (index : IndexState) (handle : Handle) (since : Option ℕ) (h : ℕ) where
+  pub unbegun_armed : (o : Option Stretch) → o ≡ None → IsStretchAt plan i k o → IsArmedAt plan hook index handle since h i k
+  unbegun_armed o e s = if_more (slice_get (chronicle plan).windows k) _ _ (subst (IsStretchAt plan i k) e s) (λ w none from to st b wants near not l. absurd (none from to st b))
+
+module _ (plan : Plan) (i : InstanceState) (k : ℕ) (hook : Hook) (index : IndexState) (handle : Handle) (since : Option ℕ) (h : ℕ) where
+  -- a window whose count is enough
+  pub enough_armed : (w : Window Sym) → slice_get (chronicle plan).windows k ≡ Some w → IsEnough w.body (progress_at i.progress k).count → IsArmedAt plan hook index handle since h i k
+  enough_armed w is enough = some_if (slice_get (chronicle plan).windows k) _ (λ v at_k from to st b wants near not l. absurd (wants (subst (λ (t : Window Sym). IsEnough t.body (progress_at i.progress k).count) (one (sym is ∙ at_k)) enough)))
+    where
+      one : {a b : Window Sym} → Some a ≡ Some b → a ≡ b
+      one e = cc
 
 -- the windows below n, one after another
-pub record AreArmedTo (plan : Plan) (hooks : List Hook) (handle : Handle) (h : ℕ) (i : InstanceState) (n : ℕ) (old new : IndexState) : Type 0 where
-  pub below : (k : ℕ) → k < n → IsArmedAt plan (hook_at hooks k) new handle h i k
+pub record AreArmedTo (plan : Plan) (hooks : List Hook) (handle : Handle) (since : Option ℕ) (h : ℕ) (i : InstanceState) (n : ℕ) (old new : IndexState) : Type 0 where
+  pub below : (k : ℕ) → k < n → IsArmedAt plan (hook_at hooks k) new handle since h i k
   pub grown : Grows old new
 
-module _ (plan : Plan) (hooks : List Hook) (handle : Handle) (h : ℕ) (i : InstanceState) where
-  still_armed : (k : ℕ) (old new : IndexState) → Grows old new → IsArmedAt plan (hook_at hooks k) old handle h i k → IsArmedAt plan (hook_at hooks k) new handle h i k
-  still_armed k old new grown a = if_more (slice_get (chronicle plan).windows k) _ _ a (λ w f from to st b l. grown (key_of (16 + k) (hook_at hooks k) (look_of i.binding)) handle (f from to st b l))
+module _ (plan : Plan) (hooks : List Hook) (handle : Handle) (since : Option ℕ) (h : ℕ) (i : InstanceState) where
+  still_armed : (k : ℕ) (old new : IndexState) → Grows old new → IsArmedAt plan (hook_at hooks k) old handle since h i k → IsArmedAt plan (hook_at hooks k) new handle since h i k
+  still_armed k old new grown a = if_more (slice_get (chronicle plan).windows k) _ _ a (λ w f from to st b wants near not l. grown (key_of (16 + k) (hook_at hooks k) (look_of i.binding)) handle (f from to st b wants near not l))
 
-  pub armed_next : (n : ℕ) (old now new : IndexState) → AreArmedTo plan hooks handle h i n old now → Grows now new → IsArmedAt plan (hook_at hooks n) new handle h i n → AreArmedTo plan hooks handle h i (n + 1) old new
+  pub armed_next : (n : ℕ) (old now new : IndexState) → AreArmedTo plan hooks handle since h i n old now → Grows now new → IsArmedAt plan (hook_at hooks n) new handle since h i n → AreArmedTo plan hooks handle since h i (n + 1) old new
   armed_next n old now new a grown here = record {
-    below = λ k l. elim (cases_lt k n) [ inl m ↦ still_armed k now new grown (a.below k m) | inr g ↦ subst (λ (j : ℕ). IsArmedAt plan (hook_at hooks j) new handle h i j) (omega arith) here ];
+    below = λ k l. elim (cases_lt k n) [ inl m ↦ still_armed k now new grown (a.below k m) | inr g ↦ subst (λ (j : ℕ). IsArmedAt plan (hook_at hooks j) new handle since h i j) (omega arith) here ];
     grown = λ k g w. grown k g (a.grown k g w);
   }
 
-  pub all_armed : (n : ℕ) (old new : IndexState) → AreArmedTo plan hooks handle h i n old new → length plan.chronicle.windows ≤ n → IsArmed plan hooks new handle h i
+  pub all_armed : (n : ℕ) (old new : IndexState) → AreArmedTo plan hooks handle since h i n old new → length plan.chronicle.windows ≤ n → IsArmedAnew plan hooks new handle since h i
   all_armed n old new a all k = some_if (slice_get (chronicle plan).windows k) _ (λ w is.
       let l = get_within (chronicle plan).windows k w is in
       let m = length-map plan.chronicle.windows window_of in
       of_some (slice_get (chronicle plan).windows k) w _ is (a.below k (omega arith)))
 
--- ---- the places
+-- ---- both
 
-abbrev pub IsPlaceLinked : Plan → Bool → List Hook → SlotsState → IndexState → ℕ → ℕ → ℕ → Type 0
-IsPlaceLinked plan focus hooks slots index since h p = (i : InstanceState) → slot_at slots p ≡ Some i → IsLinkedAnew plan focus hooks index (handle_at slots p) (Some since) h i
+-- what waits anew for events and windows still does
+pub linked_still : (plan : Plan) (focus : Bool) (hooks : List Hook) (old new : IndexState) (handle : Handle) (since : Option ℕ) (h : ℕ) (i : InstanceState) → Grows old new → IsLinkedAnew plan focus hooks old handle since h i → IsLinkedAnew plan focus hooks new handle since h i
+linked_still plan focus hooks old new handle since h i grown a e w s d = grown (key_of e (hook_at hooks e) (look_of i.binding)) handle (a e w s d)
 
-pub place_still : (plan : Plan) (focus : Bool) (hooks : List Hook) (slots : SlotsState) (old new : IndexState) (since h p : ℕ) → Grows old new → IsPlaceLinked plan focus hooks slots old since h p → IsPlaceLinked plan focus hooks slots new since h p
-place_still plan focus hooks slots old new since h p grown a i f e w s d = grown (key_of e (hook_at hooks e) (look_of i.binding)) (handle_at slots p) (a i f e w s d)
+pub armed_still : (plan : Plan) (hooks : List Hook) (old new : IndexState) (handle : Handle) (since : Option ℕ) (h : ℕ) (i : InstanceState) → Grows old new → IsArmedAnew plan hooks old handle since h i → IsArmedAnew plan hooks new handle since h i
+armed_still plan hooks old new handle since h i grown a k = still_armed plan hooks handle since h i k old new grown (a k)
+
+module _ (plan : Plan) (focus : Bool) (index : IndexState) (handle : Handle) (h : ℕ) (i : InstanceState) where
+  -- nothing is new at the date itself
+  pub none_linked : (hooks : List Hook) (since : ℕ) → since ≡ h → IsLinkedAnew plan focus hooks index handle (Some (linked_by plan since)) (linked_by plan h) i
+  none_linked hooks since e f w s not = absurd (not (subst (λ (n : ℕ). CanStart i f (linked_by plan n)) (sym e) s))
+
+  pub none_armed : (hooks : List Hook) (since : ℕ) → since ≡ h → IsArmedAnew plan hooks index handle (Some since) h i
+  none_armed hooks since e k = some_if (slice_get (chronicle plan).windows k) _ (λ w is from to st b wants near not l. absurd (not (subst (λ (n : ℕ). IsNear from n) (sym e) near)))
 
 -- ---- dates by which events can come
 

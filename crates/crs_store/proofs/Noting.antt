@@ -1,6 +1,6 @@
 -- Places that are noted, and handles that wait.
 use Rattle.std.proofs.Common.{◌≡◌, ◌≢◌, ◌⊎◌, ℕ, zero, suc, ◌<◌, ◌≤◌, ◌+◌, List, [], ◌∷◌, ◌++◌, length, take, get_or, refl, sym, ap, subst, ◌∙◌, inl, inr, arith, true, nat_eq}
-use Rattle.std.specs.Prelude.{slice_index_or}
+use Rattle.std.specs.Prelude.{slice_index_or, slice_get, IfSome}
 use Rattle.std.specs.declared.option.Option.{Option}
 use Rattle.std.specs.declared.option.Option.TheVariants.{None, Some}
 use Rattle.std.proofs.lemmas.Bool.{cases_eq, cases_lt, lt-ltb}
@@ -14,9 +14,13 @@ use Rattle.crs_index.specs.declared.key.Key.{Key}
 use Rattle.crs_index.specs.Indexes.{IndexState, Cleans, Sweeps, bucket_of, bucket_at, number_of, handles_at}
 use Rattle.crs_base.specs.declared.symbols.Sym.{Sym}
 use Rattle.crs_base.specs.Entry.{Entry}
+use Rattle.crs_model.specs.declared.plan.Plan.{Plan}
+use Rattle.crs_model.specs.Models.{Window}
+use Rattle.crs_model.specs.Plans.{chronicle}
 use Rattle.crs_store.specs.declared.waiting.hooks.Hook.{Hook}
-use Rattle.crs_store.specs.Hooks.{Waits, KeepsFresh, key_with, picked_argument}
-use Rattle.crs_store.specs.Links.{hook_at, WaitsFor, HasWaiting, HasTouched}
+use Rattle.crs_store.specs.Hooks.{Waits, KeepsFresh, key_with, picked_arguments}
+use Rattle.crs_store.specs.Links.{hook_at, HasWaiting, HasTouchedAt, HasTouched}
+use Rattle.crs_store.specs.Refusing.{Refuses}
 use Rattle.crs_store.specs.Slots.{SlotsState, handle_at}
 
 -- ---- what is fresh
@@ -79,38 +83,74 @@ get_any (x ∷ xs) (suc k) d e l = get_any xs k d e (omega arith)
 pub noted_next : (handles : List Handle) (k : ℕ) (d : Handle) (old now new : List ℕ) → k < length handles → AreNoted (take k handles) old now → IsIn (get_or handles k d).place new → ((p : ℕ) → IsIn p now → IsIn p new) → AreNoted (take (k + 1) handles) old new
 noted_next handles k d old now new l a i keeps = noted_more handles k (get_or handles k d) old now new l (get_any handles k d (get_or handles k d) l) a i keeps
 
--- ---- the two keys of a class
+-- ---- the hooks of windows
 
-pub class_noted : (slots : SlotsState) (old mid : IndexState) (c : ℕ) (hook : Hook) (x : Entry Sym) (between new : List ℕ) → KeepsFresh slots.serials old mid → ((p : ℕ) → IsIn p between → IsIn p new)
-    → ((p : ℕ) → is_fresh slots.serials (handle_at slots p) ≡ true → Waits old (key_with c None) (handle_at slots p) → IsIn p between)
-    → ((p : ℕ) → is_fresh slots.serials (handle_at slots p) ≡ true → Waits mid (key_with c (picked_argument hook.pick x.args)) (handle_at slots p) → IsIn p new)
-    → HasWaiting slots old c hook x new
-class_noted slots old mid c hook x between new keeps kept first second p fresh named (inl w) = kept p (first p fresh w)
-class_noted slots old mid c hook x between new keeps kept first second p fresh named (inr w) = second p fresh (keeps (key_with c (picked_argument hook.pick x.args)) (handle_at slots p) fresh w)
+-- what waits in the first index does so in the second, so its places are among those
+pub waiting_of : (slots : SlotsState) (old now : IndexState) (c : ℕ) (hook : Hook) (x : Entry Sym) (places : List ℕ) → KeepsFresh slots.serials old now → HasWaiting slots now c hook x places → HasWaiting slots old c hook x places
+waiting_of slots old now c hook x places keeps has p fresh named w = has p fresh named (keeps (key_with c (picked_arguments hook x.args)) (handle_at slots p) fresh w)
 
--- the first hooks of windows, one after another
-pub record AreTouched (slots : SlotsState) (hooks : List Hook) (x : Entry Sym) (n : ℕ) (old now : IndexState) (was places : List ℕ) : Type 0 where
-  pub fresh : KeepsFresh slots.serials old now
-  pub kept : (p : ℕ) → IsIn p was → IsIn p places
-  pub noted : HasTouched hooks slots old x n places
+-- ---- the windows, one after another
 
-pub touched_none : (slots : SlotsState) (hooks : List Hook) (x : Entry Sym) (old : IndexState) (was : List ℕ) → AreTouched slots hooks x 0 old old was was
-touched_none slots hooks x old was = record { fresh = λ k h f i. i; kept = λ p i. i; noted = λ k l. absurd (omega arith) }
+module _ (plan : Plan) (hooks : List Hook) (slots : SlotsState) (x : Entry Sym) where
+  -- among more places
+  touched_at : (index : IndexState) (k : ℕ) (places more : List ℕ) → ((p : ℕ) → IsIn p places → IsIn p more) → HasTouchedAt plan hooks slots index x k places → HasTouchedAt plan hooks slots index x k more
+  touched_at index k places more kept = by (slice_get (chronicle plan).windows k)
+    where
+      by : (o : Option (Window Sym)) → IfSome o (λ w. Refuses w.body x ⊎ HasWaiting slots index (16 + k) (hook_at hooks k) x places) → IfSome o (λ w. Refuses w.body x ⊎ HasWaiting slots index (16 + k) (hook_at hooks k) x more)
+      by None h = tt
+      by (Some w) (inl r) = inl r
+      by (Some w) (inr h) = inr (λ p fresh named u. kept p (h p fresh named u))
 
-pub touched_more : (slots : SlotsState) (hooks : List Hook) (x : Entry Sym) (n : ℕ) (old now next : IndexState) (was places more : List ℕ) → AreTouched slots hooks x n old now was places → KeepsFresh slots.serials now next → ((p : ℕ) → IsIn p places → IsIn p more)
-    → HasWaiting slots now (16 + n) (hook_at hooks n) x more → AreTouched slots hooks x (n + 1) old next was more
-touched_more slots hooks x n old now next was places more a keeps kept has = record {
-  fresh = λ k h f i. keeps k h f (a.fresh k h f i);
-  kept = λ p i. kept p (a.kept p i);
-  noted = λ k l p fresh named w. elim (cases_lt k n) [
-    | inl b ↦ kept p (a.noted k b p fresh named w)
-    | inr b ↦
-        let s : k ≡ n = omega arith in
-        let named_n : (hook_at hooks n).name ≡ x.name = subst (λ (j : ℕ). (hook_at hooks j).name ≡ x.name) s named in
-        let w_n : WaitsFor old (16 + n) (hook_at hooks n) x (handle_at slots p) = subst (λ (j : ℕ). WaitsFor old (16 + j) (hook_at hooks j) x (handle_at slots p)) s w in
-        has p fresh named_n (elim w_n [
-          | inl u ↦ inl (a.fresh (key_with (16 + n) None) (handle_at slots p) fresh u)
-          | inr u ↦ inr (a.fresh (key_with (16 + n) (picked_argument (hook_at hooks n).pick x.args)) (handle_at slots p) fresh u)
-        ])
-  ];
-}
+  pub touched_within : (index : IndexState) (n : ℕ) (places more : List ℕ) → ((p : ℕ) → IsIn p places → IsIn p more) → HasTouched plan hooks slots index x n places → HasTouched plan hooks slots index x n more
+  touched_within index n places more kept has k l = touched_at index k places more kept (has k l)
+
+  touched_before : (old now : IndexState) (k : ℕ) (places : List ℕ) → KeepsFresh slots.serials old now → HasTouchedAt plan hooks slots now x k places → HasTouchedAt plan hooks slots old x k places
+  touched_before old now k places keeps = by (slice_get (chronicle plan).windows k)
+    where
+      by : (o : Option (Window Sym)) → IfSome o (λ w. Refuses w.body x ⊎ HasWaiting slots now (16 + k) (hook_at hooks k) x places) → IfSome o (λ w. Refuses w.body x ⊎ HasWaiting slots old (16 + k) (hook_at hooks k) x places)
+      by None h = tt
+      by (Some w) (inl r) = inl r
+      by (Some w) (inr h) = inr (waiting_of slots old now (16 + k) (hook_at hooks k) x places keeps h)
+
+  -- the entry is of another name than the window's hook
+  pub other_touched : (index : IndexState) (k : ℕ) (places : List ℕ) → ((hook_at hooks k).name ≡ x.name → ⊥) → HasTouchedAt plan hooks slots index x k places
+  other_touched index k places other = by (slice_get (chronicle plan).windows k)
+    where
+      by : (o : Option (Window Sym)) → IfSome o (λ w. Refuses w.body x ⊎ HasWaiting slots index (16 + k) (hook_at hooks k) x places)
+      by None = tt
+      by (Some w) = inr (λ p fresh named u. absurd (other named))
+
+  -- the window refuses it
+  pub refused_touched : (index : IndexState) (k : ℕ) (places : List ℕ) (w : Window Sym) → slice_get (chronicle plan).windows k ≡ Some w → Refuses w.body x → HasTouchedAt plan hooks slots index x k places
+  refused_touched index k places w is r = by (slice_get (chronicle plan).windows k) is
+    where
+      by : (o : Option (Window Sym)) → o ≡ Some w → IfSome o (λ w. Refuses w.body x ⊎ HasWaiting slots index (16 + k) (hook_at hooks k) x places)
+      by None e = cc
+      by (Some v) e = let s : w ≡ v = cc in inl (subst (λ (t : Window Sym). Refuses t.body x) s r)
+
+  -- all that wait for it are noted
+  pub noted_touched : (index : IndexState) (k : ℕ) (places : List ℕ) → HasWaiting slots index (16 + k) (hook_at hooks k) x places → HasTouchedAt plan hooks slots index x k places
+  noted_touched index k places h = by (slice_get (chronicle plan).windows k)
+    where
+      by : (o : Option (Window Sym)) → IfSome o (λ w. Refuses w.body x ⊎ HasWaiting slots index (16 + k) (hook_at hooks k) x places)
+      by None = tt
+      by (Some w) = inr h
+
+  -- the first n windows
+  pub record AreTouched (n : ℕ) (old now : IndexState) (was places : List ℕ) : Type 0 where
+    pub fresh : KeepsFresh slots.serials old now
+    pub kept : (p : ℕ) → IsIn p was → IsIn p places
+    pub noted : HasTouched plan hooks slots old x n places
+
+  pub touched_none : (old : IndexState) (was : List ℕ) → AreTouched 0 old old was was
+  touched_none old was = record { fresh = λ k h f i. i; kept = λ p i. i; noted = λ k l. absurd (omega arith) }
+
+  pub touched_more : (n : ℕ) (old now next : IndexState) (was places more : List ℕ) → AreTouched n old now was places → KeepsFresh slots.serials now next → ((p : ℕ) → IsIn p places → IsIn p more) → HasTouchedAt plan hooks slots now x n more → AreTouched (n + 1) old next was more
+  touched_more n old now next was places more a keeps kept has = record {
+    fresh = λ k h f i. keeps k h f (a.fresh k h f i);
+    kept = λ p i. kept p (a.kept p i);
+    noted = λ k l. elim (cases_lt k n) [
+      | inl b ↦ touched_at old k places more kept (a.noted k b)
+      | inr b ↦ subst (λ (j : ℕ). HasTouchedAt plan hooks slots old x j more) (omega arith) (touched_before old now n more a.fresh has)
+    ];
+  }

@@ -95,7 +95,7 @@ module _ (plan : Plan) (x : Entry Sym) (other : LooksFor (chronicle plan) x.name
 
   untouched : (i : InstanceState) → IsUntouched plan i x
   untouched i k = some_if (slice_get (chronicle plan).windows k) _ (λ w is from to stretch bound.
-      (no_hit (look_of i.binding) w.body from to x (no_window k w is), spared (look_of i.binding) w.body from to x (no_window k w is)))
+      inr (no_hit (look_of i.binding) w.body from to x (no_window k w is), spared (look_of i.binding) w.body from to x (no_window k w is)))
 
   module _ (focus : Bool) (pool entries : List (Entry Sym)) (n : ℕ) where
     -- nothing that is open has the entry at an event

@@ -41,7 +41,8 @@ count_most P (x ∷ xs) n (inr h) = let l = count_most P xs n h.1 in omega arith
 
 counted_most : {S : Type 0} (entries : List (Entry S)) (look : Binding S) (body : Body S) (from to : ℤ) (n : ℕ) → IsCounted entries look body from to n → n ≤ length entries
 counted_most entries look (NoEvent p) from to n h = count_most _ entries n h
-counted_most entries look (Occurs least most p) from to n h = count_most _ entries n h
+counted_most entries look (Occurs least most p) from to n (inl h) = count_most _ entries n h
+counted_most entries look (Occurs least most p) from to n (inr e) = let l = count_most _ entries e.1.0 e.1.1 in let m = e.1.2 in omega arith
 counted_most entries look (Hold name terms value) from to n h = omega (arith, h)
 
 short : {A : Type 0} (P : A → Type 0) (xs ys : List A) → Sifts P xs ys → length ys ≤ length xs
@@ -86,29 +87,35 @@ module _ (plan : Plan) (k : ℕ) (w : Window Sym) (is : slice_get (chronicle pla
   module _ (i : InstanceState) (s : Stretch) (o : Option Stretch) (e : o ≡ Some s) (h : IsStretchAt plan i k o) (b : List (Option Sym)) (sb : b ≡ i.binding) (p q : Progress) (sp : p ≡ progress_at i.progress k) where
     module _ (x : Entry Sym) where
       settled_seen : ((settled : List (Entry Sym)) (d : ℕ) → p.count < 2 ^ 32 - 1 → d ≤ x.date → IsProgress settled (look_of b) w.body s.from s.to (pos d) p.count p.broken → IsProgress (settled ++ x ∷ []) (look_of b) w.body s.from s.to (pos d) q.count q.broken)
-          → Settles plan x i.partial b k p q
-      settled_seen f entries d late few has =
-          let at = stretch_of i s o e h in
-          let bound = bound_of i s o e h b sb in
-          let old = has_of i.partial b s.from s.to at.0 bound entries d p has in
-          let m = counted_most entries (look_of b) w.body s.from s.to p.count old.counted in
-          has_by i.partial b s.from s.to at.0 bound (entries ++ x ∷ []) d q (f entries d (omega arith) late old)
+          → p.count ≤ q.count → Settles plan x i.partial b k p q
+      settled_seen f more = (
+        λ entries d late few has.
+            let at = stretch_of i s o e h in
+            let bound = bound_of i s o e h b sb in
+            let old = has_of i.partial b s.from s.to at.0 bound entries d p has in
+            let m = counted_most entries (look_of b) w.body s.from s.to p.count old.counted in
+            has_by i.partial b s.from s.to at.0 bound (entries ++ x ∷ []) d q (f entries d (omega arith) late old),
+        more,
+      )
 
       pub settled_by : ((settled : List (Entry Sym)) (d : ℕ) → p.count < 2 ^ 32 - 1 → d ≤ x.date → IsProgress settled (look_of b) w.body s.from s.to (pos d) p.count p.broken → IsProgress (settled ++ x ∷ []) (look_of b) w.body s.from s.to (pos d) q.count q.broken)
-          → Settles plan x i.partial i.binding k (progress_at i.progress k) q
-      settled_by f = subst (λ (t : Progress). Settles plan x i.partial i.binding k t q) sp (subst (λ (t : List (Option Sym)). Settles plan x i.partial t k p q) sb (settled_seen f))
+          → p.count ≤ q.count → Settles plan x i.partial i.binding k (progress_at i.progress k) q
+      settled_by f more = subst (λ (t : Progress). Settles plan x i.partial i.binding k t q) sp (subst (λ (t : List (Option Sym)). Settles plan x i.partial t k p q) sb (settled_seen f more))
 
     module _ (history : HistoryState) (since n : ℕ) where
       passed_seen : ((settled : List (Entry Sym)) → (pos since ≤ℤ s.from → history.floor ≤ℤ s.from) → since ≤ n → StandsFor settled history → IsProgress settled (look_of b) w.body s.from s.to (pos since) p.count p.broken → IsProgress settled (look_of b) w.body s.from s.to (pos n) q.count q.broken)
-          → Passes plan history since n i.partial b k p q
-      passed_seen f entries up kept low has =
-          let at = stretch_of i s o e h in
-          let bound = bound_of i s o e h b sb in
-          has_by i.partial b s.from s.to at.0 bound entries n q (f entries (λ l. omega (arith, ints)) up kept (has_of i.partial b s.from s.to at.0 bound entries since p has))
+          → p.count ≤ q.count → Passes plan history since n i.partial b k p q
+      passed_seen f more = (
+        λ entries up kept low has.
+            let at = stretch_of i s o e h in
+            let bound = bound_of i s o e h b sb in
+            has_by i.partial b s.from s.to at.0 bound entries n q (f entries (λ l. omega (arith, ints)) up kept (has_of i.partial b s.from s.to at.0 bound entries since p has)),
+        more,
+      )
 
       pub passed_by : ((settled : List (Entry Sym)) → (pos since ≤ℤ s.from → history.floor ≤ℤ s.from) → since ≤ n → StandsFor settled history → IsProgress settled (look_of b) w.body s.from s.to (pos since) p.count p.broken → IsProgress settled (look_of b) w.body s.from s.to (pos n) q.count q.broken)
-          → Passes plan history since n i.partial i.binding k (progress_at i.progress k) q
-      passed_by f = subst (λ (t : Progress). Passes plan history since n i.partial i.binding k t q) sp (subst (λ (t : List (Option Sym)). Passes plan history since n i.partial t k p q) sb (passed_seen f))
+          → p.count ≤ q.count → Passes plan history since n i.partial i.binding k (progress_at i.progress k) q
+      passed_by f more = subst (λ (t : Progress). Passes plan history since n i.partial i.binding k t q) sp (subst (λ (t : List (Option Sym)). Passes plan history since n i.partial t k p q) sb (passed_seen f more))
 
   -- the window begins
   pub begins_by : (parent fork : InstanceState) (s : Stretch) (o : Option Stretch) → o ≡ Some s → IsStretchAt plan fork k o → (b : List (Option Sym)) → b ≡ fork.binding → (q : Progress) (history : HistoryState) (n : ℕ)
@@ -188,21 +195,28 @@ still_of plan old new s of = subst (IsOf plan) (sym s.same) (record {
 pub has_same : (plan : Plan) (old new : InstanceState) → IsSameInstance old new → (entries : List (Entry Sym)) (d k : ℕ) (q : Progress) → HasAt plan old.partial old.binding entries d k q → HasAt plan new.partial new.binding entries d k q
 has_same plan old new s entries d k q h = subst (λ (i : InstanceState). HasAt plan i.partial i.binding entries d k q) (sym s.same) h
 
+pub same_count : (p q : Progress) → q ≡ p → p.count ≤ q.count
+same_count p q e = subst (λ (r : Progress). p.count ≤ r.count) (sym e) (omega arith)
+
 module _ (plan : Plan) (history : HistoryState) (since : ℕ) where
   pub passed_all : (h : ℕ) (old new : InstanceState) → AreStepped (λ k q. Passes plan history since h old.partial old.binding k (progress_at old.progress k) q) (length plan.chronicle.windows) old new → IsPassed plan history since h old new
   passed_all h old new s = record {
     same = s.same;
-    follows = λ settled up read low has. each_window plan _ (λ k l. has_same plan old new s.same settled h k (progress_at new.progress k) (s.below k l settled up read.kept low (has k)));
+    gains = λ k. elim (cases_lt k (length plan.chronicle.windows)) [ inl l ↦ (s.below k l).1 | inr g ↦ same_count (progress_at old.progress k) (progress_at new.progress k) (s.rest k g) ];
+    follows = λ settled up read low has. each_window plan _ (λ k l. has_same plan old new s.same settled h k (progress_at new.progress k) ((s.below k l).0 settled up read.kept low (has k)));
   }
 
   pub followed_all : (x : Entry Sym) (old mid new : InstanceState) → AreStepped (λ k q. Settles plan x old.partial old.binding k (progress_at old.progress k) q) (length plan.chronicle.windows) old mid
       → AreStepped (λ k q. Passes plan history since x.date mid.partial mid.binding k (progress_at mid.progress k) q) (length plan.chronicle.windows) mid new → IsFollowed plan history x since old new
   followed_all x old mid new s t = record {
     same = same_after old mid new s.same t.same;
+    gains = λ k.
+        let first : (progress_at old.progress k).count ≤ (progress_at mid.progress k).count = elim (cases_lt k (length plan.chronicle.windows)) [ inl l ↦ (s.below k l).1 | inr g ↦ same_count (progress_at old.progress k) (progress_at mid.progress k) (s.rest k g) ] in
+        let then = (passed_all x.date mid new t).gains k in omega arith;
     follows = λ settled up read low has.
         let few : length settled < 2 ^ 32 - 1 = let l = length-append settled (x ∷ []) in let f = read.few in omega arith in
         (passed_all x.date mid new t).follows (settled ++ x ∷ []) up read low
-        (each_window plan _ (λ k l. has_same plan old mid s.same (settled ++ x ∷ []) since k (progress_at mid.progress k) (s.below k l settled since up few (has k))));
+        (each_window plan _ (λ k l. has_same plan old mid s.same (settled ++ x ∷ []) since k (progress_at mid.progress k) ((s.below k l).0 settled since up few (has k))));
   }
 
 pub begun_all : (n : ℕ) (plan : Plan) (history : HistoryState) (h : ℕ) (parent old new : InstanceState) → AreStepped (λ k q. Begins plan history h parent old k q) n old new → n ≡ length plan.chronicle.windows → IsBegun plan history h parent old new

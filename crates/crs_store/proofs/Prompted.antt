@@ -7,7 +7,7 @@ use Rattle.crs_base.specs.Entry.{Entry}
 use Rattle.crs_base.proofs.Words.{in_append, in_append_left}
 use Rattle.crs_model.specs.Models.{Chronicle}
 use Rattle.crs_model.specs.Partial.{Partial, at}
-use Rattle.crs_model.specs.Open.{IsOpen, IsRecognisedWhole, AllWanted, StandsFor, before}
+use Rattle.crs_model.specs.Open.{IsOpen, IsRecognisedWhole, StandsFor, before}
 use Rattle.crs_model.specs.Images.{IsImage}
 use Rattle.crs_model.specs.Steps.{IsFresh, GoesOn}
 use Rattle.crs_model.specs.Scans.{GoesOnByLevel}
@@ -16,11 +16,13 @@ use Rattle.crs_model.proofs.Offers.{before_more, recognised_full, recognised_giv
 use Rattle.crs_model.proofs.Options.{of_some}
 use Rattle.crs_model.proofs.Parts.{at_within, put_same, open_back}
 use Rattle.crs_model.proofs.Rests.{rest, length_rest, rest_at, rest_part, rest_free, rest_closed, rest_awaits, rest_grows}
+use Rattle.crs_store.specs.Ahead.{MayBecome}
+use Rattle.crs_store.proofs.Ahead.{becomes_without, becomes_parent}
 
-module _ (c : Chronicle Sym) (level : ℕ → ℕ) (held out : List (Partial Sym)) (was pool entries : List (Entry Sym)) (d g : ℕ) (stands : StandsFor c level AllWanted held was pool entries d g) (x : Entry Sym) (dated : d ≤ x.date) where
+module _ (c : Chronicle Sym) (level : ℕ → ℕ) (held out : List (Partial Sym)) (was pool entries : List (Entry Sym)) (d g : ℕ) (x : Entry Sym) (dated : d ≤ x.date) where
   -- ---- x comes to the pool
 
-  module _ (fresh : IsFresh pool x) where
+  module _ (whole all coming : List (Entry Sym)) (h : ℕ) (stands : StandsFor c level (MayBecome c level whole all (x ∷ coming) h) held was pool entries d g) (fresh : IsFresh pool x) where
     abbrev pub FineNow : Partial Sym → Type 0
     FineNow = IsOpen c level (pool ++ x ∷ []) entries d
 
@@ -69,7 +71,7 @@ module _ (c : Chronicle Sym) (level : ℕ → ℕ) (held out : List (Partial Sym
     fine_of b a (inl s) = s.1
     fine_of b a (inr f) = f.3
 
-    pub came_to_pool : IsImage (GoesOnByLevel level FineNow x) held out → StandsFor c level AllWanted out was (pool ++ x ∷ []) entries d g
+    pub came_to_pool : IsImage (GoesOnByLevel level FineNow x) held out → StandsFor c level (MayBecome c level whole all coming h) out was (pool ++ x ∷ []) entries d g
     came_to_pool im = record {
       was_in = λ e i. in_append_left pool (x ∷ []) e (stands.was_in e i);
       entries_in = λ e i. in_append_left pool (x ∷ []) e (stands.entries_in e i);
@@ -83,22 +85,22 @@ module _ (c : Chronicle Sym) (level : ℕ → ℕ) (held out : List (Partial Sym
             let b = rest level e a in
             let awaits = rest_awaits level e a k.0.closed x i in
             im.complete b a
-            (stands.all b (parent a k.0 e i, λ rec. recognised_full c was (before g entries) g b e rec awaits.within (rest_free level e a)) tt)
+            (stands.all b (parent a k.0 e i, λ rec. recognised_full c was (before g entries) g b e rec awaits.within (rest_free level e a)) (becomes_parent c level whole all coming h x a w e i))
             (inr (e, awaits, rest_grows level e a k.0.closed x i, k.0))
-        | inr old ↦ im.complete a a (stands.all a (without a k.0 old, k.1) tt) (inl (refl, k.0))
+        | inr old ↦ im.complete a a (stands.all a (without a k.0 old, k.1) (becomes_without c level whole all coming h x a w)) (inl (refl, k.0))
       ];
     }
 
   -- ---- x, which is of the pool, is settled
 
-  module _ (n : ℕ) (later : d ≤ n) (inside : IsIn x pool) where
+  module _ (Wanted : Partial Sym → Type 0) (stands : StandsFor c level Wanted held was pool entries d g) (n : ℕ) (later : d ≤ n) (inside : IsIn x pool) where
     late : (e : Entry Sym) → IsIn e (x ∷ []) → d ≤ e.date
     late e i = elim i [ inl s ↦ subst (λ (t : Entry Sym). d ≤ t.date) (sym s) dated | inr none ↦ absurd none ]
 
     same_before : before g (entries ++ x ∷ []) ≡ before g entries
     same_before = before_more g entries (x ∷ []) (λ e i. let l = late e i in let m = stands.marked in omega arith)
 
-    pub was_settled : IsImage (GoesOn (IsOpen c level pool (entries ++ x ∷ []) n)) held out → StandsFor c level AllWanted out was pool (entries ++ x ∷ []) n g
+    pub was_settled : IsImage (GoesOn (IsOpen c level pool (entries ++ x ∷ []) n)) held out → StandsFor c level Wanted out was pool (entries ++ x ∷ []) n g
     was_settled im = record {
       was_in = stands.was_in;
       entries_in = λ e i. elim (in_append entries (x ∷ []) e i) [
@@ -113,6 +115,6 @@ module _ (c : Chronicle Sym) (level : ℕ → ℕ) (held out : List (Partial Sym
             λ rec. (stands.each r.0 r.1).1 (subst (λ (t : Partial Sym). IsRecognisedWhole c was (before g entries) g t) (r.2).0 (subst (λ (t : List (Entry Sym)). IsRecognisedWhole c was t g a) same_before rec)),
           );
       all = λ a k w. im.complete a a
-          (stands.all a (same_pool c pool entries (x ∷ []) was d n g later late level a k.0, λ rec. k.1 (subst (λ (t : List (Entry Sym)). IsRecognisedWhole c was t g a) (sym same_before) rec)) tt)
+          (stands.all a (same_pool c pool entries (x ∷ []) was d n g later late level a k.0, λ rec. k.1 (subst (λ (t : List (Entry Sym)). IsRecognisedWhole c was t g a) (sym same_before) rec)) w)
           (refl, k.0);
     }

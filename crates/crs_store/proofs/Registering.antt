@@ -15,7 +15,7 @@ use Rattle.crs_store.specs.declared.holding.Holding.{Holding}
 use Rattle.crs_store.specs.declared.waiting.hooks.Hook.{Hook}
 use Rattle.crs_store.specs.declared.waiting.hooks.Hooks.{Hooks}
 use Rattle.crs_store.specs.Dues.{AreDue, AreKept}
-use Rattle.crs_store.specs.Links.{linked_by, Grows, IsLinkedAnew, IsArmed, hook_at}
+use Rattle.crs_store.specs.Links.{linked_by, Grows, IsLinkedAnew, IsArmedAnew, hook_at}
 use Rattle.crs_store.specs.Hooks.{key_of}
 use Rattle.crs_model.specs.Bindings.{look_of}
 use Rattle.crs_store.specs.Slots.{SlotsState, slot_at, handle_at, members, Puts}
@@ -33,7 +33,7 @@ one : {a b : InstanceState} → Some a ≡ Some b → a ≡ b
 one e = cc
 
 pub registered : (plan : Plan) (focus : Bool) (hooks : Hooks) (h place : ℕ) (old : Holding) (linked armed : IndexState) (dues : Schedule) (j : InstanceState) → slot_at old.slots place ≡ Some j → Grows old.waiting linked → Grows linked armed → AreKept old.dues.pairs dues.pairs → dues.date ≡ old.dues.date
-    → IsLinkedAnew plan focus hooks.events.items linked (handle_at old.slots place) None (linked_by plan h) j → IsArmed plan hooks.windows.items armed (handle_at old.slots place) h j → AreDue plan focus j (handle_at old.slots place) h dues.pairs → Registers plan focus hooks h place old (record { slots = old.slots; waiting = armed; dues = dues; ripe = old.ripe; room = old.room })
+    → IsLinkedAnew plan focus hooks.events.items linked (handle_at old.slots place) None (linked_by plan h) j → IsArmedAnew plan hooks.windows.items armed (handle_at old.slots place) None h j → AreDue plan focus j (handle_at old.slots place) h dues.pairs → Registers plan focus hooks h place old (record { slots = old.slots; waiting = armed; dues = dues; ripe = old.ripe; room = old.room })
 registered plan focus hooks h place old linked armed dues j is first second kept stood links arms due = record {
   slots = refl;
   ripe = refl;
@@ -41,7 +41,7 @@ registered plan focus hooks h place old linked armed dues j is first second kept
   kept = kept;
   stood = stood;
   linked = λ i at_i. subst (λ (t : InstanceState). IsLinkedAnew plan focus hooks.events.items armed (handle_at old.slots place) None (linked_by plan h) t) (one (sym is ∙ at_i)) (λ e w can none. second (key_of e (hook_at hooks.events.items e) (look_of j.binding)) (handle_at old.slots place) (links e w can none));
-  armed = λ i at_i. subst (λ (t : InstanceState). IsArmed plan hooks.windows.items armed (handle_at old.slots place) h t) (one (sym is ∙ at_i)) arms;
+  armed = λ i at_i. subst (λ (t : InstanceState). IsArmedAnew plan hooks.windows.items armed (handle_at old.slots place) None h t) (one (sym is ∙ at_i)) arms;
   due = λ i at_i. subst (λ (t : InstanceState). AreDue plan focus t (handle_at old.slots place) h dues.pairs) (one (sym is ∙ at_i)) due;
 }
 
@@ -51,7 +51,7 @@ done_known plan focus events windows index pairs ripe handle h i of able done th
   of = of;
   able = able;
   linked = λ e w can. absurd (all_some_of i.partial done.0 e w.within w.unbound);
-  armed = λ k. some_if (slice_get (chronicle plan).windows k) _ (λ w is from to stretch bound far. let q = of_some (slice_get (chronicle plan).windows k) w _ is (done_ended plan focus i h done k) from to stretch bound in absurd (omega (arith, ints)));
+  armed = λ k. some_if (slice_get (chronicle plan).windows k) _ (λ w is from to stretch bound wants near far. let q = of_some (slice_get (chronicle plan).windows k) w _ is (done_ended plan focus i h done k) from to stretch bound in absurd (omega (arith, ints)));
   due = λ t due l m. absurd (done_undue plan focus i h done t due l);
   done = λ d. there;
 }
@@ -62,7 +62,7 @@ undone_known plan focus hooks h place mid new i is r of able undone = record {
   of = of;
   able = able;
   linked = λ e w can. r.linked i is e w can tt;
-  armed = r.armed i is;
+  armed = λ k. some_if (slice_get (chronicle plan).windows k) _ (λ w at_k from to stretch bound wants near far. of_some (slice_get (chronicle plan).windows k) w _ at_k (r.armed i is k) from to stretch bound wants near tt far);
   due = r.due i is;
   done = λ d. absurd (undone d);
 }

@@ -1,5 +1,5 @@
 -- What a store stands for after a call.
-use Rattle.std.proofs.Common.{◌≡◌, ℕ, suc, ◌<◌, ◌≤◌, List, [], ◌∷◌, ◌++◌, length, refl, sym, ap, subst, ◌∙◌, inl, inr, ◌⊎◌, arith}
+use Rattle.std.proofs.Common.{◌≡◌, ℕ, suc, ◌<◌, ◌≤◌, List, [], ◌∷◌, ◌++◌, length, refl, sym, ap, subst, ◌∙◌, inl, inr, ◌⊎◌, arith, append-nil}
 use Rattle.std.specs.Prelude.{Option, Some, None, IfSome, IsSomeAnd, replicate, slice_get, Bool, Result, OnOk}
 use Rattle.std.specs.List.{AllByRecursion, AllZip}
 use Rattle.std.proofs.lemmas.Result.{on_ok_weaker}
@@ -23,8 +23,8 @@ use Rattle.crs_instance.specs.Instances.{InstanceState, IsOf}
 use Rattle.crs_instance.specs.Followed.{Follows}
 use Rattle.crs_instance.proofs.GoesOn.{root_goes_on}
 use Rattle.crs_instance.proofs.BindAnswers.{get-replicate}
-use Rattle.crs_store.specs.Ahead.{IsWanted, AreAhead, MayGo}
-use Rattle.crs_store.specs.Stores.{parts, AllOf, StoreState, IsStore, Stands, StandsAhead, IsSameStore, levels_of, IsOffered, IsOfferedAt}
+use Rattle.crs_store.specs.Ahead.{MayBecome, IsWanted, AreAhead, MayGo}
+use Rattle.crs_store.specs.Stores.{parts, AllOf, StoreState, IsStore, Stands, StandsAhead, StandsComing, IsSameStore, levels_of, IsOffered, IsOfferedAt}
 use Rattle.crs_store.specs.PlanLevels.{levels_in}
 use Rattle.crs_store.specs.Windows.{IsAble, IsOver, IsOpenAt, IsSameInstance}
 use Rattle.crs_store.specs.Sweeps.{IsFree, IsReady, TakesIn, TakesInSome}
@@ -91,18 +91,34 @@ same_levels old new same P h =
 pub ahead_of : (s : StoreState) (was pool entries later : List (Entry Sym)) (d g h : ℕ) → Stands s was pool entries d g → StandsAhead s was pool entries later d g h
 ahead_of s was pool entries later d g h k = record { stands = stands_ahead (chronicle s.plan) (levels_of s) (parts s.held) was pool entries d g k.stands later h; follows = k.follows; judged = k.judged }
 
+-- and whatever is coming to its pool
+pub coming_of : (s : StoreState) (whole all coming was pool entries : List (Entry Sym)) (d g h : ℕ) → Stands s was pool entries d g → StandsComing s whole all coming was pool entries d g h
+coming_of s whole all coming was pool entries d g h k = record {
+  stands = record { was_in = k.stands.was_in; entries_in = k.stands.entries_in; marked = k.stands.marked; distinct = k.stands.distinct; each = k.stands.each; all = λ a o w. k.stands.all a o tt };
+  follows = k.follows;
+  judged = k.judged;
+}
+
+-- where nothing more is coming, and all is settled
+pub last_of : (s : StoreState) (was pool entries : List (Entry Sym)) (d g h : ℕ) → StandsComing s pool (entries ++ []) [] was pool entries d g h → StandsAhead s was pool entries [] d g h
+last_of s was pool entries d g h k = record {
+  stands = subst (λ (t : List (Entry Sym)). StandsFor (chronicle s.plan) (levels_of s) (MayBecome (chronicle s.plan) (levels_of s) t (entries ++ []) [] h) (parts s.held) was pool entries d g) (sym (append-nil pool)) k.stands;
+  follows = k.follows;
+  judged = k.judged;
+}
+
 -- one that was judged at the last date, with nothing ahead, stands for what is settled
 exact_now : (s : StoreState) (was pool entries : List (Entry Sym)) (d g : ℕ) → StandsAhead s was pool entries [] d g d → Stands s was pool entries d g
 exact_now s was pool entries d g k = record { stands = ahead_stands (chronicle s.plan) (levels_of s) (parts s.held) was pool entries d g k.stands; follows = k.follows; judged = k.judged }
 
 -- what is wanted isn't left out
-wanted_stays : (plan : Plan) → IsProper plan → (focus : Bool) (pool entries later ahead : List (Entry Sym)) (beyond h : ℕ) (made some : List InstanceState) → AreAhead ahead beyond later h → ((i : InstanceState) → IsIn i made → IsIn i some ⊎ MayGo plan focus ahead beyond i)
-    → (a : Partial Sym) → IsIn a (parts made) → IsWanted (chronicle plan) (levels_in plan focus) pool entries later h a → IsIn a (parts some)
+pub wanted_stays : (plan : Plan) → IsProper plan → (focus : Bool) (pool entries later ahead : List (Entry Sym)) (beyond h : ℕ) (made some : List InstanceState) → AreAhead ahead beyond later h → ((i : InstanceState) → IsIn i made → IsIn i some ⊎ MayGo plan focus ahead beyond i)
+    → (a : Partial Sym) → IsIn a (parts made) → MayBecome (chronicle plan) (levels_in plan focus) pool entries later h a → IsIn a (parts some)
 wanted_stays plan proper focus pool entries later ahead beyond h made some coming each a k w =
     let m = in_map_back (λ (t : InstanceState). t.partial) made a k in
     subst (λ (t : Partial Sym). IsIn t (parts some)) (sym m.2) (elim (each m.0 m.1) [
       | inl i ↦ in_map (λ (t : InstanceState). t.partial) some m.0 i
-      | inr o ↦ absurd (hopeless_unwanted plan proper focus pool entries later ahead beyond h m.0 coming o (subst (IsWanted (chronicle plan) (levels_in plan focus) pool entries later h) m.2 w))
+      | inr o ↦ absurd (hopeless_unwanted plan proper focus pool entries later ahead beyond h m.0 coming o (subst (MayBecome (chronicle plan) (levels_in plan focus) pool entries later h) m.2 w))
     ])
 
 store_offered : (old new : StoreState) (history : HistoryState) (x : Entry Sym) (until : ℕ) (ahead : List (Entry Sym)) (beyond : ℕ) → x.date ≤ until → IsStore old → IsSameStore old new → new.date ≡ until → TakesInSome old.plan old.focus history x until old.date ahead beyond old.held new.held → IsOfferedAt old history x until ahead beyond new
@@ -117,7 +133,7 @@ store_offered old new history x until ahead beyond up is same judged takes was s
     let taken_in = subst (λ (k : ℕ). TakesIn old.plan old.focus history x until k old.held made) stands.judged takes.1 in
     let r = taken_in settled dated up (record { kept = kept; few = few; far = far_d }) (floor_early old.plan is.proper d history.floor far_d) over (ready c level (parts old.held) was settled settled (x ∷ later) d g h x one fresh) in
     let all = offered_ahead c level settled settled was later d until g h (omega arith) x dated fresh (parts old.held) (parts made) one r.0 in
-    let some = some_stand c level (parts made) (parts new.held) was now now later until g h all (takes.2.apart all.distinct) (parts_sub made new.held takes.2.back) (wanted_stays old.plan is.proper old.focus now now later ahead beyond h made new.held coming takes.2.each) in
+    let some = some_stand c level (IsWanted c level now now later h) (parts made) (parts new.held) was now now until g all (takes.2.apart all.distinct) (parts_sub made new.held takes.2.back) (wanted_stays old.plan is.proper old.focus (now ++ later) (now ++ later) later ahead beyond h made new.held coming takes.2.each) in
     record {
       stands = same_levels old new same (λ c levels. StandsFor c levels (IsWanted c levels now now later h) (parts new.held) was now now until g) some;
       follows = subst (λ (p : Plan). AllByRecursion (Follows p now until) new.held) (sym same.plan) (each_from_in (Follows old.plan now until) new.held (λ i k. (in_from_each (IsOver old.plan old.focus now now until) made r.1 i (takes.2.back i k)).follows));

@@ -16,12 +16,13 @@ use Rattle.crs_model.specs.Verdicts.{IsStretch, BodyIsBound, IsDatedIn}
 use Rattle.crs_model.specs.HasProgress.{IsProgress, IsMetBy, IsLostBy, Hits, Spares, StartsWell, StartsIll}
 use Rattle.crs_model.proofs.Options.{of_some, some_if, and_some, some_and}
 use Rattle.crs_model.proofs.Opened.{same_stretch}
-use Rattle.crs_model.proofs.Progressing.{settle_progress, pass_progress}
+use Rattle.crs_model.proofs.Progressing.{settle_progress, pass_progress, enough_stays}
 use Rattle.crs_instance.specs.Instances.{InstanceState, IsOf, IsDeadline, progress_at}
 use Rattle.crs_instance.specs.Followed.{Follows}
 use Rattle.crs_instance.proofs.Deadline.{deadline_by}
 use Rattle.crs_instance.specs.CurrentLevel.{IsCurrentLevel}
 use Rattle.crs_instance.proofs.GoesOn.{deadline_tells, whole_goes_on}
+use Rattle.crs_store.specs.Links.{IsNear}
 use Rattle.crs_store.specs.PlanLevels.{levels_in}
 use Rattle.crs_store.specs.Windows.{IsAble}
 use Rattle.crs_store.specs.Sweeps.{IsDone, is_whole}
@@ -33,6 +34,9 @@ use Rattle.crs_store.proofs.Progress.{each_window}
 
 end_after : (t : ℕ) → (pos t +ℤ pos 1) ≡ pos (suc t)
 end_after t = omega (arith, ints)
+
+two_after : (t : ℕ) → (pos t +ℤ pos 2) ≡ pos (suc (suc t))
+two_after t = omega (arith, ints)
 
 -- an end isn't after d, or it is after h
 end_apart : (to : ℤ) (d h : ℕ) → ((t : ℕ) → (pos t +ℤ pos 1) ≡ to → d ≤ t → t < h → ⊥) → (to ≤ℤ pos d) ⊎ (pos h <ℤ to)
@@ -49,6 +53,16 @@ start_apart (negsuc t) d h none = inl (omega (arith, ints))
 start_apart (pos t) d h none = elim (cases_lt t d) [
   | inl l ↦ inl (omega (arith, ints))
   | inr g ↦ (elim (cases_lt t h) [ inl l ↦ absurd (none t refl g l) | inr m ↦ inr (omega (arith, ints)) ])
+]
+
+-- a date is near d, or it isn't near h
+near_apart : (from : ℤ) (d h : ℕ) → ((t : ℕ) → (pos t +ℤ pos 2) ≡ from → d ≤ t → t < h → ⊥) → IsNear from d ⊎ (IsNear from h → ⊥)
+near_apart (negsuc t) d h none = inl (omega (arith, ints))
+near_apart (pos zero) d h none = inl (omega (arith, ints))
+near_apart (pos (suc zero)) d h none = inl (omega (arith, ints))
+near_apart (pos (suc (suc t))) d h none = elim (cases_lt t d) [
+  | inl l ↦ inl (omega (arith, ints))
+  | inr g ↦ (elim (cases_lt t h) [ inl l ↦ absurd (none t (two_after t) g l) | inr m ↦ inr (λ near. absurd (omega (arith, ints))) ])
 ]
 
 -- ---- one window
@@ -118,11 +132,15 @@ module _ (plan : Plan) (focus : Bool) (i : InstanceState) (d h : ℕ) (undue : I
     ends_apart : (to ≤ℤ pos d) ⊎ (pos h <ℤ to)
     ends_apart = end_apart to d h (λ t e l m. no_turn t (inl e) l m)
 
+    -- near at h, it was near at d
+    pub near_early : from ≤ℤ to → IsNear from h → IsNear from d
+    near_early within near = elim (near_apart from d h (λ t e l m. no_turn t (inr (inr (within, e))) l m)) [ inl n ↦ n | inr not ↦ absurd (not near) ]
+
   module _ (later : d ≤ h) where
     -- the progress of its windows stays as dates pass
     pub undue_follows : (entries : List (Entry Sym)) → Follows plan entries d i → Follows plan entries h i
     undue_follows entries has k = some_if (slice_get (chronicle plan).windows k) _ (λ w is from to stretch bound.
-        progress_stays (look_of i.binding) from to d h later w.body entries (progress_at i.progress k).count (progress_at i.progress k).broken (λ t s l m. no_turn k w is from to stretch bound t (inr s) l m)
+        progress_stays (look_of i.binding) from to d h later w.body entries (progress_at i.progress k).count (progress_at i.progress k).broken (λ t s l m. no_turn k w is from to stretch bound t (inr (inl s)) l m)
         (of_some (slice_get (chronicle plan).windows k) w _ is (has k) from to stretch bound))
 
     -- done at h, it was done at d
@@ -163,8 +181,11 @@ module _ (plan : Plan) (i : InstanceState) (x : Entry Sym) (d : ℕ) (late : d �
   pub untouched_follows : (entries : List (Entry Sym)) → IsUntouched plan i x → Follows plan entries d i → Follows plan (entries ++ x ∷ []) d i
   untouched_follows entries untouched has k = some_if (slice_get (chronicle plan).windows k) _ (λ w is from to stretch bound.
       let u = of_some (slice_get (chronicle plan).windows k) w _ is (untouched k) from to stretch bound in
-      untouched_progress (look_of i.binding) from to x d late w.body entries (progress_at i.progress k).count (progress_at i.progress k).broken u.0 u.1
-      (of_some (slice_get (chronicle plan).windows k) w _ is (has k) from to stretch bound))
+      let was = of_some (slice_get (chronicle plan).windows k) w _ is (has k) from to stretch bound in
+      elim u [
+        | inl e ↦ enough_stays (look_of i.binding) from to sym_tells w.body entries x (pos d) (progress_at i.progress k).count (progress_at i.progress k).broken e was
+        | inr u ↦ untouched_progress (look_of i.binding) from to x d late w.body entries (progress_at i.progress k).count (progress_at i.progress k).broken u.0 u.1 was
+      ])
 
 module _ (plan : Plan) (focus : Bool) (i : InstanceState) (d : ℕ) (done : IsDone plan d i) where
   -- the windows of what is done have ended
@@ -186,7 +207,8 @@ module _ (plan : Plan) (focus : Bool) (i : InstanceState) (d : ℕ) (done : IsDo
 
   turn_ended : (body : Body Sym) (from to : ℤ) (t : ℕ) → to ≤ℤ pos d → d ≤ t → IsTurn body from to t → ⊥
   turn_ended body from to t e l (inl s) = omega (arith, ints)
-  turn_ended body from to t e l (inr s) = start_ended body from to t e l s
+  turn_ended body from to t e l (inr (inl s)) = start_ended body from to t e l s
+  turn_ended body from to t e l (inr (inr s)) = let a = s.0 in let b = s.1 in omega (arith, ints)
 
   -- for what is done no later date is due
   pub done_undue : (t : ℕ) → IsDue plan focus i t → d ≤ t → ⊥

@@ -10,12 +10,16 @@ use Rattle.crs_model.specs.Plans.{chronicle}
 use Rattle.crs_model.specs.Open.{IsOpen}
 use Rattle.crs_instance.specs.Instances.{InstanceState, IsOf, window_at}
 
--- a may become what is open at h once the later entries are settled too: an event that it awaits has one of these there, or none
-pub record IsWanted (c : Chronicle Sym) (level : ℕ → ℕ) (pool entries later : List (Entry Sym)) (h : ℕ) (a : Partial Sym) : Type 0 where
+-- a may become what is open at h over the pool and the entries: an event that it awaits has one of those that are coming there, or none
+pub record MayBecome (c : Chronicle Sym) (level : ℕ → ℕ) (pool entries coming : List (Entry Sym)) (h : ℕ) (a : Partial Sym) : Type 0 where
   pub grown : Partial Sym
-  pub fine : IsOpen c level (pool ++ later) (entries ++ later) h grown
+  pub fine : IsOpen c level pool entries h grown
   pub has : (e : ℕ) (x : Entry Sym) → at a e ≡ Some x → at grown e ≡ Some x
-  pub added : (e : ℕ) (x : Entry Sym) → IsAwaited level a e → at grown e ≡ Some x → IsIn x later
+  pub added : (e : ℕ) (x : Entry Sym) → IsAwaited level a e → at grown e ≡ Some x → IsIn x coming
+
+-- it may become what is open at h once the later entries are settled too
+abbrev pub IsWanted : Chronicle Sym → (ℕ → ℕ) → List (Entry Sym) → List (Entry Sym) → List (Entry Sym) → ℕ → Partial Sym → Type 0
+IsWanted c level pool entries later h = MayBecome c level (pool ++ later) (entries ++ later) later h
 
 -- the later entries are among those ahead, or not before a date that isn't after h
 pub record AreAhead (ahead : List (Entry Sym)) (beyond : ℕ) (later : List (Entry Sym)) (h : ℕ) : Type 0 where

@@ -11,9 +11,9 @@ use Rattle.crs_model.specs.Models.{Body, NoEvent, Occurs, Hold}
 use Rattle.crs_model.specs.Bindings.{look_of}
 use Rattle.crs_model.specs.Plans.{chronicle}
 use Rattle.crs_model.specs.Verdicts.{IsStretch, BodyIsBound}
-use Rattle.crs_model.specs.HasProgress.{Hits, Spares}
+use Rattle.crs_model.specs.HasProgress.{IsEnough, Hits, Spares}
 use Rattle.crs_model.specs.Partial.{IsAwaited}
-use Rattle.crs_instance.specs.Instances.{InstanceState, window_at}
+use Rattle.crs_instance.specs.Instances.{InstanceState, window_at, progress_at}
 use Rattle.crs_store.specs.PlanLevels.{levels_in, IsLastDate}
 
 -- the first date of the stretch of a `hold`, where it has one
@@ -22,9 +22,13 @@ IsStart (NoEvent p) from to t = ⊥
 IsStart (Occurs least most p) from to t = ⊥
 IsStart (Hold name terms value) from to t = (from <ℤ to) × (pos t ≡ from)
 
--- the date before the end of a stretch, or such a first date
+-- two dates before a stretch begins that doesn't end before it
+abbrev pub IsNearing : ℤ → ℤ → ℕ → Type 0
+IsNearing from to t = (from ≤ℤ to) × ((pos t +ℤ pos 2) ≡ from)
+
+-- the date before the end of a stretch, or such a first date, or such a date before it
 abbrev pub IsTurn : Body Sym → ℤ → ℤ → ℕ → Type 0
-IsTurn body from to t = ((pos t +ℤ pos 1) ≡ to) ⊎ IsStart body from to t
+IsTurn body from to t = ((pos t +ℤ pos 1) ≡ to) ⊎ (IsStart body from to t ⊎ IsNearing from to t)
 
 -- the window of this number has begun, and t is such a date of it
 abbrev pub IsDueFor : Plan → InstanceState → ℕ → ℕ → Type 0
@@ -43,10 +47,10 @@ IsDue plan focus i t = IsLastDate plan focus i t ⊎ (((k : ℕ) × IsDueFor pla
 abbrev pub IsUndue : Plan → Bool → InstanceState → ℕ → ℕ → Type 0
 IsUndue plan focus i d h = (t : ℕ) → IsDue plan focus i t → d ≤ t → t < h → ⊥
 
--- x neither counts for a window that has begun nor breaks it
+-- x neither counts for a window that has begun nor breaks it, unless its count is enough
 abbrev pub IsUntouched : Plan → InstanceState → Entry Sym → Type 0
 IsUntouched plan i x =
-    (k : ℕ) → IfSome (slice_get (chronicle plan).windows k) (λ w. (from to : ℤ) → IsStretch i.partial w from to → BodyIsBound (look_of i.binding) w.body → (Hits (look_of i.binding) w.body from to x → ⊥) × Spares (look_of i.binding) w.body from to x)
+    (k : ℕ) → IfSome (slice_get (chronicle plan).windows k) (λ w. (from to : ℤ) → IsStretch i.partial w from to → BodyIsBound (look_of i.binding) w.body → IsEnough w.body (progress_at i.progress k).count ⊎ ((Hits (look_of i.binding) w.body from to x → ⊥) × Spares (look_of i.binding) w.body from to x))
 
 -- each window that has begun has ended by d
 abbrev pub AreEnded : Plan → InstanceState → ℕ → Type 0

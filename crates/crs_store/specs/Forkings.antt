@@ -16,9 +16,10 @@ use Rattle.crs_model.specs.Plans.{chronicle}
 use Rattle.crs_model.specs.Scans.{StartsAt, IsForkByLevel}
 use Rattle.crs_model.specs.declared.plan.Plan.{Plan}
 use Rattle.crs_store.specs.declared.waiting.hooks.Hook.{Hook}
+use Rattle.crs_store.specs.declared.waiting.hooks.Symbols.{Symbols}
 use Rattle.crs_store.specs.PlanLevels.{levels_in}
 use Rattle.crs_store.specs.Agreeing.{Agree}
-use Rattle.crs_store.specs.Hooks.{IsHookOfEvent, Waits, key_of}
+use Rattle.crs_store.specs.Hooks.{IsHookOfEvent, IsPart, Waits, key_of, key_with}
 use Rattle.crs_store.specs.Links.{CanStart}
 use Rattle.crs_store.specs.Slots.{SlotsState, slot_at, handle_at, members}
 use Rattle.crs_store.specs.Stores.{parts}
@@ -36,6 +37,10 @@ IsNoted slots e d symbols places p = (i : InstanceState) → slot_at slots p ≡
 -- those that wait under the key, and leave the date and the symbols to the event, are in the places
 abbrev pub AreCandidates : SlotsState → IndexState → Key → ℕ → ℕ → List (Option Sym) → List ℕ → Type 0
 AreCandidates slots index k e d symbols places = (p : ℕ) → Waits index k (handle_at slots p) → IsNoted slots e d symbols places p
+
+-- so are those that wait for the event under a part of these symbols
+abbrev pub AreCandidatesOf : SlotsState → IndexState → Symbols → ℕ → ℕ → List (Option Sym) → List ℕ → Type 0
+AreCandidatesOf slots index all e d symbols places = (part : Symbols) → IsPart part all → AreCandidates slots index (key_with e part) e d symbols places
 
 -- those that stand in a place and waited still wait
 abbrev pub KeepsStanding : SlotsState → IndexState → IndexState → Type 0

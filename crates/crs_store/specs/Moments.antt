@@ -28,7 +28,7 @@ pub record IsMoment (m : Moment) : Type 0 where
   pub small : m.until ≤ 2 ^ 42
   pub near : m.beyond ≤ 2 ^ 42
 
--- the plan is proper, with its hooks, and prompt, so that levels aren't read; the entry is not before `since`, and its date within its limit
+-- the plan is proper, with its hooks, and prompt, so that levels aren't read; the entry is not before `since`; the dates are within their limits
 pub record IsPromptMoment (m : PromptMoment) : Type 0 where
   pub proper : IsProper m.plan.now
   pub hooks : AreHooks m.plan.now m.hooks.now.events.items m.hooks.now.windows.items
@@ -36,6 +36,7 @@ pub record IsPromptMoment (m : PromptMoment) : Type 0 where
   pub flat : m.focus ≡ false
   pub early : m.since ≤ m.entry.now.value.date
   pub date : m.entry.now.value.date < 2 ^ 40
+  pub near : m.beyond ≤ 2 ^ 42
 
 -- the plan is proper, with its hooks; the horizon is not before `since`, and within its limit
 pub record IsHorizon (m : Horizon) : Type 0 where

@@ -1,10 +1,8 @@
--- Instances at some places: as they are followed or passed, and those that are found to be done.
+-- Instances at some places, as they are followed or passed.
 use Rattle.std.specs.Prelude.{◌≡◌, ℕ, List, length, Some}
 use Rattle.crs_base.specs.Words.{IsIn}
 use Rattle.crs_instance.specs.Instances.{InstanceState}
-use Rattle.crs_model.specs.declared.plan.Plan.{Plan}
 use Rattle.crs_store.specs.Slots.{SlotsState, slot_at, handle_at, Becomes}
-use Rattle.crs_store.specs.Sweeps.{IsDone}
 
 -- what stood in these places became what stands there now, and all else stays
 pub record Walks (R : InstanceState → InstanceState → Type 0) (Able : InstanceState → Type 0) (keys : List ℕ) (old new : SlotsState) : Type 0 where
@@ -12,7 +10,3 @@ pub record Walks (R : InstanceState → InstanceState → Type 0) (Able : Instan
   pub others : (p : ℕ) → (IsIn p keys → ⊥) → slot_at new p ≡ slot_at old p
   pub handles : (p : ℕ) (j : InstanceState) → slot_at new p ≡ Some j → handle_at new p ≡ handle_at old p
   pub places : length new.slots ≡ length old.slots
-
--- each of these places where an instance stands that is done is named
-abbrev pub NamesDone : Plan → ℕ → SlotsState → List ℕ → List ℕ → Type 0
-NamesDone plan h slots keys ripe = (p : ℕ) → IsIn p keys → (i : InstanceState) → slot_at slots p ≡ Some i → IsDone plan h i → IsIn p ripe

@@ -66,6 +66,11 @@ pub record Removes (old new : SlotsState) (p : ℕ) : Type 0 where
   pub handles : (q : ℕ) (j : InstanceState) → slot_at new q ≡ Some j → handle_at new q ≡ handle_at old q
   pub places : length new.slots ≡ length old.slots
 
+-- the place may have another handle, and all else stays
+pub record Renumbers (old new : SlotsState) (p : ℕ) : Type 0 where
+  pub stands : new.slots ≡ old.slots
+  pub others : (q : ℕ) → q ≢ p → handle_at new q ≡ handle_at old q
+
 -- what stood in the place became what stands there now, or went and left it with another handle, and all else stays
 pub record Changes (R : InstanceState → InstanceState → Type 0) (Able : InstanceState → Type 0) (old new : SlotsState) (p : ℕ) : Type 0 where
   pub here : Becomes R Able (slot_at old p) (slot_at new p)

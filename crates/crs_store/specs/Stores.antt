@@ -12,7 +12,7 @@ use Rattle.crs_model.specs.Open.{AllWanted, StandsFor}
 use Rattle.crs_history.specs.Histories.{HistoryState, IsFarBack, StandsFor as HistoryStandsFor}
 use Rattle.crs_instance.specs.Instances.{InstanceState, IsOf}
 use Rattle.crs_instance.specs.Followed.{Follows}
-use Rattle.crs_store.specs.Ahead.{IsWanted, AreAhead}
+use Rattle.crs_store.specs.Ahead.{MayBecome, IsWanted, AreAhead}
 use Rattle.crs_store.specs.Hooks.{LooksFor}
 use Rattle.crs_store.specs.PlanLevels.{levels_in}
 
@@ -61,6 +61,12 @@ pub record StandsAhead (s : StoreState) (was pool entries later : List (Entry Sy
   pub follows : AllByRecursion (Follows s.plan entries d) s.held
   pub judged : s.date ≡ d
 
+-- The same where some entries are coming to the pool before h, which makes it the whole pool, and all entries are settled by then: what can't be recognised with those may be left out.
+pub record StandsComing (s : StoreState) (whole all coming was pool entries : List (Entry Sym)) (d g h : ℕ) : Type 0 where
+  pub stands : StandsFor (chronicle s.plan) (levels_of s) (MayBecome (chronicle s.plan) (levels_of s) whole all coming h) (parts s.held) was pool entries d g
+  pub follows : AllByRecursion (Follows s.plan entries d) s.held
+  pub judged : s.date ≡ d
+
 -- After x was offered, whose arrival number is new, whose date isn't before d, and which the history has as its last, and all was judged at its date. The pool is what is settled, which are fewer than 2^32, and g is the horizon of the last mark.
 abbrev pub IsOffered : StoreState → HistoryState → Entry Sym → StoreState → Type 0
 IsOffered old history x new =
@@ -89,9 +95,23 @@ IsOfferedPrompt old history x new =
     HistoryStandsFor settled history → IsFarBack old.plan.reach g history.floor → length settled < 2 ^ 32 → IsFresh pool x → g ≤ x.date →
     Stands new was (pool ++ x ∷ []) settled g g
 
+-- the same where others are coming, of which the store is told which are ahead of all that are dated at or after a date
+abbrev pub IsOfferedPromptAhead : StoreState → HistoryState → Entry Sym → List (Entry Sym) → ℕ → StoreState → Type 0
+IsOfferedPromptAhead old history x ahead beyond new =
+    (whole all coming was pool settled : List (Entry Sym)) (g h : ℕ) → StandsComing old whole all (x ∷ coming) was pool settled g g h → AreAhead ahead beyond coming h →
+    HistoryStandsFor settled history → IsFarBack old.plan.reach g history.floor → length settled < 2 ^ 32 → IsFresh pool x → g ≤ x.date →
+    StandsComing new whole all coming was (pool ++ x ∷ []) settled g g h
+
 -- after x was settled, which is of the pool, whose date isn't before d, and which the history has as its last
 abbrev pub IsSettledWith : StoreState → HistoryState → Entry Sym → StoreState → Type 0
 IsSettledWith old history x new =
     (was pool settled : List (Entry Sym)) (d g : ℕ) → Stands old was pool settled d g →
     HistoryStandsFor (settled ++ x ∷ []) history → IsFarBack old.plan.reach g history.floor → length (settled ++ x ∷ []) < 2 ^ 32 → IsIn x pool → d ≤ x.date →
     Stands new was pool (settled ++ x ∷ []) x.date g
+
+-- the same where others are coming
+abbrev pub IsSettledComing : StoreState → HistoryState → Entry Sym → StoreState → Type 0
+IsSettledComing old history x new =
+    (whole all coming was pool settled : List (Entry Sym)) (d g h : ℕ) → StandsComing old whole all coming was pool settled d g h →
+    HistoryStandsFor (settled ++ x ∷ []) history → IsFarBack old.plan.reach g history.floor → length (settled ++ x ∷ []) < 2 ^ 32 → IsIn x pool → d ≤ x.date →
+    StandsComing new whole all coming was pool (settled ++ x ∷ []) x.date g h

@@ -55,6 +55,11 @@ TakesPrompt plan focus history x g held new =
     → IsImage (GoesOnByLevel (levels_in plan focus) (IsOpenAt plan focus (pool ++ x ∷ []) entries g) x) (parts held) (parts new)
     × AllByRecursion (IsOver plan focus (pool ++ x ∷ []) entries g) new
 
+-- the same, but that some may be left out
+abbrev pub TakesPromptSome : Plan → Bool → HistoryState → Entry Sym → ℕ → List (Entry Sym) → ℕ → List InstanceState → List InstanceState → Type 0
+TakesPromptSome plan focus history x g ahead beyond held new =
+    (made : List InstanceState) × TakesPrompt plan focus history x g held made × IsPartOf (MayGo plan focus ahead beyond) made new
+
 -- what stays of the instances where x is settled, which is of the pool, and all is judged at its date
 abbrev pub SettlesIn : Plan → Bool → HistoryState → Entry Sym → ℕ → List InstanceState → List InstanceState → Type 0
 SettlesIn plan focus history x since held new =

@@ -27,14 +27,15 @@ abbrev pub HasAt : Plan → Partial Sym → List (Option Sym) → List (Entry Sy
 HasAt plan a b entries d k p =
     IfSome (slice_get (chronicle plan).windows k) (λ w. (from to : ℤ) → IsStretch a w from to → BodyIsBound (look_of b) w.body → IsProgress entries (look_of b) w.body from to (pos d) p.count p.broken)
 
--- from p to q, as x is settled
+-- from p to q, as x is settled: the count doesn't fall
 abbrev pub Settles : Plan → Entry Sym → Partial Sym → List (Option Sym) → ℕ → Progress → Progress → Type 0
-Settles plan x a b k p q = (entries : List (Entry Sym)) (d : ℕ) → d ≤ x.date → length entries < 2 ^ 32 - 1 → HasAt plan a b entries d k p → HasAt plan a b (entries ++ x ∷ []) d k q
+Settles plan x a b k p q =
+    ((entries : List (Entry Sym)) (d : ℕ) → d ≤ x.date → length entries < 2 ^ 32 - 1 → HasAt plan a b entries d k p → HasAt plan a b (entries ++ x ∷ []) d k q) × (p.count ≤ q.count)
 
--- from p to q, as dates pass
+-- from p to q, as dates pass: the count doesn't fall
 abbrev pub Passes : Plan → HistoryState → ℕ → ℕ → Partial Sym → List (Option Sym) → ℕ → Progress → Progress → Type 0
 Passes plan history since h a b k p q =
-    (entries : List (Entry Sym)) → since ≤ h → StandsFor entries history → history.floor ≤ℤ pos since → HasAt plan a b entries since k p → HasAt plan a b entries h k q
+    ((entries : List (Entry Sym)) → since ≤ h → StandsFor entries history → history.floor ≤ℤ pos since → HasAt plan a b entries since k p → HasAt plan a b entries h k q) × (p.count ≤ q.count)
 
 -- the window's stretch doesn't start before the floor
 abbrev pub StartsAfter : Plan → Partial Sym → ℕ → ℤ → Type 0
@@ -55,14 +56,20 @@ pub record IsSameInstance (old new : InstanceState) : Type 0 where
   pub same : new ≡ record old { progress = new.progress }
   pub len : length new.progress ≡ length old.progress
 
+-- no window's count fell
+abbrev pub Gains : InstanceState → InstanceState → Type 0
+Gains old new = (k : ℕ) → (progress_at old.progress k).count ≤ (progress_at new.progress k).count
+
 -- as x is settled, and the dates up to its date pass
 pub record IsFollowed (plan : Plan) (history : HistoryState) (x : Entry Sym) (since : ℕ) (old new : InstanceState) : Type 0 where
   pub same : IsSameInstance old new
+  pub gains : Gains old new
   pub follows : (settled : List (Entry Sym)) → since ≤ x.date → IsRead plan history (settled ++ x ∷ []) since → history.floor ≤ℤ pos since → Follows plan settled since old → Follows plan (settled ++ x ∷ []) x.date new
 
 -- as the dates up to h pass
 pub record IsPassed (plan : Plan) (history : HistoryState) (since h : ℕ) (old new : InstanceState) : Type 0 where
   pub same : IsSameInstance old new
+  pub gains : Gains old new
   pub follows : (settled : List (Entry Sym)) → since ≤ h → IsRead plan history settled since → history.floor ≤ℤ pos since → Follows plan settled since old → Follows plan settled h new
 
 -- its windows that hadn't begun for the parent begin

@@ -66,26 +66,19 @@ impl<'a> Chart<'a> {
         if self.plan.chronicle.prompt { END } else { h }
     }
 
-    /// What the windows look for.
-    pub(crate) fn window_hooks(&self) -> &'a [Hook]
-        ensures { result.now ≡ self.now.hooks.windows.items }
-    {
-        self.hooks.windows.as_slice()
-    }
-
     /// What an event looks for.
-    pub(crate) fn event_hook(&self, event: u8) -> Hook
+    pub(crate) fn event_hook(&self, event: u8) -> &'a Hook
         requires { event < length self.now.plan.chronicle.events }
-        ensures { result ≡ hook_at self.now.hooks.events.items event }
+        ensures { result.now ≡ hook_at self.now.hooks.events.items event }
     {
-        self.hooks.events.as_slice()[event as usize]
+        &self.hooks.events.as_slice()[event as usize]
     }
 
     /// What a window looks for.
-    pub(crate) fn window_hook(&self, k: u8) -> Hook
+    pub(crate) fn window_hook(&self, k: u8) -> &'a Hook
         requires { k < length self.now.plan.chronicle.windows }
-        ensures { result ≡ hook_at self.now.hooks.windows.items k }
+        ensures { result.now ≡ hook_at self.now.hooks.windows.items k }
     {
-        self.hooks.windows.as_slice()[k as usize]
+        &self.hooks.windows.as_slice()[k as usize]
     }
 }

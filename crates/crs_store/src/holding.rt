@@ -1,6 +1,8 @@
 //! The instances that are held, and what finds them again.
 ghost use Rattle.std.specs.Prelude.{◌≡◌, ◌≤◌, ◌<◌, ◌^◌, [], Some, length, map, OnOk};
 ghost use Rattle.std.specs.List.{AllByRecursion};
+ghost use Rattle.std.specs.List.Sorted.{IsStrictlySortedBy};
+ghost use Rattle.std.specs.Ordering.{nat_cmp};
 ghost use Rattle.crs_base.specs.Seen.{entry_of};
 ghost use Rattle.crs_instance.specs.Instances.{IsOf};
 ghost use Rattle.crs_store.specs.Ahead.{MayGo};
@@ -9,7 +11,7 @@ ghost use Rattle.crs_store.specs.Dues.{KeepsFreshPairs};
 ghost use Rattle.crs_store.specs.Joins.{ComesTo, ComesOrGoes, JoinsSome, Renews};
 ghost use Rattle.crs_store.specs.Slots.{members, slot_at};
 ghost use Rattle.crs_store.specs.Stores.{AllOf};
-ghost use Rattle.crs_store.specs.Tidy.{IsTidyHolding, Registers, SettlesPlaces};
+ghost use Rattle.crs_store.specs.Tidy.{IsTidyHolding, Registers, SettlesPlace, SettlesPlaces};
 ghost use Rattle.crs_store.specs.Windows.{IsAble, IsFollowed, IsPassed};
 
 use crate::chart::Chart;
@@ -18,15 +20,16 @@ use crate::living::judging::{Judging, Passing};
 use crate::living::windows::is_done;
 use crate::places::slots::Slots;
 use crate::places::sort_places;
-use crate::places::walking::{follow_places, note_ripe, pass_places};
+use crate::places::walking::{follow_places, pass_places};
 use crate::waiting::dues::{collect_due, put_dues};
-use crate::waiting::linking::{arm_windows, link_events, link_places};
+use crate::waiting::linking::{arm_windows, find_anew, link_events};
 use crate::waiting::links::note_touched;
 use crs_agenda::Calendar;
 use crs_base::Entry;
 use crs_history::History;
 use crs_index::Index;
 use crs_instance::Instance;
+use crs_model::Body;
 use std::alloc::{AllocError, Global};
 use std::rc::Rc;
 
@@ -109,7 +112,7 @@ fn register(holding: &mut Holding, chart: &Chart<'_>, place: u32, h: u64) -> Res
         None,
         chart.linked_by(h),
     )?;
-    arm_windows(&mut holding.waiting, chart, instance, handle, h)?;
+    arm_windows(&mut holding.waiting, chart, instance, handle, None, h)?;
     put_dues(&mut holding.dues, chart, instance, handle, h)?;
     Ok(())
 }
@@ -192,33 +195,98 @@ pub(crate) fn hold_all(
     Ok(())
 }
 
-/// Finds again what stands in the places and was judged at `h`: each awaited event that can come
-/// by then and couldn't by `since`, and what is done.
-fn settle_places(
+/// Whether the window counts the entry, and the count is enough with it.
+#[inline(always)]
+fn is_just_enough(chart: &Chart<'_>, instance: &Instance, k: u8, entry: &Entry) -> bool
+    requires { k < length chart.now.plan.chronicle.windows }
+{
+    let Body::Occurs {
+        least,
+        most,
+        pattern,
+    } = &chart.plan().chronicle.windows.as_slice()[k as usize].body
+    else {
+        return false;
+    };
+    if most.is_some() || *least == 0 {
+        return false;
+    }
+    instance.progress(k).count == *least && pattern.name == entry.name
+}
+
+/// Whether a window's count has just become enough by the entry. Either answer is right: it tells
+/// alone when an instance gets another handle, once a window.
+#[inline(always)]
+fn has_enough_now(chart: &Chart<'_>, instance: &Instance, entry: Option<&Entry>) -> bool {
+    let Some(entry) = entry else {
+        return false;
+    };
+    for k in 0..chart.windows() {
+        if is_just_enough(chart, instance, k, entry) {
+            return true;
+        }
+    }
+    false
+}
+
+/// Finds again what stands in the place and was judged at `h`: what is done is named, and what isn't
+/// waits for each awaited event that can come by then and couldn't by `since`, and for each window
+/// that begins by the date after `h` and didn't by the one after `since`. Where a count has just
+/// become enough it gets another handle, and all it waits for anew: so no later entry of that
+/// window finds it.
+fn settle_place(
     holding: &mut Holding,
     chart: &Chart<'_>,
-    places: &[u32],
+    place: u32,
+    entry: Option<&Entry>,
     since: u64,
     h: u64,
 ) -> Result<(), AllocError>
-    requires of { (p : _) (i : _) → slot_at holding.old.slots p ≡ Some i → IsOf chart.now.plan i }
+    requires of { (i : _) → slot_at holding.old.slots place ≡ Some i → IsOf chart.now.plan i }
+    requires stood { holding.old.dues.date ≤ h }
     requires small { h ≤ 2 ^ 42 }
-    ensures { OnOk result (SettlesPlaces chart.now.plan chart.now.focus chart.now.hooks places.now since h holding.old holding.new) }
+    ensures { OnOk result (SettlesPlace chart.now.plan chart.now.focus chart.now.hooks place since h holding.old holding.new) }
 {
-    link_places(
-        &mut holding.waiting,
-        chart,
-        &holding.slots,
-        places,
-        chart.linked_by(since),
-        chart.linked_by(h),
-    )?;
+    let Some(instance) = holding.slots.get(place) else {
+        return Ok(());
+    };
     let judging = Judging {
         plan: chart.plan(),
         focus: chart.focus(),
         h,
     };
-    note_ripe(&judging, &holding.slots, places, &mut holding.ripe)?;
+    if is_done(&judging, instance) {
+        holding.ripe.push(place)?;
+        return Ok(());
+    }
+    if has_enough_now(chart, instance, entry) {
+        holding.slots.renew(place);
+        register(holding, chart, place, h)?;
+        return Ok(());
+    }
+    let handle = holding.slots.handle(place);
+    find_anew(&mut holding.waiting, chart, instance, handle, since, h)?;
+    Ok(())
+}
+
+/// Finds again what stands in the places and was judged at `h`.
+fn settle_places(
+    holding: &mut Holding,
+    chart: &Chart<'_>,
+    places: &[u32],
+    entry: Option<&Entry>,
+    since: u64,
+    h: u64,
+) -> Result<(), AllocError>
+    requires of { (p : _) (i : _) → slot_at holding.old.slots p ≡ Some i → IsOf chart.now.plan i }
+    requires ordered { IsStrictlySortedBy nat_cmp places.now }
+    requires stood { holding.old.dues.date ≤ h }
+    requires small { h ≤ 2 ^ 42 }
+    ensures { OnOk result (SettlesPlaces chart.now.plan chart.now.focus chart.now.hooks places.now since h holding.old holding.new) }
+{
+    for place in places {
+        settle_place(holding, chart, *place, entry, since, h)?;
+    }
     Ok(())
 }
 
@@ -243,8 +311,7 @@ pub(crate) fn follow(
     sweep(holding);
     places.clear();
     collect_due(&mut holding.dues, entry.date, places)?;
-    let windows = chart.window_hooks();
-    note_touched(&mut holding.waiting, &holding.slots, windows, entry, places)?;
+    note_touched(&mut holding.waiting, &holding.slots, chart, entry, places)?;
     if places.is_empty() {
         return Ok(());
     }
@@ -260,7 +327,7 @@ pub(crate) fn follow(
         since,
     };
     follow_places(&passing, &mut holding.slots, places, entry);
-    settle_places(holding, chart, places, since, entry.date)?;
+    settle_places(holding, chart, places, Some(entry), since, entry.date)?;
     Ok(())
 }
 
@@ -299,6 +366,6 @@ pub(crate) fn pass(
         since,
     };
     pass_places(&passing, &mut holding.slots, places);
-    settle_places(holding, chart, places, since, h)?;
+    settle_places(holding, chart, places, None, since, h)?;
     Ok(())
 }

@@ -37,7 +37,7 @@ pub(crate) struct Moment<'a> {
 }
 
 /// The entry of a prompt chronicle, which isn't settled yet, and the date at which all is judged and
-/// stays so.
+/// stays so; the entries that come next, before all that are dated from `beyond` on.
 #[derive(Drop)]
 pub(crate) struct PromptMoment<'a> {
     pub(crate) alloc: Global,
@@ -47,6 +47,8 @@ pub(crate) struct PromptMoment<'a> {
     pub(crate) history: &'a History,
     pub(crate) entry: &'a Rc<Entry>,
     pub(crate) since: u64,
+    pub(crate) ahead: &'a [Rc<Entry>],
+    pub(crate) beyond: u64,
 }
 
 /// A horizon to which a store moves on, and the date at which all was judged before; the number of the

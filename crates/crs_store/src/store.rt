@@ -5,8 +5,8 @@ ghost use Rattle.crs_history.specs.Histories.{EndsWith};
 ghost use Rattle.crs_model.specs.Plans.{IsProper, chronicle};
 ghost use Rattle.crs_model.specs.Levels.{reads_levels};
 ghost use Rattle.crs_instance.specs.Instances.{InstanceState, IsOf};
-ghost use Rattle.crs_store.specs.Stores.{Stands, IsStore, IsSameStore, IsOffered, IsOfferedAt, IsOfferedUntil, IsOfferedPrompt, IsSettledWith};
-ghost use Rattle.crs_store.specs.Sweeps.{TakesInSome, TakesPrompt};
+ghost use Rattle.crs_store.specs.Stores.{Stands, IsStore, IsSameStore, IsOffered, IsOfferedAt, IsOfferedUntil, IsOfferedPrompt, IsOfferedPromptAhead, IsSettledWith, IsSettledComing};
+ghost use Rattle.crs_store.specs.Sweeps.{TakesInSome, TakesPromptSome};
 ghost use Rattle.crs_store.specs.Answers.{IsAdvanced, MovesOn};
 ghost use Rattle.crs_store.specs.Hooks.{AreHooks};
 ghost use Rattle.crs_store.specs.Moments.{IsMoment, IsPromptMoment, IsHorizon};
@@ -123,7 +123,8 @@ fn take_in<L: Ledger>(
 }
 
 /// Adds what comes of the instances of a prompt chronicle by the entry, which isn't settled yet: all
-/// stays judged at the date at which it is.
+/// stays judged at the date at which it is. What the entries ahead and those from `beyond` on leave no
+/// hope may be left out: it takes a fifth off a prompt drill, whose instances wait for all their events.
 fn take_prompt<L: Ledger>(
     moment: &PromptMoment<'_>,
     holding: &mut Holding,
@@ -134,7 +135,7 @@ fn take_prompt<L: Ledger>(
     requires moment { IsPromptMoment moment.now }
     requires tidy { IsTidyHolding moment.now.plan.now moment.now.focus moment.now.hooks.now holding.old moment.now.since }
     ensures tidy { OnOk result (IsTidyHolding moment.now.plan.now moment.now.focus moment.now.hooks.now holding.new moment.now.since) }
-    ensures taken { OnOk result (TakesPrompt moment.now.plan.now moment.now.focus moment.now.history.now (entry_of moment.now.entry.now.value) moment.now.since (members holding.old.slots.slots) (members holding.new.slots.slots)) }
+    ensures taken { OnOk result (TakesPromptSome moment.now.plan.now moment.now.focus moment.now.history.now (entry_of moment.now.entry.now.value) moment.now.since (map (λ r. entry_of r.value) moment.now.ahead.now) moment.now.beyond (members holding.old.slots.slots) (members holding.new.slots.slots)) }
     ensures cost { steps.new ≤ steps.old + 2 * length moment.now.plan.now.chronicle.events * length (members holding.old.slots.slots) }
 {
     let arrival = Arrival {
@@ -160,7 +161,8 @@ fn take_prompt<L: Ledger>(
         hooks: moment.hooks,
         focus: moment.focus,
     };
-    hold_all(holding, &chart, born, &[], 0, moment.since)?;
+    let since = moment.since;
+    hold_all(holding, &chart, born, moment.ahead, moment.beyond, since)?;
     Ok(())
 }
 
@@ -378,6 +380,29 @@ impl Store {
         ensures stands { OnOk result (IsOfferedPrompt self.old history.now (entry_of entry.now.value) self.new) }
         ensures cost { steps.new ≤ steps.old + 2 * length self.old.plan.chronicle.events * length self.old.held }
     {
+        self.offer_prompt_ahead(history, entry, &[], 0, steps)
+    }
+
+    /// Takes in an entry as `offer_prompt` does. Where it is told of those that come next, `ahead`, before
+    /// all that are dated at or after `beyond`, it may leave out what they can't complete. `beyond` is not
+    /// after the horizon of the next mark, nor after 2^42.
+    pub fn offer_prompt_ahead<L: Ledger>(
+        &mut self,
+        history: &History,
+        entry: &Rc<Entry>,
+        ahead: &[Rc<Entry>],
+        beyond: u64,
+        steps: &mut Steps<L>,
+    ) -> Result<(), StoreRefused>
+        requires prompt { self.old.plan.chronicle.prompt ≡ true }
+        requires date { entry.now.value.date < 2 ^ 40 }
+        requires near { beyond ≤ 2 ^ 42 }
+        ensures stopped { (result ≡ Err Stopped) ↔ IsTrue self.old.stopped }
+        ensures raised { IsTrue self.new.stopped ↔ (IsTrue self.old.stopped ⊎ (result ≡ Err Memory)) }
+        ensures same { IsSameStore self.old self.new }
+        ensures stands { OnOk result (IsOfferedPromptAhead self.old history.now (entry_of entry.now.value) (map (λ r. entry_of r.value) ahead.now) beyond self.new) }
+        ensures cost { steps.new ≤ steps.old + 2 * length self.old.plan.chronicle.events * length self.old.held }
+    {
         if self.stopped {
             return Err(StoreRefused::Stopped);
         }
@@ -392,6 +417,8 @@ impl Store {
             history,
             entry,
             since: self.date,
+            ahead,
+            beyond,
         };
         match take_prompt(
             &moment,
@@ -418,6 +445,7 @@ impl Store {
         ensures raised { IsTrue self.new.stopped ↔ (IsTrue self.old.stopped ⊎ (result ≡ Err Memory)) }
         ensures same { IsSameStore self.old self.new }
         ensures stands { OnOk result (IsSettledWith self.old history.now (entry_of entry.now.value) self.new) }
+        ensures coming { OnOk result (IsSettledComing self.old history.now (entry_of entry.now.value) self.new) }
     {
         if self.stopped {
             return Err(StoreRefused::Stopped);

@@ -5,3 +5,4 @@ pub(crate) mod dues;
 pub(crate) mod hooks;
 pub(crate) mod linking;
 pub(crate) mod links;
+pub(crate) mod refusing;

@@ -23,6 +23,7 @@ use crs_model::{Binding, Body, Pattern, Progress, Stretch, Term, Window, accepts
 pub(crate) fn one_more(count: u32) -> u32
     ensures more { count < 2 ^ 32 - 1 → result ≡ count + 1 }
     ensures most { result ≤ count + 1 }
+    ensures least { count ≤ result }
 {
     count.saturating_add(1)
 }

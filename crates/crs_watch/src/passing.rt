@@ -54,7 +54,8 @@ pub fn pass(
 ) -> Progress
     requires bound { BodyIsBound (look_of binding.now) (body_of window.now.body) }
     requires one { HoldsOne (body_of window.now.body) }
-    ensures { (since ≤ℤ stretch.from → history.now.floor ≤ℤ stretch.from) → (settled : Items (LogEntry Sym)) (m n : ℕ) → since ≡ pos m → h ≡ pos n → m ≤ n → StandsFor settled history.now → IsProgress settled (look_of binding.now) (body_of window.now.body) stretch.from stretch.to (pos m) p.count p.broken → IsProgress settled (look_of binding.now) (body_of window.now.body) stretch.from stretch.to (pos n) result.count result.broken }
+    ensures same { result.count ≡ p.count }
+    ensures progress { (since ≤ℤ stretch.from → history.now.floor ≤ℤ stretch.from) → (settled : Items (LogEntry Sym)) (m n : ℕ) → since ≡ pos m → h ≡ pos n → m ≤ n → StandsFor settled history.now → IsProgress settled (look_of binding.now) (body_of window.now.body) stretch.from stretch.to (pos m) p.count p.broken → IsProgress settled (look_of binding.now) (body_of window.now.body) stretch.from stretch.to (pos n) result.count result.broken }
 {
     match &window.body {
         Body::NoEvent(_) => p,

@@ -110,7 +110,8 @@ pub fn settle(
 ) -> Progress
     requires bound { BodyIsBound (look_of binding.now) (body_of window.now.body) }
     requires one { HoldsOne (body_of window.now.body) }
-    ensures { p.count < 2 ^ 32 - 1 → (settled : Items (LogEntry Sym)) (h : ℕ) → h ≤ entry.now.date → IsProgress settled (look_of binding.now) (body_of window.now.body) stretch.from stretch.to (pos h) p.count p.broken → IsProgress (settled ++ entry_of entry.now ∷ []) (look_of binding.now) (body_of window.now.body) stretch.from stretch.to (pos h) result.count result.broken }
+    ensures more { p.count ≤ result.count }
+    ensures progress { p.count < 2 ^ 32 - 1 → (settled : Items (LogEntry Sym)) (h : ℕ) → h ≤ entry.now.date → IsProgress settled (look_of binding.now) (body_of window.now.body) stretch.from stretch.to (pos h) p.count p.broken → IsProgress (settled ++ entry_of entry.now ∷ []) (look_of binding.now) (body_of window.now.body) stretch.from stretch.to (pos h) result.count result.broken }
 {
     let hit = hits(&window.body, binding, stretch, entry);
     let broken = breaks(&window.body, binding, stretch, entry);

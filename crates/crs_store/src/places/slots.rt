@@ -4,7 +4,7 @@ ghost use Rattle.std.specs.Option.{option_copied};
 ghost use Rattle.crs_base.specs.Seen.{entry_of};
 ghost use Rattle.crs_instance.specs.Instances.{IsOf};
 ghost use Rattle.crs_store.specs.Judgings.{IsPassing, IsAbleBy, IsPassedBy, IsFollowedBy};
-ghost use Rattle.crs_store.specs.Slots.{slot_at, handle_at, members, Becomes, WentOrStayed, Opens, Puts, Removes, Changes};
+ghost use Rattle.crs_store.specs.Slots.{slot_at, handle_at, members, Becomes, WentOrStayed, Opens, Puts, Removes, Renumbers, Changes};
 
 use crate::living::judging::Passing;
 use crate::living::windows::{follow, go_on_to, is_able};
@@ -241,6 +241,17 @@ impl Slots {
             self.count -= 1;
             raise(&mut self.serials, &mut self.spare, place);
         }
+    }
+
+    /// Gives what stands in the place another handle: what waits by the one it had is stale.
+    pub(crate) fn renew(&mut self, place: u32)
+        ensures { Renumbers self.old self.new place }
+    {
+        let at = place as usize;
+        if at >= self.serials.len() {
+            return;
+        }
+        self.serials[at] = self.serials[at].wrapping_add(1);
     }
 
     /// Takes the instance out of its place, which becomes free.

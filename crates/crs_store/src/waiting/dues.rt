@@ -2,7 +2,7 @@ ghost use Rattle.std.specs.Prelude.{◌≡◌, ◌≤◌, ◌<◌, ◌^◌, pos,
 ghost use Rattle.crs_model.specs.SeenModels.{body_of};
 ghost use Rattle.crs_instance.specs.Instances.{IsOf};
 ghost use Rattle.crs_store.specs.PlanLevels.{IsLastDate};
-ghost use Rattle.crs_store.specs.Dues.{IsStart, IsDueFor, IsFirstOf, StandsAtEach, AreDue, AreKept, AreCollected, HasPlaces};
+ghost use Rattle.crs_store.specs.Dues.{IsStart, IsNearing, IsDueFor, IsFirstOf, StandsAtEach, AreDue, AreKept, AreCollected, HasPlaces};
 
 use crate::chart::Chart;
 use crate::living::levels::{is_awaited, last_date};
@@ -71,6 +71,29 @@ fn put_start(
     }
 }
 
+/// Puts the handle in two dates before the stretch begins, so that what may touch the window is
+/// waited for from the date before on.
+fn put_near(
+    calendar: &mut Calendar,
+    stretch: Stretch,
+    handle: Handle,
+    since: u64,
+) -> Result<(), AllocError>
+    requires since { calendar.old.date ≤ since }
+    requires small { since ≤ 2 ^ 42 }
+    ensures put { OnOk result (StandsAtEach (IsNearing stretch.from stretch.to) handle since calendar.new.pairs) }
+    ensures kept { AreKept calendar.old.pairs calendar.new.pairs }
+    ensures stood { calendar.new.date ≡ calendar.old.date }
+{
+    if stretch.from <= since as i64 + 1 {
+        return Ok(());
+    }
+    if stretch.from > stretch.to {
+        return Ok(());
+    }
+    put_due(calendar, stretch.from - 2, handle, since)
+}
+
 /// Puts the handle in at the due dates of the window of this number, from `since` on.
 fn put_window_dues(
     calendar: &mut Calendar,
@@ -93,6 +116,7 @@ fn put_window_dues(
         return Ok(());
     };
     let window = &plan.chronicle.windows.as_slice()[k as usize];
+    put_near(calendar, stretch, handle, since)?;
     put_start(calendar, &window.body, stretch, handle, since)?;
     put_end(calendar, stretch, handle, since)
 }

@@ -1,12 +1,12 @@
 //! Under which keys instances wait for entries.
-ghost use Rattle.std.specs.Prelude.{◌≡◌, ◌<◌, ◌^◌, ◌↔◌, ◌==◌, Some, slice_get, map, IsTrue, IfOk, IfSome};
+ghost use Rattle.std.specs.Prelude.{◌≡◌, ◌<◌, ◌^◌, ◌↔◌, ◌==◌, None, true, cond, map, IsTrue, IfOk};
 ghost use Rattle.std.specs.List.{AllZip, list_any};
 ghost use Rattle.crs_model.specs.declared.plan.Plan.{Plan as Planned};
 ghost use Rattle.crs_model.specs.Bindings.{look_of};
 ghost use Rattle.crs_model.specs.Models.{Var};
 ghost use Rattle.crs_model.specs.Plans.{chronicle};
 ghost use Rattle.crs_model.specs.SeenModels.{term_of, body_of, event_of, window_of};
-ghost use Rattle.crs_store.specs.Hooks.{name_of, terms_of, IsHookOf, IsHookOfEvent, IsHookOfWindow, AreHooks, LooksFor, key_with, key_of, picked_argument};
+ghost use Rattle.crs_store.specs.Hooks.{name_of, terms_of, Picks, IsHookOf, IsHookOfEvent, IsHookOfWindow, AreHooks, LooksFor, key_with, key_of, picked_symbol, picked_argument, picked_symbols, picked_arguments, IsPart, IsAmong, part_of};
 
 use crs_base::{Entry, Sym};
 use crs_index::Key;
@@ -17,45 +17,133 @@ use std::alloc::{AllocError, Global};
 #[derive(Clone, Copy, Drop)]
 pub(crate) struct Pick {
     pub(crate) variable: u8,
-    pub(crate) argument: usize,
+    pub(crate) argument: u8,
 }
 
-/// What is looked for: entries of a name, of which one argument is a variable's symbol.
+/// What is looked for: entries of a name, of which up to three arguments are variables' symbols.
 #[derive(Clone, Copy, Drop)]
 pub(crate) struct Hook {
     pub(crate) name: Sym,
-    pub(crate) pick: Option<Pick>,
+    pub(crate) first: Option<Pick>,
+    pub(crate) second: Option<Pick>,
+    pub(crate) third: Option<Pick>,
 }
 
-/// The first variable among the terms.
-fn pick_of(terms: &[Term]) -> Option<Pick>
-    ensures { IfSome result (λ p. slice_get (map term_of terms.now) p.argument ≡ Some (Var p.variable)) }
+/// The symbols of the variables that a hook picks, as far as they are known.
+#[derive(Clone, Copy, Drop)]
+pub(crate) struct Symbols {
+    pub(crate) first: Option<Sym>,
+    pub(crate) second: Option<Sym>,
+    pub(crate) third: Option<Sym>,
+}
+
+/// The first variable among the terms that isn't passed over.
+fn pick_of(terms: &[Term], passed: &[u8]) -> Option<Pick>
+    ensures { Picks (map term_of terms.now) result }
 {
-    for argument in 0..terms.len() {
-        if let Term::Var(variable) = terms[argument] {
-            return Some(Pick { variable, argument });
+    for place in 0..terms.len() {
+        let Ok(argument) = u8::try_from(place) else {
+            return None;
+        };
+        if let Term::Var(variable) = terms[place] {
+            if !passed.contains(&variable) {
+                return Some(Pick { variable, argument });
+            }
         }
     }
     None
 }
 
-fn hook_of(body: &Body) -> Hook
-    ensures { IsHookOf (name_of (body_of body.now)) (terms_of (body_of body.now)) result }
-{
-    match body {
-        Body::NoEvent(pattern) => Hook {
-            name: pattern.name,
-            pick: pick_of(pattern.terms.as_slice()),
-        },
-        Body::Occurs { pattern, .. } => Hook {
-            name: pattern.name,
-            pick: pick_of(pattern.terms.as_slice()),
-        },
-        Body::Hold { name, terms, .. } => Hook {
-            name: *name,
-            pick: pick_of(terms.as_slice()),
-        },
+/// Passes over the picked variable from now on.
+fn pass_over(passed: &mut Vec<u8>, pick: Option<Pick>) -> Result<(), AllocError> {
+    if let Some(pick) = pick {
+        passed.push(pick.variable)?;
     }
+    Ok(())
+}
+
+/// A hook that picks the first three variables among the terms that aren't passed over: instances that
+/// join by two wait under both, so that an entry meets those alone that have both of its symbols. By the
+/// first variable alone, a log whose entries all share that took time by its square.
+fn hook_with(name: Sym, terms: &[Term], mut passed: Vec<u8>) -> Result<Hook, AllocError>
+    ensures { IfOk result (λ h. IsHookOf name (map term_of terms.now) h) }
+{
+    let first = pick_of(terms, passed.as_slice());
+    pass_over(&mut passed, first)?;
+    let second = pick_of(terms, passed.as_slice());
+    pass_over(&mut passed, second)?;
+    let third = pick_of(terms, passed.as_slice());
+    Ok(Hook {
+        name,
+        first,
+        second,
+        third,
+    })
+}
+
+fn hook_of(alloc: Global, body: &Body) -> Result<Hook, AllocError>
+    ensures { IfOk result (λ h. IsHookOf (name_of (body_of body.now)) (terms_of (body_of body.now)) h) }
+{
+    let none = Vec::new(alloc);
+    match body {
+        Body::NoEvent(pattern) => hook_with(pattern.name, pattern.terms.as_slice(), none),
+        Body::Occurs { pattern, .. } => hook_with(pattern.name, pattern.terms.as_slice(), none),
+        Body::Hold { name, terms, .. } => hook_with(*name, terms.as_slice(), none),
+    }
+}
+
+/// Whether the variable is among the terms.
+fn is_in(terms: &[Term], variable: u8) -> bool {
+    for term in terms {
+        if let Term::Var(other) = term {
+            if *other == variable {
+                return true;
+            }
+        }
+    }
+    false
+}
+
+/// Whether the pattern of another event than this one has the variable.
+fn is_elsewhere(events: &[EventDef], event: usize, variable: u8) -> bool {
+    for (other, def) in events.iter().enumerate() {
+        if other != event && is_in(def.pattern.terms.as_slice(), variable) {
+            return true;
+        }
+    }
+    false
+}
+
+/// The variables among the terms of the event's pattern that no other event has: an instance that waits
+/// for the event never knows them, so that an entry would look under keys that nobody waits under.
+fn lone_variables(
+    alloc: Global,
+    events: &[EventDef],
+    event: usize,
+    terms: &[Term],
+) -> Result<Vec<u8>, AllocError> {
+    let mut lone = Vec::new(alloc);
+    for term in terms {
+        if let Term::Var(variable) = term {
+            if !is_elsewhere(events, event, *variable) {
+                lone.push(*variable)?;
+            }
+        }
+    }
+    Ok(lone)
+}
+
+fn event_hook(
+    alloc: Global,
+    events: &[EventDef],
+    event: usize,
+    def: &EventDef,
+) -> Result<Hook, AllocError>
+    ensures { IfOk result (λ h. IsHookOfEvent (event_of def.now) h) }
+{
+    let terms = def.pattern.terms.as_slice();
+    let lone = lone_variables(alloc, events, event, terms)?;
+    hook_with(def.pattern.name, terms, lone)
 }
 
 fn event_hooks(alloc: Global, events: &[EventDef]) -> Result<Vec<Hook>, AllocError>
@@ -63,10 +151,8 @@ fn event_hooks(alloc: Global, events: &[EventDef]) -> Result<Vec<Hook>, AllocErr
 {
     let mut hooks = Vec::new(alloc);
     for event in events {
-        hooks.push(Hook {
-            name: event.pattern.name,
-            pick: pick_of(event.pattern.terms.as_slice()),
-        })?;
+        let hook = event_hook(alloc, events, hooks.len(), event)?;
+        hooks.push(hook)?;
     }
     Ok(hooks)
 }
@@ -76,7 +162,8 @@ fn window_hooks(alloc: Global, windows: &[Window]) -> Result<Vec<Hook>, AllocErr
 {
     let mut hooks = Vec::new(alloc);
     for window in windows {
-        hooks.push(hook_of(&window.body))?;
+        let hook = hook_of(alloc, &window.body)?;
+        hooks.push(hook)?;
     }
     Ok(hooks)
 }
@@ -112,47 +199,165 @@ impl Hooks {
     }
 }
 
-/// The key of a class, for those that have the symbol or lack it.
-pub(crate) fn key_of_symbol(class: u32, symbol: Option<Sym>) -> Key
-    requires { class < 2 ^ 16 }
-    ensures { result ≡ key_with class symbol }
+fn key(class: u32, first: u32, second: u32, third: u32) -> Key
+    ensures { result ≡ record { class = class; first = first; second = second; third = third } }
 {
-    match symbol {
-        None => Key {
-            class: 2 * class,
-            first: 0,
-            second: 0,
-            third: 0,
-        },
-        Some(symbol) => Key {
-            class: 2 * class + 1,
-            first: symbol.0,
-            second: 0,
-            third: 0,
-        },
+    Key {
+        class,
+        first,
+        second,
+        third,
     }
 }
 
-/// Under which key those with the binding wait.
-pub(crate) fn key_of_binding(class: u32, hook: Hook, binding: &Binding) -> Key
+/// The key of a class, for those that know these symbols and no others. A lone symbol comes first,
+/// whichever it is: such keys are found fastest.
+#[tactic(auto, unfolding(crate::specs::Hooks::key_with))]
+pub(crate) fn key_of_symbols(class: u32, symbols: Symbols) -> Key
     requires { class < 2 ^ 16 }
-    ensures { result ≡ key_of class hook (look_of binding.now) }
+    ensures { result ≡ key_with class symbols }
 {
-    let symbol = match hook.pick {
-        None => None,
-        Some(pick) => binding.get(pick.variable),
-    };
-    key_of_symbol(class, symbol)
+    match (symbols.first, symbols.second, symbols.third) {
+        (None, None, None) => key(class, 0, 0, 0),
+        (Some(a), None, None) => key(class + 32, a.0, 0, 0),
+        (None, Some(b), None) => key(class + 64, b.0, 0, 0),
+        (Some(a), Some(b), None) => key(class + 96, a.0, b.0, 0),
+        (None, None, Some(c)) => key(class + 128, c.0, 0, 0),
+        (Some(a), None, Some(c)) => key(class + 160, a.0, c.0, 0),
+        (None, Some(b), Some(c)) => key(class + 192, b.0, c.0, 0),
+        (Some(a), Some(b), Some(c)) => key(class + 224, a.0, b.0, c.0),
+    }
 }
 
-/// Under which key those wait that have the entry's symbol.
-pub(crate) fn key_of_entry(class: u32, hook: Hook, entry: &Entry) -> Key
+/// The key of a class, for those that know the first symbol at most.
+#[tactic(auto, unfolding(crate::specs::Hooks::key_with))]
+#[inline(always)]
+pub(crate) fn key_of_first(class: u32, first: Option<Sym>) -> Key
     requires { class < 2 ^ 16 }
-    ensures { result ≡ key_with class (picked_argument hook.pick entry.now.args) }
+    ensures { result ≡ key_with class (record { first = first; second = None; third = None }) }
 {
-    let symbol = match hook.pick {
+    match first {
+        None => key(class, 0, 0, 0),
+        Some(a) => key(class + 32, a.0, 0, 0),
+    }
+}
+
+/// Whether the hook picks one variable at most.
+#[inline(always)]
+pub(crate) fn is_lone(hook: &Hook) -> bool
+    ensures second { result ≡ true → hook.now.second ≡ None }
+    ensures third { result ≡ true → hook.now.third ≡ None }
+{
+    hook.second.is_none() && hook.third.is_none()
+}
+
+/// The symbol that the binding gives the picked variable.
+#[inline(always)]
+fn symbol_in(pick: Option<Pick>, binding: &Binding) -> Option<Sym>
+    ensures { result ≡ picked_symbol pick (look_of binding.now) }
+{
+    match pick {
         None => None,
-        Some(pick) => entry.args.as_slice().get(pick.argument).copied(),
-    };
-    key_of_symbol(class, symbol)
+        Some(pick) => binding.get(pick.variable),
+    }
+}
+
+/// The entry's argument at the picked place.
+#[inline(always)]
+pub(crate) fn argument_in(pick: Option<Pick>, entry: &Entry) -> Option<Sym>
+    ensures { result ≡ picked_argument pick entry.now.args }
+{
+    match pick {
+        None => None,
+        Some(pick) => entry.args.as_slice().get(pick.argument as usize).copied(),
+    }
+}
+
+/// The symbols that the binding gives the hook's variables.
+fn symbols_of_binding(hook: &Hook, binding: &Binding) -> Symbols
+    ensures { result ≡ picked_symbols hook.now (look_of binding.now) }
+{
+    let first = symbol_in(hook.first, binding);
+    let second = symbol_in(hook.second, binding);
+    let third = symbol_in(hook.third, binding);
+    Symbols {
+        first,
+        second,
+        third,
+    }
+}
+
+/// Under which key those with the binding wait. Where the hook picks one variable, the two others aren't
+/// looked at: with that, loads that join by one variable take 2 % more than by keys of one symbol.
+#[inline(always)]
+pub(crate) fn key_of_binding(class: u32, hook: &Hook, binding: &Binding) -> Key
+    requires { class < 2 ^ 16 }
+    ensures { result ≡ key_of class hook.now (look_of binding.now) }
+{
+    if is_lone(hook) {
+        return key_of_first(class, symbol_in(hook.first, binding));
+    }
+    key_of_symbols(class, symbols_of_binding(hook, binding))
+}
+
+/// The symbols that the picked variables have in the entry.
+pub(crate) fn symbols_of_entry(hook: &Hook, entry: &Entry) -> Symbols
+    ensures { result ≡ picked_arguments hook.now entry.now.args }
+{
+    let first = argument_in(hook.first, entry);
+    let second = argument_in(hook.second, entry);
+    let third = argument_in(hook.third, entry);
+    Symbols {
+        first,
+        second,
+        third,
+    }
+}
+
+/// Under which key those wait that know all of the entry's symbols.
+#[inline(always)]
+pub(crate) fn key_of_entry(class: u32, hook: &Hook, entry: &Entry) -> Key
+    requires { class < 2 ^ 16 }
+    ensures { result ≡ key_with class (picked_arguments hook.now entry.now.args) }
+{
+    if is_lone(hook) {
+        return key_of_first(class, argument_in(hook.first, entry));
+    }
+    key_of_symbols(class, symbols_of_entry(hook, entry))
+}
+
+/// How many parts the symbols have: each of them may be known to an instance or not.
+pub(crate) fn parts(symbols: Symbols) -> u8
+    ensures { (part : Symbols) → IsPart part symbols → IsAmong symbols part result }
+{
+    if symbols.third.is_some() {
+        8
+    } else if symbols.second.is_some() {
+        4
+    } else if symbols.first.is_some() {
+        2
+    } else {
+        1
+    }
+}
+
+/// The symbol, where it is in the part.
+fn symbol_if(symbol: Option<Sym>, inside: bool) -> Option<Sym>
+    ensures { result ≡ cond inside symbol None }
+{
+    if inside { symbol } else { None }
+}
+
+/// The part of this number: its binary digits tell which of the symbols are known.
+pub(crate) fn part(symbols: Symbols, number: u8) -> Symbols
+    ensures { result ≡ part_of symbols number }
+{
+    let first = symbol_if(symbols.first, number % 2 == 1);
+    let second = symbol_if(symbols.second, number / 2 % 2 == 1);
+    let third = symbol_if(symbols.third, number / 4 % 2 == 1);
+    Symbols {
+        first,
+        second,
+        third,
+    }
 }

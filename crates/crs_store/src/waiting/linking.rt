@@ -1,19 +1,19 @@
 //! Instances wait for what may come to them.
 ghost use Rattle.std.specs.Prelude.{◌≡◌, ◌<◌, ◌≤◌, ◌↔◌, ◌≤ℤ◌, IsTrue, Some, length, OnOk, pos};
 ghost use Rattle.crs_instance.specs.Instances.{IsOf};
+ghost use Rattle.crs_model.specs.HasProgress.{IsEnough};
+ghost use Rattle.crs_model.specs.SeenModels.{body_of};
 ghost use Rattle.crs_store.specs.Hooks.{Waits};
-ghost use Rattle.crs_store.specs.Links.{hook_at, Grows, IsLinkedAnew, IsArmed};
-ghost use Rattle.crs_store.specs.Linkings.{StartsBetween, IsLinkedAt, IsArmedAt, AreLinkedAnew};
-ghost use Rattle.crs_store.specs.Slots.{slot_at, handle_at};
+ghost use Rattle.crs_store.specs.Links.{hook_at, linked_by, Grows, IsLinkedAnew, IsNear, IsArmedAnew};
+ghost use Rattle.crs_store.specs.Linkings.{StartsBetween, NearsBetween, IsLinkedAt, IsArmedAt};
 
 use crate::chart::Chart;
 use crate::living::levels::is_awaited;
-use crate::places::slots::Slots;
 use crate::waiting::hooks::key_of_binding;
 use crs_agenda::Handle;
 use crs_index::{Index, Key};
 use crs_instance::Instance;
-use crs_model::DateWindow;
+use crs_model::{Body, DateWindow};
 use std::alloc::AllocError;
 
 /// Has the handle wait under the key.
@@ -93,90 +93,123 @@ pub(crate) fn link_events(
     Ok(())
 }
 
-/// Has the handle wait for what may touch the window, where it has begun and doesn't end by `h`.
+/// Whether the date is at most one after h.
+fn is_near(date: i64, h: u64) -> bool
+    ensures { IsTrue result ↔ IsNear date h }
+{
+    date <= 0 || (date - 1) as u64 <= h
+}
+
+/// Whether the date is at most one after `h` and, where there is an earlier date, more than one
+/// after that.
+fn nears_between(date: i64, since: Option<u64>, h: u64) -> bool
+    ensures { IsTrue result ↔ NearsBetween date since h }
+{
+    if !is_near(date, h) {
+        return false;
+    }
+    match since {
+        None => true,
+        Some(earlier) => !is_near(date, earlier),
+    }
+}
+
+/// Whether the count is enough, whatever comes: no entry changes what it tells.
+#[inline(always)]
+fn is_enough(body: &Body, count: u32) -> bool
+    ensures { IsTrue result ↔ IsEnough (body_of body.now) count }
+{
+    match body {
+        Body::NoEvent(_) => false,
+        Body::Occurs { least, most, .. } => most.is_none() && *least <= count,
+        Body::Hold { .. } => false,
+    }
+}
+
+/// Has the handle wait for what may touch the window, where its count isn't enough, it doesn't end by
+/// `h` and begins by the date after that and, where there is a date `since`, didn't by the one after it. No entry touches
+/// it before it begins. A date ahead, since many begin at the date after their anchor's: they are
+/// armed at once, and not judged anew for it.
 fn arm_window(
     waiting: &mut Index,
     chart: &Chart<'_>,
     instance: &Instance,
     k: u8,
     handle: Handle,
+    since: Option<u64>,
     h: u64,
 ) -> Result<(), AllocError>
     requires window { k < length chart.now.plan.chronicle.windows }
     ensures grown { Grows waiting.old waiting.new }
-    ensures armed { OnOk result (IsArmedAt chart.now.plan (hook_at chart.now.hooks.windows.items k) waiting.new handle h instance.now k) }
+    ensures armed { OnOk result (IsArmedAt chart.now.plan (hook_at chart.now.hooks.windows.items k) waiting.new handle since h instance.now k) }
 {
-    let Some(stretch) = instance.stretch(chart.plan(), k) else {
+    let plan = chart.plan();
+    let Some(stretch) = instance.stretch(plan, k) else {
         return Ok(());
     };
     if is_by(stretch.to, h) {
+        return Ok(());
+    }
+    if !nears_between(stretch.from, since, h) {
+        return Ok(());
+    }
+    let window = &plan.chronicle.windows.as_slice()[k as usize];
+    if is_enough(&window.body, instance.progress(k).count) {
         return Ok(());
     }
     let key = key_of_binding(16 + k as u32, chart.window_hook(k), instance.binding());
     wait(waiting, key, handle)
 }
 
-/// Has the handle wait for what may touch a window that has begun and doesn't end by `h`. After a
-/// refusal it may wait for some of it.
+/// Has the handle wait for what may touch a window that doesn't end by `h` and begins by the date
+/// after that and, where there is a date `since`, didn't by the one after it. After a refusal it may
+/// wait for some of it.
 pub(crate) fn arm_windows(
     waiting: &mut Index,
     chart: &Chart<'_>,
     instance: &Instance,
     handle: Handle,
+    since: Option<u64>,
     h: u64,
 ) -> Result<(), AllocError>
     ensures grown { Grows waiting.old waiting.new }
-    ensures armed { OnOk result (IsArmed chart.now.plan chart.now.hooks.windows.items waiting.new handle h instance.now) }
+    ensures armed { OnOk result (IsArmedAnew chart.now.plan chart.now.hooks.windows.items waiting.new handle since h instance.now) }
 {
     for k in 0..chart.windows() {
-        arm_window(waiting, chart, instance, k, handle, h)?;
+        arm_window(waiting, chart, instance, k, handle, since, h)?;
     }
     Ok(())
 }
 
-/// Has the handle of the place wait for each awaited event that can come by `h` and couldn't by
-/// `since`, where an instance stands there.
-fn link_place(
+/// Has the handle wait for each awaited event that can come by then and couldn't by `since`, and for
+/// what may touch a window that begins by the date after `h` and didn't by the one after `since`.
+/// After a refusal it may wait for some of it.
+pub(crate) fn find_anew(
     waiting: &mut Index,
     chart: &Chart<'_>,
-    slots: &Slots,
-    place: u32,
+    instance: &Instance,
+    handle: Handle,
     since: u64,
     h: u64,
 ) -> Result<(), AllocError>
-    requires of { (i : _) → slot_at slots.now place ≡ Some i → IsOf chart.now.plan i }
+    requires of { IsOf chart.now.plan instance.now }
     ensures grown { Grows waiting.old waiting.new }
-    ensures linked { OnOk result ((i : _) → slot_at slots.now place ≡ Some i → IsLinkedAnew chart.now.plan chart.now.focus chart.now.hooks.events.items waiting.new (handle_at slots.now place) (Some since) h i) }
+    ensures linked { OnOk result (IsLinkedAnew chart.now.plan chart.now.focus chart.now.hooks.events.items waiting.new handle (Some (linked_by chart.now.plan since)) (linked_by chart.now.plan h) instance.now) }
+    ensures armed { OnOk result (IsArmedAnew chart.now.plan chart.now.hooks.windows.items waiting.new handle (Some since) h instance.now) }
 {
-    match slots.get(place) {
-        None => Ok(()),
-        Some(instance) => link_events(
-            waiting,
-            chart,
-            instance,
-            slots.handle(place),
-            Some(since),
-            h,
-        ),
+    // Nothing is new at the date itself: a third of what is touched in a log of 1.5 lines a date.
+    if since == h {
+        return Ok(());
     }
-}
-
-/// Has the handles of the places wait for each awaited event of their instances that can come by
-/// `h` and couldn't by `since`. After a refusal they may wait for some of them.
-pub(crate) fn link_places(
-    waiting: &mut Index,
-    chart: &Chart<'_>,
-    slots: &Slots,
-    places: &[u32],
-    since: u64,
-    h: u64,
-) -> Result<(), AllocError>
-    requires of { (p : _) (i : _) → slot_at slots.now p ≡ Some i → IsOf chart.now.plan i }
-    ensures grown { Grows waiting.old waiting.new }
-    ensures linked { OnOk result (AreLinkedAnew chart.now.plan chart.now.focus chart.now.hooks.events.items slots.now waiting.new since h places.now) }
-{
-    for place in places {
-        link_place(waiting, chart, slots, *place, since, h)?;
-    }
+    let linked = chart.linked_by(since);
+    link_events(
+        waiting,
+        chart,
+        instance,
+        handle,
+        Some(linked),
+        chart.linked_by(h),
+    )?;
+    arm_windows(waiting, chart, instance, handle, Some(since), h)?;
     Ok(())
 }

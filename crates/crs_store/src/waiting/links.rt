@@ -1,15 +1,17 @@
 //! For what instances wait, and who waits for an entry.
-ghost use Rattle.std.specs.Prelude.{◌≡◌, ◌<◌, ◌≤◌, ◌^◌, true, length, OnOk};
+ghost use Rattle.std.specs.Prelude.{◌≡◌, ◌<◌, ◌^◌, true, length, OnOk};
 ghost use Rattle.crs_agenda.specs.Freshness.{is_fresh};
 ghost use Rattle.crs_base.specs.Seen.{entry_of};
 ghost use Rattle.crs_base.specs.Words.{IsIn};
 ghost use Rattle.crs_store.specs.Hooks.{Waits, KeepsFresh};
-ghost use Rattle.crs_store.specs.Links.{HasWaiting, HasTouched};
+ghost use Rattle.crs_store.specs.Links.{HasWaiting, HasTouchedAt, HasTouched};
 ghost use Rattle.crs_store.specs.Slots.{handle_at};
 
+use crate::chart::Chart;
 use crate::places::note;
 use crate::places::slots::Slots;
-use crate::waiting::hooks::{Hook, key_of_entry, key_of_symbol};
+use crate::waiting::hooks::{Hook, key_of_entry};
+use crate::waiting::refusing::refuses;
 use crs_base::Entry;
 use crs_index::{Index, Key};
 use std::alloc::AllocError;
@@ -35,43 +37,67 @@ pub(crate) fn note_bucket(
     Ok(())
 }
 
-/// Notes the places of those of the class that wait for such an entry, where it has the hook's name.
+/// Notes the places of those of the class that wait for such an entry, where it has the hook's name. A
+/// window's variables are all known once it has begun: one key is enough.
 fn note_class(
     waiting: &mut Index,
     slots: &Slots,
     class: u32,
-    hook: Hook,
+    hook: &Hook,
     entry: &Entry,
     places: &mut Vec<u32>,
 ) -> Result<(), AllocError>
     requires { class < 2 ^ 16 }
     ensures fresh { KeepsFresh slots.now.serials waiting.old waiting.new }
     ensures kept { (p : _) → IsIn p places.old.items → IsIn p places.new.items }
-    ensures noted { OnOk result (HasWaiting slots.now waiting.old class hook (entry_of entry.now) places.new.items) }
+    ensures noted { OnOk result (HasWaiting slots.now waiting.old class hook.now (entry_of entry.now) places.new.items) }
 {
     if hook.name != entry.name {
         return Ok(());
     }
-    note_bucket(waiting, slots, key_of_symbol(class, None), places)?;
-    note_bucket(waiting, slots, key_of_entry(class, hook, entry), places)?;
-    Ok(())
+    note_bucket(waiting, slots, key_of_entry(class, hook, entry), places)
 }
 
-/// Notes the places of those of which the entry may touch a window.
-pub(crate) fn note_touched(
+/// Notes the places of those of which the entry may touch the window of this number.
+fn note_window(
     waiting: &mut Index,
     slots: &Slots,
-    hooks: &[Hook],
+    chart: &Chart<'_>,
+    k: u8,
     entry: &Entry,
     places: &mut Vec<u32>,
 ) -> Result<(), AllocError>
-    requires { length hooks.now ≤ 16 }
+    requires { k < length chart.now.plan.chronicle.windows }
     ensures fresh { KeepsFresh slots.now.serials waiting.old waiting.new }
     ensures kept { (p : _) → IsIn p places.old.items → IsIn p places.new.items }
-    ensures noted { OnOk result (HasTouched hooks.now slots.now waiting.old (entry_of entry.now) (length hooks.now) places.new.items) }
+    ensures noted { OnOk result (HasTouchedAt chart.now.plan chart.now.hooks.windows.items slots.now waiting.old (entry_of entry.now) k places.new.items) }
 {
-    for k in 0..hooks.len() {
-        note_class(waiting, slots, 16 + k as u32, hooks[k], entry, places)?;
+    let hook = chart.window_hook(k);
+    if hook.name != entry.name {
+        return Ok(());
+    }
+    let window = &chart.plan().chronicle.windows.as_slice()[k as usize];
+    if refuses(&window.body, entry) {
+        return Ok(());
+    }
+    note_class(waiting, slots, 16 + k as u32, hook, entry, places)
+}
+
+/// Notes the places of those of which the entry may touch a window.
+#[inline(always)]
+pub(crate) fn note_touched(
+    waiting: &mut Index,
+    slots: &Slots,
+    chart: &Chart<'_>,
+    entry: &Entry,
+    places: &mut Vec<u32>,
+) -> Result<(), AllocError>
+    ensures fresh { KeepsFresh slots.now.serials waiting.old waiting.new }
+    ensures kept { (p : _) → IsIn p places.old.items → IsIn p places.new.items }
+    ensures noted { OnOk result (HasTouched chart.now.plan chart.now.hooks.windows.items slots.now waiting.old (entry_of entry.now) (length chart.now.plan.chronicle.windows) places.new.items) }
+{
+    for k in 0..chart.windows() {
+        note_window(waiting, slots, chart, k, entry, places)?;
     }
     Ok(())
 }

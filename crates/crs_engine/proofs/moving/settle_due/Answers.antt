@@ -1,11 +1,7 @@
-use Rattle.std.proofs.Common.{rules, ◌≡◌, ◌∷◌, ◌++◌, ℕ, List, take, drop, map, sym, ap, ◌∙◌}
-use Rattle.std.proofs.lemmas.List.{map-append, take-append-drop}
+use Rattle.std.proofs.Common.{rules, ◌≡◌, ◌∷◌, ◌++◌, map, ap, ◌∙◌}
 use Rattle.crs_base.specs.Seen.{entry_of}
-use Rattle.crs_engine.proofs.Settling.{settled_none, settled_on, same_on, comes_last, order_after, before_after, date_joined, parted_behind, put_more, judged_later}
+use Rattle.crs_engine.proofs.Settling.{settled_none, settled_on, same_on, comes_last, order_after, before_after, date_joined, parted_behind, put_more, judged_later, map_parted}
 use Rattle.crs_engine.proofs.moving.settle_due.Goals as goal
-
-map_parted : {A B : Type 0} (f : A → B) (xs front back : List A) (n : ℕ) → front ≡ take n xs → back ≡ drop n xs → map f xs ≡ map f front ++ map f back
-map_parted f xs front back n e k = ap (map f) (sym (take-append-drop n xs) ∙ ap (λ (t : List _). take n xs ++ t) (sym k) ∙ ap (λ (t : List _). t ++ back) (sym e)) ∙ map-append f front back
 
 pub loop-entry-init : goal.loop-entry-init
 loop-entry-init g c = settled_none c.args.stores.now c.args.history.now (map (λ r. entry_of r.value) c.args.due.now) c.args.buffer.now c.args.h c.requires.small c.requires.before c.requires.order c.requires.due

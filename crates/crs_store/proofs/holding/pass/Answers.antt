@@ -28,14 +28,14 @@ pub returns-clause-tidy : goal.returns-clause-tidy
 returns-clause-tidy c =
     let tidy = c.sweep.ensures.tidy c.args.chart.now.plan c.args.chart.now.focus c.args.chart.now.hooks c.args.since c.requires.tidy in
     all_tidy c.args.chart.now.plan c.args.chart.now.focus c.plan-plan.ensures.is.proper c.args.chart.now.hooks c.args.since c.args.h c.requires.later c.requires.small c.sweep.new.holding c.sweep.ensures.len tidy c.collect_due.new.calendar c.sweep.new.holding.waiting (λ k g f w. w) c.collect_due.new.places.items c.as_slice-places.result.now
-    ((c.in_ok-collect_due.ensures {u = tt}).collected) (λ p i. subst (λ (ps : List ℕ). IsIn p ps) (sym c.as_slice-places.ensures.value) (c.sort_places.ensures.kept p i)) ((c.in_ok-collect_due.ensures {u = tt}).later) c.collect_due.ensures.within c.pass_places.new.slots c.settle_places.new.holding (c.in_ok-settle_places.ensures {u = tt}) (IsPassed c.args.chart.now.plan c.args.history.now c.args.since c.args.h) (λ i j r. r.same) (subst (λ (p : Plan). Walks (IsPassed p c.args.history.now c.args.since c.args.h) (IsAble p c.args.chart.now.focus c.args.h) c.as_slice-places.result.now c.sweep.new.holding.slots c.pass_places.new.slots) c.plan-plan.ensures.same (subst (λ (f : Bool). Walks (IsPassed c.plan-plan.result.now c.args.history.now c.args.since c.args.h) (IsAble c.plan-plan.result.now f c.args.h) c.as_slice-places.result.now c.sweep.new.holding.slots c.pass_places.new.slots) c.focus.ensures c.pass_places.ensures))
+    ((c.in_ok-collect_due.ensures {u = tt}).collected) (λ p i. subst (λ (ps : List ℕ). IsIn p ps) (sym c.as_slice-places.ensures.value) (c.sort_places.ensures.kept p i)) ((c.in_ok-collect_due.ensures {u = tt}).later) c.collect_due.ensures.within c.pass_places.new.slots c.settle_places.new.holding (c.in_ok-settle_places.ensures {u = tt}) (IsPassed c.args.chart.now.plan c.args.history.now c.args.since c.args.h) (λ i j r. (r.same, r.gains)) (subst (λ (p : Plan). Walks (IsPassed p c.args.history.now c.args.since c.args.h) (IsAble p c.args.chart.now.focus c.args.h) c.as_slice-places.result.now c.sweep.new.holding.slots c.pass_places.new.slots) c.plan-plan.ensures.same (subst (λ (f : Bool). Walks (IsPassed c.plan-plan.result.now c.args.history.now c.args.since c.args.h) (IsAble c.plan-plan.result.now f c.args.h) c.as_slice-places.result.now c.sweep.new.holding.slots c.pass_places.new.slots) c.focus.ensures c.pass_places.ensures))
 
 pub returns-clause-renews : goal.returns-clause-renews
 returns-clause-renews c =
     let tidy = c.sweep.ensures.tidy c.args.chart.now.plan c.args.chart.now.focus c.args.chart.now.hooks c.args.since c.requires.tidy in
     subst (λ (s : SlotsState). Renews (IsPassed c.args.chart.now.plan c.args.history.now c.args.since c.args.h) (IsAble c.args.chart.now.plan c.args.chart.now.focus c.args.h) (members s.slots) (members c.settle_places.new.holding.slots.slots)) c.sweep.ensures.slots
     (all_renew c.args.chart.now.plan c.args.chart.now.focus c.plan-plan.ensures.is.proper c.args.chart.now.hooks c.args.since c.args.h c.requires.later c.requires.small c.sweep.new.holding c.sweep.ensures.len tidy c.collect_due.new.calendar c.sweep.new.holding.waiting (λ k g f w. w) c.collect_due.new.places.items c.as_slice-places.result.now
-    ((c.in_ok-collect_due.ensures {u = tt}).collected) (λ p i. subst (λ (ps : List ℕ). IsIn p ps) (sym c.as_slice-places.ensures.value) (c.sort_places.ensures.kept p i)) ((c.in_ok-collect_due.ensures {u = tt}).later) c.collect_due.ensures.within c.pass_places.new.slots c.settle_places.new.holding (c.in_ok-settle_places.ensures {u = tt}) (IsPassed c.args.chart.now.plan c.args.history.now c.args.since c.args.h) (λ i j r. r.same) (subst (λ (p : Plan). Walks (IsPassed p c.args.history.now c.args.since c.args.h) (IsAble p c.args.chart.now.focus c.args.h) c.as_slice-places.result.now c.sweep.new.holding.slots c.pass_places.new.slots) c.plan-plan.ensures.same (subst (λ (f : Bool). Walks (IsPassed c.plan-plan.result.now c.args.history.now c.args.since c.args.h) (IsAble c.plan-plan.result.now f c.args.h) c.as_slice-places.result.now c.sweep.new.holding.slots c.pass_places.new.slots) c.focus.ensures c.pass_places.ensures))
+    ((c.in_ok-collect_due.ensures {u = tt}).collected) (λ p i. subst (λ (ps : List ℕ). IsIn p ps) (sym c.as_slice-places.ensures.value) (c.sort_places.ensures.kept p i)) ((c.in_ok-collect_due.ensures {u = tt}).later) c.collect_due.ensures.within c.pass_places.new.slots c.settle_places.new.holding (c.in_ok-settle_places.ensures {u = tt}) (IsPassed c.args.chart.now.plan c.args.history.now c.args.since c.args.h) (λ i j r. (r.same, r.gains)) (subst (λ (p : Plan). Walks (IsPassed p c.args.history.now c.args.since c.args.h) (IsAble p c.args.chart.now.focus c.args.h) c.as_slice-places.result.now c.sweep.new.holding.slots c.pass_places.new.slots) c.plan-plan.ensures.same (subst (λ (f : Bool). Walks (IsPassed c.plan-plan.result.now c.args.history.now c.args.since c.args.h) (IsAble c.plan-plan.result.now f c.args.h) c.as_slice-places.result.now c.sweep.new.holding.slots c.pass_places.new.slots) c.focus.ensures c.pass_places.ensures))
     (λ p i apart is. stays_passed c.args.chart.now.plan c.args.chart.now.focus c.args.history.now c.args.since c.args.h c.requires.later i (undue_there c.args.chart.now.plan c.args.chart.now.focus c.plan-plan.ensures.is.proper c.args.chart.now.hooks c.args.since c.args.h c.requires.later c.requires.small c.sweep.new.holding c.sweep.ensures.len tidy c.collect_due.new.calendar c.sweep.new.holding.waiting (λ k g f w. w) c.collect_due.new.places.items c.as_slice-places.result.now ((c.in_ok-collect_due.ensures {u = tt}).collected) (λ p i. subst (λ (ps : List ℕ). IsIn p ps) (sym c.as_slice-places.ensures.value) (c.sort_places.ensures.kept p i)) ((c.in_ok-collect_due.ensures {u = tt}).later) c.collect_due.ensures.within c.pass_places.new.slots c.settle_places.new.holding (c.in_ok-settle_places.ensures {u = tt}) p i apart is)))
 
 pub returns-then-is_empty-clause-tidy : goal.returns-then-is_empty-clause-tidy
@@ -45,7 +45,7 @@ returns-then-is_empty-clause-tidy c =
     let none : c.collect_due.new.places.items ≡ [] = nil_from_length c.collect_due.new.places.items (long ∙ eqb-true (vec_len c.collect_due.new.places) 0 (sym c.is_empty.ensures ∙ c.if-is_empty.true)) in
     let held : Holding = record { slots = c.sweep.new.holding.slots; waiting = c.sweep.new.holding.waiting; dues = c.collect_due.new.calendar; ripe = c.sweep.new.holding.ripe; room = c.sweep.new.holding.room } in
     all_tidy c.args.chart.now.plan c.args.chart.now.focus c.plan-plan.ensures.is.proper c.args.chart.now.hooks c.args.since c.args.h c.requires.later c.requires.small c.sweep.new.holding c.sweep.ensures.len tidy c.collect_due.new.calendar c.sweep.new.holding.waiting (λ k g f w. w) c.collect_due.new.places.items []
-    ((c.in_ok-collect_due.ensures {u = tt}).collected) (λ p i. subst (λ (ps : List ℕ). IsIn p ps) none i) ((c.in_ok-collect_due.ensures {u = tt}).later) c.collect_due.ensures.within c.sweep.new.holding.slots held (settles_none c.args.chart.now.plan c.args.chart.now.focus c.args.chart.now.hooks c.args.since c.args.h held) (IsPassed c.args.chart.now.plan c.args.history.now c.args.since c.args.h) (λ i j r. r.same) (walks_none (IsPassed c.args.chart.now.plan c.args.history.now c.args.since c.args.h) (IsAble c.args.chart.now.plan c.args.chart.now.focus c.args.h) c.sweep.new.holding.slots)
+    ((c.in_ok-collect_due.ensures {u = tt}).collected) (λ p i. subst (λ (ps : List ℕ). IsIn p ps) none i) ((c.in_ok-collect_due.ensures {u = tt}).later) c.collect_due.ensures.within c.sweep.new.holding.slots held (settles_none c.args.chart.now.plan c.args.chart.now.focus c.args.chart.now.hooks c.args.since c.args.h held) (IsPassed c.args.chart.now.plan c.args.history.now c.args.since c.args.h) (λ i j r. (r.same, r.gains)) (walks_none (IsPassed c.args.chart.now.plan c.args.history.now c.args.since c.args.h) (IsAble c.args.chart.now.plan c.args.chart.now.focus c.args.h) c.sweep.new.holding.slots)
 
 pub returns-then-is_empty-clause-renews : goal.returns-then-is_empty-clause-renews
 returns-then-is_empty-clause-renews c =
@@ -55,6 +55,6 @@ returns-then-is_empty-clause-renews c =
     let held : Holding = record { slots = c.sweep.new.holding.slots; waiting = c.sweep.new.holding.waiting; dues = c.collect_due.new.calendar; ripe = c.sweep.new.holding.ripe; room = c.sweep.new.holding.room } in
     subst (λ (s : SlotsState). Renews (IsPassed c.args.chart.now.plan c.args.history.now c.args.since c.args.h) (IsAble c.args.chart.now.plan c.args.chart.now.focus c.args.h) (members s.slots) (members c.sweep.new.holding.slots.slots)) c.sweep.ensures.slots
     (all_renew c.args.chart.now.plan c.args.chart.now.focus c.plan-plan.ensures.is.proper c.args.chart.now.hooks c.args.since c.args.h c.requires.later c.requires.small c.sweep.new.holding c.sweep.ensures.len tidy c.collect_due.new.calendar c.sweep.new.holding.waiting (λ k g f w. w) c.collect_due.new.places.items []
-    ((c.in_ok-collect_due.ensures {u = tt}).collected) (λ p i. subst (λ (ps : List ℕ). IsIn p ps) none i) ((c.in_ok-collect_due.ensures {u = tt}).later) c.collect_due.ensures.within c.sweep.new.holding.slots held (settles_none c.args.chart.now.plan c.args.chart.now.focus c.args.chart.now.hooks c.args.since c.args.h held) (IsPassed c.args.chart.now.plan c.args.history.now c.args.since c.args.h) (λ i j r. r.same) (walks_none (IsPassed c.args.chart.now.plan c.args.history.now c.args.since c.args.h) (IsAble c.args.chart.now.plan c.args.chart.now.focus c.args.h) c.sweep.new.holding.slots)
+    ((c.in_ok-collect_due.ensures {u = tt}).collected) (λ p i. subst (λ (ps : List ℕ). IsIn p ps) none i) ((c.in_ok-collect_due.ensures {u = tt}).later) c.collect_due.ensures.within c.sweep.new.holding.slots held (settles_none c.args.chart.now.plan c.args.chart.now.focus c.args.chart.now.hooks c.args.since c.args.h held) (IsPassed c.args.chart.now.plan c.args.history.now c.args.since c.args.h) (λ i j r. (r.same, r.gains)) (walks_none (IsPassed c.args.chart.now.plan c.args.history.now c.args.since c.args.h) (IsAble c.args.chart.now.plan c.args.chart.now.focus c.args.h) c.sweep.new.holding.slots)
     (λ p i apart is. stays_passed c.args.chart.now.plan c.args.chart.now.focus c.args.history.now c.args.since c.args.h c.requires.later i (undue_there c.args.chart.now.plan c.args.chart.now.focus c.plan-plan.ensures.is.proper c.args.chart.now.hooks c.args.since c.args.h c.requires.later c.requires.small c.sweep.new.holding c.sweep.ensures.len tidy c.collect_due.new.calendar c.sweep.new.holding.waiting (λ k g f w. w) c.collect_due.new.places.items []
     ((c.in_ok-collect_due.ensures {u = tt}).collected) (λ p i. subst (λ (ps : List ℕ). IsIn p ps) none i) ((c.in_ok-collect_due.ensures {u = tt}).later) c.collect_due.ensures.within c.sweep.new.holding.slots held (settles_none c.args.chart.now.plan c.args.chart.now.focus c.args.chart.now.hooks c.args.since c.args.h held) p i apart is)))

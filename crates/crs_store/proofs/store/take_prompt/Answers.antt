@@ -1,4 +1,4 @@
-use Rattle.std.proofs.Common.{[], length}
+use Rattle.std.proofs.Common.{◌++◌, length, map}
 use Rattle.crs_base.specs.Seen.{entry_of}
 use Rattle.crs_store.specs.Ahead.{MayGo}
 use Rattle.crs_store.specs.Slots.{members}
@@ -19,10 +19,12 @@ returns-clause-taken g c =
     let focus = c.args.moment.now.focus in
     let held = members c.args.holding.now.slots.slots in
     let born = c.forks.new.out.items in
-    let new = members c.hold_all.new.holding.slots.slots in
-    taken_prompt plan focus c.requires.moment.proper c.requires.moment.flat c.args.moment.now.history.now (entry_of c.args.moment.now.entry.now.value) c.args.moment.now.since held born new (tidy_all plan focus c.args.moment.now.hooks.now c.args.holding.now c.args.moment.now.since c.requires.tidy)
-    (tidy_able plan focus c.args.moment.now.hooks.now c.args.holding.now c.args.moment.now.since c.requires.tidy) ((c.in_ok-forks.ensures {u = tt}).able) ((c.in_ok-forks.ensures {u = tt}).image)
-    (part_of (MayGo plan focus [] 0) held born new ((c.in_ok-hold_all.ensures {u = tt}).joins))
+    let new = members c.hold_all.new.holding.slots.slots in (
+      held ++ born,
+      taken_prompt plan focus c.requires.moment.proper c.requires.moment.flat c.args.moment.now.history.now (entry_of c.args.moment.now.entry.now.value) c.args.moment.now.since held born (tidy_all plan focus c.args.moment.now.hooks.now c.args.holding.now c.args.moment.now.since c.requires.tidy)
+          (tidy_able plan focus c.args.moment.now.hooks.now c.args.holding.now c.args.moment.now.since c.requires.tidy) ((c.in_ok-forks.ensures {u = tt}).image),
+      part_of (MayGo plan focus (map (λ r. entry_of r.value) c.args.moment.now.ahead.now) c.args.moment.now.beyond) held born new ((c.in_ok-hold_all.ensures {u = tt}).joins),
+    )
 
 pub returns-in_err-forks-clause-cost : goal.returns-in_err-forks-clause-cost
 returns-in_err-forks-clause-cost g c = flat_ticks c.args.moment.now.focus (length c.args.moment.now.plan.now.chronicle.events) c.args.steps.now c.forks.new.steps (length (members c.args.holding.now.slots.slots)) c.forks.ensures.cost c.requires.moment.flat

@@ -11,20 +11,20 @@ use Rattle.crs_model.specs.HasProgress.{StartsWell, StartsIll}
 use Rattle.crs_watch.proofs.Starts.{passes_early, passes_late, passes_start}
 use Rattle.crs_watch.proofs.passing.pass.Goals as goal
 
-pub returns-then-stretch-since : goal.returns-then-stretch-since
-returns-then-stretch-since c = λ back settled m n is at up stands p.
+pub returns-then-stretch-since-clause-progress : goal.returns-then-stretch-since-clause-progress
+returns-then-stretch-since-clause-progress c = λ back settled m n is at up stands p.
     let g = c.args.stretch in
     let early : g.from <ℤ c.args.since = omega (arith, ints) in
     passes_early sym_tells (look_of c.args.binding.now) (body_of c.args.window.now.body) g.from g.to settled c.args.since c.args.h m n c.args.p.count c.args.p.broken is at up p early
 
-pub returns-then-stretch-h : goal.returns-then-stretch-h
-returns-then-stretch-h c = λ back settled m n is at up stands p.
+pub returns-then-stretch-h-clause-progress : goal.returns-then-stretch-h-clause-progress
+returns-then-stretch-h-clause-progress c = λ back settled m n is at up stands p.
     let g = c.args.stretch in
     let late : c.args.h ≤ℤ g.from = omega (arith, ints) in
     passes_late sym_tells (look_of c.args.binding.now) (body_of c.args.window.now.body) g.from g.to settled c.args.since c.args.h m n c.args.p.count c.args.p.broken is at up p late
 
-pub returns-else-stretch-h : goal.returns-else-stretch-h
-returns-else-stretch-h c = λ back settled m n is at up stands p.
+pub returns-else-stretch-h-clause-progress : goal.returns-else-stretch-h-clause-progress
+returns-else-stretch-h-clause-progress c = λ back settled m n is at up stands p.
     let look = look_of c.args.binding.now in
     let g = c.args.stretch in
     let fits : SFits w64 g.from = search rules in

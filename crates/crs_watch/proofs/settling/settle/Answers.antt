@@ -10,8 +10,8 @@ use Rattle.crs_watch.proofs.settling.settle.Goals.{then-hit, else-hit}
 next : (m n : ℕ) → m ≡ n + 1 → m ≡ suc n
 next m n e = omega arith
 
-pub returns-then-p : goal.returns-then-p
-returns-then-p c = λ room settled h late p.
+pub returns-then-p-clause-progress : goal.returns-then-p-clause-progress
+returns-then-p-clause-progress c = λ room settled h late p.
     let look = look_of c.args.binding.now in
     let body = body_of c.args.window.now.body in
     let g = c.args.stretch in
@@ -25,8 +25,8 @@ told : {B N : Type 0} (b old : Bool) → old ≡ false → (b ≡ true → B) �
 told true old whole f g = inl (inr (f refl), refl)
 told false old whole f g = inr (whole, g refl, refl)
 
-pub returns-else-p : goal.returns-else-p
-returns-else-p c = λ room settled h late p.
+pub returns-else-p-clause-progress : goal.returns-else-p-clause-progress
+returns-else-p-clause-progress c = λ room settled h late p.
     let look = look_of c.args.binding.now in
     let body = body_of c.args.window.now.body in
     let g = c.args.stretch in

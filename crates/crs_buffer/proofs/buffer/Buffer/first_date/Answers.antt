@@ -1,6 +1,7 @@
 use Rattle.std.proofs.Common.{◌≤◌, ◌++◌, rules, subst, sym, ap, ◌∙◌, le_refl}
 use Rattle.std.specs.Prelude.{Some, option_map, slice_get}
 use Rattle.std.specs.List.{AllByRecursion}
+use Rattle.crs_base.specs.Entry.{IsInKeyOrder}
 use Rattle.crs_buffer.proofs.Sorted.{ascends, none_held, none_first, first_dated}
 use Rattle.crs_buffer.proofs.buffer.Buffer.first_date.Goals as goal
 
@@ -23,3 +24,9 @@ returns-clause-least c =
     (c.in_ok-first.ensures {u = tt}))
     (subst (λ e. c.deref.result.now.date ≤ e.date) c.deref.ensures (le_refl c.deref.result.now.date)) (ascends
     (c.self.inside.set.keys ++ c.self.inside.queue.items) c.self.invariant))
+
+pub returns-in_err-first-clause-in_order : goal.returns-in_err-first-clause-in_order
+returns-in_err-first-clause-in_order c = subst IsInKeyOrder c.self.view_is (ascends (c.self.inside.set.keys ++ c.self.inside.queue.items) c.self.invariant)
+
+pub returns-clause-in_order : goal.returns-clause-in_order
+returns-clause-in_order c = subst IsInKeyOrder c.self.view_is (ascends (c.self.inside.set.keys ++ c.self.inside.queue.items) c.self.invariant)

@@ -5,11 +5,11 @@ use mir.Syntax.{w64}
 use Rattle.crs_model.specs.Plans.{chronicle}
 use Rattle.crs_model.specs.SeenModels.{window_of}
 use Rattle.crs_instance.proofs.Stretches.{window_as}
-use Rattle.crs_store.proofs.Progress.{holds_one, bound_of, passed_by, unbegun}
+use Rattle.crs_store.proofs.Progress.{holds_one, bound_of, passed_by, same_count, unbegun}
 use Rattle.crs_store.proofs.living.windows.passed.Goals as goal
 
 pub returns-in_default : goal.returns-in_default
-returns-in_default c = λ entries up kept low has. unbegun c.args.passing.now.judging.plan.now c.args.k c.args.instance.now c.stretch.result (search rules) c.stretch.ensures _ c.args.passing.now.judging.h c.progress.result
+returns-in_default c = (λ entries up kept low has. unbegun c.args.passing.now.judging.plan.now c.args.k c.args.instance.now c.stretch.result (search rules) c.stretch.ensures _ c.args.passing.now.judging.h c.progress.result, same_count _ c.progress.result c.progress.ensures)
 
 pub pass-requires-clause-bound : goal.pass-requires-clause-bound
 pass-requires-clause-bound c =
@@ -31,4 +31,4 @@ returns c =
     let small_since : c.args.passing.now.since < 9223372036854775808 = let l = c.requires.passing.since in omega arith in
     passed_by c.args.passing.now.judging.plan.now c.args.k (window_of d) is c.args.instance.now c.in-Some.stretch c.stretch.result c.in-Some.is c.stretch.ensures c.binding.result.now c.binding.ensures c.progress-2.result c.pass.result c.progress-2.ensures c.args.passing.now.history.now c.args.passing.now.since c.args.passing.now.judging.h
     (λ settled low up kept p.
-    c.pass.ensures (λ l. low (subst (λ (z : ℤ). z ≤ℤ c.in-Some.stretch.from) (to_z_pos w64 c.args.passing.now.since small_since) l)) settled c.args.passing.now.since c.args.passing.now.judging.h (to_z_pos w64 c.args.passing.now.since small_since) (to_z_pos w64 c.args.passing.now.judging.h small) up kept p)
+    c.pass.ensures.progress (λ l. low (subst (λ (z : ℤ). z ≤ℤ c.in-Some.stretch.from) (to_z_pos w64 c.args.passing.now.since small_since) l)) settled c.args.passing.now.since c.args.passing.now.judging.h (to_z_pos w64 c.args.passing.now.since small_since) (to_z_pos w64 c.args.passing.now.judging.h small) up kept p) (let e = c.pass.ensures.same in omega arith)

@@ -1,6 +1,9 @@
-use Rattle.std.proofs.Common.{rules, ◌≡◌, ◌*◌, [], length, sym, arith}
+use Rattle.std.proofs.Common.{rules, ◌≡◌, ◌+◌, ◌*◌, ◌≤◌, [], length, sym, arith}
+use Rattle.std.proofs.Math.Nat.{mul-le-mul_right}
 use Rattle.std.proofs.lemmas.List.{append-nil}
 use Rattle.crs_base.specs.Seen.{entry_of}
+use Rattle.crs_model.specs.Bindings.{look_of}
+use Rattle.crs_store.specs.Hooks.{key_of}
 use Rattle.crs_store.specs.Links.{hook_at}
 use Rattle.crs_store.specs.Slots.{members}
 use Rattle.crs_store.proofs.Gathered.{hooks_long, hook_there, none_named, gathered_none, gathered_more, gathered_all, events_cost}
@@ -48,3 +51,15 @@ pub returns-clause-image : goal.returns-clause-image
 returns-clause-image g c =
     let e : c.loop-event.event ≡ length c.args.arrival.now.plan.now.chronicle.events = search rules in
     gathered_all c.args.arrival.now.plan.now c.args.arrival.now.focus c.args.arrival.now.history.now (entry_of c.args.arrival.now.entry.now.value) c.args.arrival.now.since c.args.arrival.now.until c.args.slots.now c.requires.of c.loop-event.event c.loop-event.out.items e c.loop-event.invariant.gathered
+
+pub forks_of_event-requires-clause-linked : goal.forks_of_event-requires-clause-linked
+forks_of_event-requires-clause-linked g c = λ p i is awaited can.
+    let e = c.loop-event.event in
+    c.loop-event.invariant.standing (key_of e (hook_at c.args.hooks.now e) (look_of i.binding)) p i is (c.requires.linked p i is e awaited can)
+
+pub returns-in_err-forks_of_event-clause-cost : goal.returns-in_err-forks_of_event-clause-cost
+returns-in_err-forks_of_event-clause-cost g c = λ flat.
+    let each = 2 * length (members c.args.slots.now.slots) in
+    let inside : c.loop-event.event + 1 ≤ length c.args.arrival.now.plan.now.chronicle.events = search rules in
+    let so_far = events_cost c.args.arrival.now.focus c.args.steps.now c.loop-event.steps c.forks_of_event.new.steps c.loop-event.event each c.loop-event.invariant.cost c.forks_of_event.ensures.cost flat in
+    let all = mul-le-mul_right each inside in omega arith

@@ -5,11 +5,11 @@ use Rattle.crs_model.specs.declared.plan.Plan.{Plan}
 use Rattle.crs_store.specs.Hooks.{AreHooks}
 use Rattle.crs_store.specs.Joins.{Renews}
 use Rattle.crs_store.specs.Slots.{members}
-use Rattle.crs_store.specs.Stores.{IsStore}
+use Rattle.crs_store.specs.Stores.{StoreState, IsStore}
 use Rattle.crs_store.specs.Tidy.{IsTidyHolding}
 use Rattle.crs_store.specs.Windows.{IsAble, IsFollowed}
 use Rattle.crs_store.proofs.Assembled.{tidy_at_mark}
-use Rattle.crs_store.proofs.Prompting.{settled_from}
+use Rattle.crs_store.proofs.Prompting.{settled_from, settled_exact}
 use Rattle.crs_store.proofs.store.Store.settle.Goals as goal
 
 pub invariant_of-self : goal.invariant_of-self
@@ -21,8 +21,8 @@ invariant_of-self c =
     (tidy_at_mark c.self.inside.plan.value c.self.inside.hooks c.self.inside.number c.self.inside.focus c.self.inside.stopped (members c.self.inside.holding.slots.slots) c.self.inside.date c.self.invariant.0 c.self.invariant.1 c.follow.new.holding x.date small
     (subst (λ (p : Plan). IsTidyHolding p c.self.inside.focus c.self.inside.hooks c.follow.new.holding x.date) c.deref-2.ensures tidy))
 
-pub returns-in-Ok-clause-stands : goal.returns-in-Ok-clause-stands
-returns-in-Ok-clause-stands c =
+pub returns-in-Ok-clause-coming : goal.returns-in-Ok-clause-coming
+returns-in-Ok-clause-coming c =
     let x = c.args.entry.now.value in
     let history = c.args.history.now in
     let focus = c.self.inside.focus in
@@ -33,3 +33,8 @@ returns-in-Ok-clause-stands c =
     settled_from (record { plan = c.self.inside.plan.value; number = c.self.inside.number; focus = focus; held = held; date = c.self.inside.date; stopped = c.self.inside.stopped }) c.args.self.now
     (record { plan = c.self.inside.plan.value; number = c.self.inside.number; focus = focus; held = new; date = c.deref-in-Ok.result.now.date; stopped = c.self.inside.stopped }) history (entry_of x)
     c.self.view_is c.self.invariant.0 (record { plan = refl; number = refl; focus = refl }) (λ i. (c.deref-in-Ok.ensures i).date) renews
+
+pub returns-in-Ok-clause-stands : goal.returns-in-Ok-clause-stands
+returns-in-Ok-clause-stands c =
+    let new : StoreState = record { plan = c.self.inside.plan.value; number = c.self.inside.number; focus = c.self.inside.focus; held = members c.follow.new.holding.slots.slots; date = c.deref-in-Ok.result.now.date; stopped = c.self.inside.stopped } in
+    settled_exact c.args.self.now new c.args.history.now (entry_of c.args.entry.now.value) (returns-in-Ok-clause-coming c)

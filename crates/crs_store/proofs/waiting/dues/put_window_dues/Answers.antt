@@ -17,8 +17,11 @@ returns-clause-put c =
     let d = c.index-as_slice-k.result in
     let is : slice_get (chronicle c.args.chart.now.plan).windows c.args.k ≡ Some (window_of d) = window_as c.as_slice.result.now c.args.chart.now.plan.chronicle.windows c.args.k d (c.as_slice.ensures ∙ ap (λ (p : Plan). p.chronicle.windows) c.plan-plan.ensures.same) c.requires.window c.index-as_slice-k.is in
     on_ok_weaker c.put_end.result
-    (λ p. window_put c.args.chart.now.plan c.args.instance.now c.args.handle c.args.since c.args.k (window_of d) is c.in-Some.stretch c.stretch.result c.in-Some.is (subst (λ (p : Plan). IsStretchAt p c.args.instance.now c.args.k c.stretch.result) c.plan-plan.ensures.same c.stretch.ensures) c.put_start.new.calendar.pairs c.put_end.new.calendar.pairs c.in_ok-put_start.ensures.put c.put_end.ensures.kept p)
+    (λ p. window_put c.args.chart.now.plan c.args.instance.now c.args.handle c.args.since c.args.k (window_of d) is c.in-Some.stretch c.stretch.result c.in-Some.is (subst (λ (p : Plan). IsStretchAt p c.args.instance.now c.args.k c.stretch.result) c.plan-plan.ensures.same c.stretch.ensures) c.put_near.new.calendar.pairs c.put_start.new.calendar.pairs c.put_end.new.calendar.pairs c.in_ok-put_near.ensures.put c.put_start.ensures.kept c.in_ok-put_start.ensures.put c.put_end.ensures.kept p)
     c.put_end.ensures.put
 
 pub returns-clause-kept : goal.returns-clause-kept
-returns-clause-kept c = λ t i. c.put_end.ensures.kept t (c.put_start.ensures.kept t i)
+returns-clause-kept c = λ t i. c.put_end.ensures.kept t (c.put_start.ensures.kept t (c.put_near.ensures.kept t i))
+
+pub returns-in_err-put_start-clause-kept : goal.returns-in_err-put_start-clause-kept
+returns-in_err-put_start-clause-kept c = λ t i. c.put_start.ensures.kept t (c.put_near.ensures.kept t i)

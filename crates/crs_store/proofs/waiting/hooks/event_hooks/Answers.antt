@@ -10,7 +10,7 @@ pub loop-event-init : goal.loop-event-init
 loop-event-init c = subst (λ (t : List Hook). AllZip IsHookOfEvent [] t) (sym c.new-hooks.ensures.items) tt
 
 pub loop-event-preserved : goal.loop-event-preserved
-loop-event-preserved c = zip_more IsHookOfEvent event_of c.args.events.now c.loop-event.event-index c.event-item.result c.loop-event.hooks.items c.push.new.self.items (record { name = c.event-item.result.pattern.name; pick = c.pick_of.result }) (search rules) c.event-item.is (search rules) c.loop-event.invariant (search rules)
+loop-event-preserved c = zip_more IsHookOfEvent event_of c.args.events.now c.loop-event.event-index c.event-item.result c.loop-event.hooks.items c.push.new.self.items c.in_ok-hook.hook (search rules) c.event-item.is (search rules) c.loop-event.invariant (c.in_ok-hook.ensures {u = tt})
 
 pub returns : goal.returns
 returns c = zip_all IsHookOfEvent event_of c.args.events.now c.loop-event.event-index c.loop-event.hooks.items (search rules) c.loop-event.invariant

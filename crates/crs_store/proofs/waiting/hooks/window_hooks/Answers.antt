@@ -10,7 +10,7 @@ pub loop-window-init : goal.loop-window-init
 loop-window-init c = subst (λ (t : List Hook). AllZip IsHookOfWindow [] t) (sym c.new-hooks.ensures.items) tt
 
 pub loop-window-preserved : goal.loop-window-preserved
-loop-window-preserved c = zip_more IsHookOfWindow window_of c.args.windows.now c.loop-window.window-index c.window-item.result c.loop-window.hooks.items c.push.new.self.items c.hook_of.result (search rules) c.window-item.is (search rules) c.loop-window.invariant c.hook_of.ensures
+loop-window-preserved c = zip_more IsHookOfWindow window_of c.args.windows.now c.loop-window.window-index c.window-item.result c.loop-window.hooks.items c.push.new.self.items c.in_ok-hook.hook (search rules) c.window-item.is (search rules) c.loop-window.invariant (c.in_ok-hook.ensures {u = tt})
 
 pub returns : goal.returns
 returns c = zip_all IsHookOfWindow window_of c.args.windows.now c.loop-window.window-index c.loop-window.hooks.items (search rules) c.loop-window.invariant
