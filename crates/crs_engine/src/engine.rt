@@ -13,6 +13,7 @@ ghost use Rattle.crs_engine.specs.Marks.{AfterMark};
 ghost use Rattle.crs_engine.specs.declared.refused.Refused.{Refused};
 ghost use Rattle.crs_engine.specs.declared.refused.Refused.TheVariants.{Memory};
 
+use crate::looked_up::looked_up;
 use crate::moving::{forget_behind, hold, mark_all};
 use crate::refused::Refused;
 use crate::starting::{has_prompt, stores_of};
@@ -80,10 +81,11 @@ impl Engine {
     {
         let stores = stores_of(alloc, plans.plans.as_slice(), focus)?;
         let prompt = has_prompt(plans.plans.as_slice());
+        let places = looked_up(alloc, plans.plans.as_slice(), focus)?;
         Ok(Engine {
             plans,
             stores,
-            history: History::new(alloc),
+            history: History::with_look_ups(alloc, places),
             buffer: Buffer::new(alloc),
             fresh: Buffer::new(alloc),
             due: Vec::new(alloc),

@@ -2,6 +2,7 @@
 #![tactic(auto)]
 
 mod engine;
+mod looked_up;
 mod moving;
 mod refused;
 mod starting;

@@ -19,13 +19,13 @@ use Rattle.crs_history.specs.Looking.{IsNamedIn}
 use Rattle.crs_focus.specs.Candidacy.{IsCandidate, IsHeldFor, is_up_to}
 use Rattle.crs_focus.proofs.UpTo.{sifts_up_to, by_date}
 
-max_over : (a b t : ℤ) → a ≤ℤ t → b ≤ℤ t → int_max a b ≤ℤ t
+pub max_over : (a b t : ℤ) → a ≤ℤ t → b ≤ℤ t → int_max a b ≤ℤ t
 max_over a b t h k = omega (arith, ints, int_max_is a b)
 
-max_first : (a b t : ℤ) → int_max a b ≤ℤ t → a ≤ℤ t
+pub max_first : (a b t : ℤ) → int_max a b ≤ℤ t → a ≤ℤ t
 max_first a b t h = omega (arith, ints, int_max_is a b)
 
-max_second : (a b t : ℤ) → int_max a b ≤ℤ t → b ≤ℤ t
+pub max_second : (a b t : ℤ) → int_max a b ≤ℤ t → b ≤ℤ t
 max_second a b t h = omega (arith, ints, int_max_is a b)
 
 module _ (name : Sym) (window : DateWindow) (until : Entry Sym) (floor from to : ℤ)

@@ -1,3 +1,4 @@
 pub mod Unset
 pub mod UpTo
 pub mod Choosing
+pub mod KnownSymbols

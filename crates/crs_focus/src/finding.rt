@@ -5,11 +5,12 @@ ghost use Rattle.crs_base.specs.Seen.{entry_of};
 ghost use Rattle.crs_base.specs.Sifted.{Sifts};
 ghost use Rattle.crs_base.specs.Words.{IsIn};
 ghost use Rattle.crs_history.specs.Histories.{EndsWith, StandsFor};
-ghost use Rattle.crs_focus.specs.Candidacy.{IsCandidate, IsHeldFor};
+ghost use Rattle.crs_history.specs.Keyed.{HaveKnown};
+ghost use Rattle.crs_focus.specs.Candidacy.{AreCandidates, IsCandidate, IsHeldFor};
 
 use crate::up_to::Candidates;
 use crs_base::{Entry, Sym};
-use crs_history::History;
+use crs_history::{Found, History};
 use crs_model::DateWindow;
 
 /// The first date of the window, where dates are at or after 0.
@@ -52,4 +53,23 @@ pub fn candidates<'a>(
 {
     let range = history.range(name, start_of(window), end_of(window, until.date));
     Candidates::new(range, until)
+}
+
+/// The held entries that are dated in the window, at or after the history's floor and not after `until`, in
+/// key order: all of the name whose arguments have the known symbols at their places, and maybe others.
+/// Where `until` is the last of the history, none of the name, the symbols and the dates is missing. The
+/// date of `until` is below 2^40 ticks. It takes no memory.
+pub fn candidates_with<'a>(
+    history: &'a History,
+    name: Sym,
+    known: &[Option<Sym>],
+    window: DateWindow,
+    until: &Entry,
+) -> Found<'a>
+    requires { until.now.date < 2 ^ 40 }
+    ensures held { AreCandidates history.now.floor name known.now window until.now.date history.now.entries result }
+    ensures in_order { IsInKeyOrder result }
+    ensures up_to_last { EndsWith (entry_of until.now) history.now.entries → (e : LogEntry Sym) → IsIn e history.now.entries → IsHeldFor history.now.floor name window e → HaveKnown known.now e.args → IsIn e result }
+{
+    history.find(name, known, start_of(window), end_of(window, until.date))
 }

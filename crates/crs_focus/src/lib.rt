@@ -5,6 +5,6 @@ mod finding;
 mod level;
 mod up_to;
 
-pub use finding::candidates;
+pub use finding::{candidates, candidates_with};
 pub use level::{current_level, level_of};
 pub use up_to::Candidates;

@@ -1,7 +1,6 @@
 -- One step of what is held: an entry is added, leaves the ring, or is dropped.
 use Rattle.std.proofs.Common.{◌≡◌, ◌⊎◌, ℕ, ◌≤◌, ◌<◌, ◌+◌, ◌*◌, List, [], ◌∷◌, ◌++◌, length, drop, get_or, refl, sym, ap, subst, ◌∙◌, inl, inr, arith, Less}
-use Rattle.std.proofs.lemmas.List.{append_assoc, append-nil, length-append}
-use Rattle.std.proofs.lemmas.Bool.{cases_eq}
+use Rattle.std.proofs.lemmas.List.{append_assoc, length-append}
 use Rattle.std.specs.List.{AllByRecursion}
 use Rattle.crs_base.specs.declared.symbols.Sym.{Sym}
 use Rattle.crs_base.specs.Words.{IsIn, Ordered}
@@ -14,28 +13,18 @@ use Rattle.crs_base.proofs.KeyOrder.{date_of_less, in_dates}
 use Rattle.crs_base.specs.Seen.{entry_of}
 use Rattle.crs_history.specs.Histories.{Shared, entries_of, attribute_of, IsAfterAll}
 use Rattle.crs_history.specs.Dropping.{Drops}
-use Rattle.crs_history.specs.Lanes.{lane_of, IsSetTo}
+use Rattle.crs_history.specs.Keyed.{KeyedState, AreKeyed}
 use Rattle.crs_history.specs.Tracks.{TracksState, track_of, TakesFirst, BeginsSince}
-use Rattle.crs_history.specs.Holdings.{IsNamed, IsChanging, AreLatest, AreBefore, AreHoldings, IsPast, Extends}
-use Rattle.crs_history.proofs.Numbering.{sym_of}
+use Rattle.crs_history.specs.Holdings.{IsChanging, AreLatest, AreBefore, AreHoldings, IsPast, Extends}
 use Rattle.crs_history.proofs.Order.{in_order_push}
 use Rattle.crs_history.proofs.Ageing.{not_below_itself}
 use Rattle.crs_history.proofs.Telling.{change_told}
 use Rattle.crs_history.proofs.Left.{sifts_all, sifts_both, sifts_without, sifts_less, drops_none, drops_one, drops_append, drops_weaker, ordered_without, ordered_across}
 
--- the lanes of the ring without its first
-module _ (x : Entry Sym) (rest : List (Entry Sym)) (lanes more : List (List (Entry Sym))) (put : IsSetTo lanes x.name.0 (drop 1 (lane_of lanes x.name.0)) more) where
-  pub lanes_popped : (n : Sym) → Sifts (IsNamed n) (x ∷ rest) (lane_of lanes n.0) → Sifts (IsNamed n) rest (lane_of more n.0)
-  lanes_popped n (inl h) =
-      let here : lane_of more n.0 ≡ h.1 =
-      subst (λ (w : Sym). lane_of more w.0 ≡ drop 1 (lane_of lanes w.0)) h.0 put.0 ∙ ap (drop 1) h.2 in
-      subst (Sifts (IsNamed n) rest) (sym here) h.3
-  lanes_popped n (inr h) = subst (Sifts (IsNamed n) rest) (sym (put.1 n.0 (λ e. h.0 (sym_of x.name n (sym e))))) h.1
-
-module _ (older later rest : List (Entry Sym)) (x : Entry Sym) (lanes more : List (List (Entry Sym))) (tracks : TracksState)
-    (held : AreHoldings older later (x ∷ rest) lanes tracks) (date : ℕ) (early : x.date < date) where
+module _ (older later rest : List (Entry Sym)) (x : Entry Sym) (keyed more : KeyedState) (tracks : TracksState)
+    (held : AreHoldings older later (x ∷ rest) keyed tracks) (date : ℕ) (early : x.date < date) where
   -- the first of the ring isn't a change
-  module _ (put : IsSetTo lanes x.name.0 (drop 1 (lane_of lanes x.name.0)) more) (plain : IsChanging x → ⊥) where
+  module _ (put : AreKeyed (x ∷ rest) keyed → AreKeyed rest more) (plain : IsChanging x → ⊥) where
     plain_changing : Sifts IsChanging (x ∷ rest) later → Sifts IsChanging rest later
     plain_changing (inl h) = absurd (plain h.0)
     plain_changing (inr h) = h.1
@@ -45,7 +34,7 @@ module _ (older later rest : List (Entry Sym)) (x : Entry Sym) (lanes more : Lis
       in_order = ordered_without (λ d e. entry_cmp d e ≡ Less) older x rest held.in_order;
       latest = held.latest;
       changing = plain_changing held.changing;
-      named = λ n. lanes_popped x rest lanes more put n (held.named n);
+      found = put held.found;
       tracked = λ a. sifts_without (IsChange a) older x rest (track_of tracks a) (λ c. plain c.change) (held.tracked a);
     }
 
@@ -106,12 +95,12 @@ module _ (older later rest : List (Entry Sym)) (x : Entry Sym) (lanes more : Lis
     later_first (inl h) = (h.1, h.2)
     later_first (inr h) = absurd (h.0 changing)
 
-    pub aged_held : (later2 : List (Entry Sym)) → later ≡ x ∷ later2 → IsSetTo lanes x.name.0 (drop 1 (lane_of lanes x.name.0)) more → AreHoldings (older ++ x ∷ []) later2 rest more tracks
+    pub aged_held : (later2 : List (Entry Sym)) → later ≡ x ∷ later2 → (AreKeyed (x ∷ rest) keyed → AreKeyed rest more) → AreHoldings (older ++ x ∷ []) later2 rest more tracks
     aged_held later2 e put = record {
       in_order = subst IsInKeyOrder (sym all_same) held.in_order;
       latest = aged_latest;
       changing = aged_later later2 e held.changing;
-      named = λ n. lanes_popped x rest lanes more put n (held.named n);
+      found = put held.found;
       tracked = λ a. subst (λ (w : List (Entry Sym)). Sifts (IsChange a) w (track_of tracks a)) (sym all_same) (held.tracked a);
     }
 
@@ -176,12 +165,12 @@ module _ (older later rest : List (Entry Sym)) (x : Entry Sym) (lanes more : Lis
           subst (Sifts Other (track_of tracks b)) (sym (takes.taken.others b (λ e. f (subst (λ (w : Attribute Sym). IsChange w y) (sym e) y_found.1))))
           (sifts_all Other (track_of tracks b) (λ d i e. f (subst (IsChange b) e ((sifted_in (IsChange b) (older ++ x ∷ rest) (track_of tracks b) d (held.tracked b) i).1))))
 
-      pub left_held : AreHoldings left later (x ∷ rest) lanes new
+      pub left_held : AreHoldings left later (x ∷ rest) keyed new
       left_held = record {
         in_order = sifts_ordered Other (λ d e. entry_cmp d e ≡ Less) (older ++ x ∷ rest) (left ++ x ∷ rest) all_others held.in_order;
         latest = left_latest;
         changing = held.changing;
-        named = held.named;
+        found = held.found;
         tracked = λ b. sifts_both (IsChange b) Other (older ++ x ∷ rest) (track_of tracks b) (left ++ x ∷ rest) (track_of new b) (held.tracked b) all_others (track_left b (change_told b y));
       }
 
@@ -202,7 +191,7 @@ module _ (older later rest : List (Entry Sym)) (x : Entry Sym) (lanes more : Lis
       left_shrinks = let l = sifts_less Other older left y others y_older (λ f. f refl) in omega arith
 
 -- an entry is added behind all others
-module _ (older later ring later2 : List (Entry Sym)) (e : Entry Sym) (lanes more : List (List (Entry Sym))) (tracks new : TracksState) (held : AreHoldings older later ring lanes tracks) where
+module _ (older later ring later2 : List (Entry Sym)) (e : Entry Sym) (keyed more : KeyedState) (tracks new : TracksState) (held : AreHoldings older later ring keyed tracks) where
   pub all_after : IsAfterAll (older ++ ring) e → IsAfterAll (older ++ later) e
   all_after h = each_after (older ++ later) (λ d i. in_from_each (λ d. entry_cmp d e ≡ Less) (older ++ ring) h d (in_all d i))
     where
@@ -219,13 +208,7 @@ module _ (older later ring later2 : List (Entry Sym)) (e : Entry Sym) (lanes mor
   extended : (P : Entry Sym → Type 0) (xs ys zs : List (Entry Sym)) → Sifts P xs ys → Extends P e ys zs → Sifts P (xs ++ e ∷ []) zs
   extended P xs ys zs s h = subst (Sifts P (xs ++ e ∷ [])) (sym h.1) (sifts_append P xs ys (e ∷ []) h.0 s h.2)
 
-  lane_with : (n : Sym) → IsSetTo lanes e.name.0 (lane_of lanes e.name.0 ++ e ∷ []) more → (n.0 ≡ e.name.0) ⊎ (n.0 ≡ e.name.0 → ⊥) → Extends (IsNamed n) e (lane_of lanes n.0) (lane_of more n.0)
-  lane_with n put (inl q) =
-      let same : e.name ≡ n = sym_of e.name n (sym q) in
-      (e ∷ [], subst (λ (w : Sym). lane_of more w.0 ≡ lane_of lanes w.0 ++ e ∷ []) same put.0, inl (same, [], refl, refl))
-  lane_with n put (inr f) = ([], put.1 n.0 f ∙ sym (append-nil (lane_of lanes n.0)), inr ((λ q. f (ap (λ s. s.0) (sym q))), refl))
-
-  pub pushed_held : IsAfterAll (older ++ ring) e → Extends IsChanging e later later2 → IsSetTo lanes e.name.0 (lane_of lanes e.name.0 ++ e ∷ []) more
+  pub pushed_held : IsAfterAll (older ++ ring) e → Extends IsChanging e later later2 → (AreKeyed ring keyed → AreKeyed (ring ++ e ∷ []) more)
       → ((a : Attribute Sym) → Extends (IsChange a) e (track_of tracks a) (track_of new a)) → AreHoldings older later2 (ring ++ e ∷ []) more new
   pushed_held after later_more put tracks_more =
       let all : older ++ (ring ++ e ∷ []) ≡ (older ++ ring) ++ e ∷ [] = sym (append_assoc older ring (e ∷ [])) in
@@ -233,7 +216,7 @@ module _ (older later ring later2 : List (Entry Sym)) (e : Entry Sym) (lanes mor
         in_order = subst IsInKeyOrder (sym all) (in_order_push (older ++ ring) e held.in_order after);
         latest = held.latest;
         changing = extended IsChanging ring later later2 held.changing later_more;
-        named = λ n. extended (IsNamed n) ring (lane_of lanes n.0) (lane_of more n.0) (held.named n) (lane_with n put (cases_eq n.0 e.name.0));
+        found = put held.found;
         tracked = λ a. subst (λ (w : List (Entry Sym)). Sifts (IsChange a) w (track_of new a)) (sym all) (extended (IsChange a) (older ++ ring) (track_of tracks a) (track_of new a) (held.tracked a) (tracks_more a));
       }
 

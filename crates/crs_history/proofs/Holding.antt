@@ -1,4 +1,4 @@
--- What is held of the entries, of a name and in a range of dates.
+-- What is held of the entries, and what is found of them in a stretch.
 use Rattle.std.proofs.Common.{◌≡◌, Bool, true, false, cond, ℕ, List, [], ◌∷◌, ◌++◌, filter, refl, sym, subst, ◌∙◌, inl, inr, arith, true≢false}
 use Rattle.std.specs.Prelude.{ℤ, pos, ◌≤ℤ◌, ◌<ℤ◌, ◌-ℤ◌}
 use Rattle.std.proofs.lemmas.Int.{ints, int_max_is}
@@ -11,9 +11,11 @@ use Rattle.crs_base.specs.Values.{Attribute, IsChange, IsLastChange, HasValue}
 use Rattle.crs_base.proofs.Sifted.{sifts_twice, sifts_append, sifts_iff, in_sifted, sifted_in}
 use Rattle.crs_history.specs.Histories.{IsKept}
 use Rattle.crs_history.specs.Dates.{nat_of}
-use Rattle.crs_history.specs.Holdings.{IsNamed, IsSplitAt}
+use Rattle.crs_history.specs.Holdings.{IsSplitAt}
 use Rattle.crs_base.proofs.Words.{in_append}
-use Rattle.crs_history.specs.Looking.{is_before, is_since, IsNamedIn, AreChanges, HasValueOver}
+use Rattle.crs_history.specs.Looking.{is_before, is_since, IsBetween, Finds, AreChanges, HasValueOver}
+use Rattle.crs_history.specs.Dropping.{Drops}
+use Rattle.crs_history.proofs.Finding.{drops_filter}
 use Rattle.crs_history.proofs.Dates.{before_of, of_before, since_of, of_since}
 use Rattle.crs_history.proofs.Kept.{last_held, last_held_back}
 
@@ -57,43 +59,51 @@ max_second a b t h = omega (arith, ints, int_max_is a b)
 not_under : (d : ℕ) (floor : ℤ) → pos d <ℤ floor → floor ≤ℤ pos d → ⊥
 not_under d floor h k = omega (arith, ints)
 
--- the entries of the name and range, of the lane of the name, of those that are held, and of those that they stand for
-module _ (name : Sym) (from to floor : ℤ) (older ring lane : List (Entry Sym)) (early : (e : Entry Sym) → IsIn e older → pos e.date <ℤ floor) (late : (e : Entry Sym) → IsIn e ring → floor ≤ℤ pos e.date)
-    (named : Sifts (IsNamed name) ring lane) where
-  abbrev pub part : List (Entry Sym)
-  part = filter (is_before (nat_of to)) (filter (is_since (nat_of from)) lane)
+-- what is found in a stretch: of the ring, of those that are held, and of those that they stand for
+module _ (P : Entry Sym → Type 0) (from to floor : ℤ) (older ring found : List (Entry Sym)) (early : (e : Entry Sym) → IsIn e older → pos e.date <ℤ floor) (late : (e : Entry Sym) → IsIn e ring → floor ≤ℤ pos e.date)
+    (drops : Drops (λ e. P e → ⊥) ring found) where
+  abbrev pub part : List (Entry Sym) → List (Entry Sym)
+  part es = filter (is_before (nat_of to)) (filter (is_since (nat_of from)) es)
 
-  ring_range : Sifts (IsNamedIn name from to) ring part
-  ring_range =
+  part_drops : Drops (λ e. P e → ⊥) (part ring) (part found)
+  part_drops = drops_filter (λ e. P e → ⊥) (is_before (nat_of to)) (filter (is_since (nat_of from)) ring) (filter (is_since (nat_of from)) found)
+      (drops_filter (λ e. P e → ⊥) (is_since (nat_of from)) ring found drops)
+
+  ring_part : Sifts (IsBetween from to) ring (part ring)
+  ring_part =
       let Since : Entry Sym → Type 0 = λ e. from ≤ℤ pos e.date in
       let Before : Entry Sym → Type 0 = λ e. pos e.date <ℤ to in
-      let since = filter (is_since (nat_of from)) lane in
-      let a : Sifts Since lane since = sifts_filter Since (is_since (nat_of from)) lane (λ e h. of_since e.date from h) (λ e h. false_not (is_since (nat_of from) e) h (since_of e.date from)) in
-      let b : Sifts Before since (filter (is_before (nat_of to)) since) =
-      sifts_filter Before (is_before (nat_of to)) since (λ e h. of_before e.date to h) (λ e h. false_not (is_before (nat_of to) e) h (before_of e.date to)) in
-      sifts_twice (λ e. IsNamed name e × Since e) Before (IsNamedIn name from to) ring since (filter (is_before (nat_of to)) since)
-      (λ e i p q. record { named = p.0; since = p.1; before = q }) (λ e i r. ((r.named, r.since), r.before))
-      (sifts_twice (IsNamed name) Since (λ e. IsNamed name e × Since e) ring lane since (λ e i p q. (p, q)) (λ e i r. r) named a)
-      b
+      let since = filter (is_since (nat_of from)) ring in
+      sifts_twice Since Before (IsBetween from to) ring since (filter (is_before (nat_of to)) since)
+      (λ e i p q. record { since = p; before = q }) (λ e i r. (r.since, r.before))
+      (sifts_filter Since (is_since (nat_of from)) ring (λ e h. of_since e.date from h) (λ e h. false_not (is_since (nat_of from) e) h (since_of e.date from)))
+      (sifts_filter Before (is_before (nat_of to)) since (λ e h. of_before e.date to h) (λ e h. false_not (is_before (nat_of to) e) h (before_of e.date to)))
 
-  -- where the range begins at the floor or at from, whichever is later
-  pub range_held : Sifts (IsNamedIn name (int_max floor from) to) (older ++ ring) part
-  range_held = sifts_append (IsNamedIn name (int_max floor from) to) older [] ring part
-      (sifts_none (IsNamedIn name (int_max floor from) to) older (λ e i r. not_under e.date floor (early e i) (max_first floor from (pos e.date) r.since)))
-      (sifts_iff (IsNamedIn name from to) (IsNamedIn name (int_max floor from) to) ring part
-      (λ e i r. record { named = r.named; since = max_over floor from (pos e.date) (late e i) r.since; before = r.before })
-      (λ e i r. record { named = r.named; since = max_second floor from (pos e.date) r.since; before = r.before }) ring_range)
+  -- where the stretch begins at the floor or at from, whichever is later
+  pub found_held : Finds P (int_max floor from) to (older ++ ring) (part found)
+  found_held = (
+    part ring,
+    sifts_append (IsBetween (int_max floor from) to) older [] ring (part ring)
+        (sifts_none (IsBetween (int_max floor from) to) older (λ e i r. not_under e.date floor (early e i) (max_first floor from (pos e.date) r.since)))
+        (sifts_iff (IsBetween from to) (IsBetween (int_max floor from) to) ring (part ring)
+        (λ e i r. record { since = max_over floor from (pos e.date) (late e i) r.since; before = r.before })
+        (λ e i r. record { since = max_second floor from (pos e.date) r.since; before = r.before }) ring_part),
+    part_drops,
+  )
 
-  range_from : floor ≤ℤ from → Sifts (IsNamedIn name from to) (older ++ ring) part
-  range_from le = sifts_append (IsNamedIn name from to) older [] ring part
-      (sifts_none (IsNamedIn name from to) older (λ e i r. not_under e.date floor (early e i) (let h : from ≤ℤ pos e.date = r.since in omega (arith, ints))))
-      ring_range
+  part_from : floor ≤ℤ from → Sifts (IsBetween from to) (older ++ ring) (part ring)
+  part_from le = sifts_append (IsBetween from to) older [] ring (part ring)
+      (sifts_none (IsBetween from to) older (λ e i r. not_under e.date floor (early e i) (let h : from ≤ℤ pos e.date = r.since in omega (arith, ints))))
+      ring_part
 
-  pub range_stands : (s : List (Entry Sym)) → floor ≤ℤ from → Sifts (IsKept s floor) s (older ++ ring) → Sifts (IsNamedIn name from to) s part
-  range_stands s le stands =
-      sifts_twice (IsKept s floor) (IsNamedIn name from to) (IsNamedIn name from to) s (older ++ ring) part
-      (λ e i p q. q) (λ e i q. (inl (let h : from ≤ℤ pos e.date = q.since in omega (arith, ints)), q))
-      stands (range_from le)
+  pub found_stands : (s : List (Entry Sym)) → floor ≤ℤ from → Sifts (IsKept s floor) s (older ++ ring) → Finds P from to s (part found)
+  found_stands s le stands = (
+    part ring,
+    sifts_twice (IsKept s floor) (IsBetween from to) (IsBetween from to) s (older ++ ring) (part ring)
+        (λ e i p q. q) (λ e i q. (inl (let h : from ≤ℤ pos e.date = q.since in omega (arith, ints)), q))
+        stands (part_from le),
+    part_drops,
+  )
 
 -- the changes of an attribute tell its values
 module _ (a : Attribute Sym) (held track : List (Entry Sym)) (tracked : Sifts (IsChange a) held track) where

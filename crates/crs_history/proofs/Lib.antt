@@ -10,6 +10,8 @@ pub mod LaneEdits
 pub mod Numbering
 pub mod Over
 pub mod Left
+pub mod Keying
+pub mod Finding
 pub mod Ageing
 pub mod Trying
 pub mod TrackEdits

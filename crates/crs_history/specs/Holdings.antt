@@ -6,7 +6,7 @@ use Rattle.crs_base.specs.Sifted.{Sifts}
 use Rattle.crs_base.specs.Entry.{Entry, IsInKeyOrder}
 use Rattle.crs_base.specs.Values.{Attribute, IsChange}
 use Rattle.crs_history.specs.Histories.{attribute_of}
-use Rattle.crs_history.specs.Lanes.{lane_of}
+use Rattle.crs_history.specs.Keyed.{KeyedState, AreKeyed}
 use Rattle.crs_history.specs.Tracks.{TracksState, track_of}
 
 pub record HoldingsState : Type 0 where
@@ -16,10 +16,6 @@ pub record HoldingsState : Type 0 where
 -- all that is held, in key order
 abbrev pub held_of : HoldingsState → List (Entry Sym)
 held_of h = h.older ++ h.ring
-
--- the entry has this name
-abbrev pub IsNamed : Sym → Entry Sym → Type 0
-IsNamed name e = e.name ≡ name
 
 -- the entry is a change
 abbrev pub IsChanging : Entry Sym → Type 0
@@ -33,12 +29,12 @@ pub record AreLatest (es : List (Entry Sym)) : Type 0 where
 abbrev pub AreBefore : ℕ → List (Entry Sym) → Type 0
 AreBefore date es = (e : Entry Sym) → IsIn e es → e.date < date
 
--- the older ones are the latest of their attributes, each name's lane has the ring's entries of the name, and each attribute's track its changes
-pub record AreHoldings (older later ring : List (Entry Sym)) (lanes : List (List (Entry Sym))) (tracks : TracksState) : Type 0 where
+-- the older ones are the latest of their attributes, the ring's entries stand by number, and each attribute's track has its changes
+pub record AreHoldings (older later ring : List (Entry Sym)) (keyed : KeyedState) (tracks : TracksState) : Type 0 where
   pub in_order : IsInKeyOrder (older ++ ring)
   pub latest : AreLatest older
   pub changing : Sifts IsChanging ring later
-  pub named : (name : Sym) → Sifts (IsNamed name) ring (lane_of lanes name.0)
+  pub found : AreKeyed ring keyed
   pub tracked : (a : Attribute Sym) → Sifts (IsChange a) (older ++ ring) (track_of tracks a)
 
 -- e is dated before the date, and isn't a change, or another change of its attribute is dated after it and before the date

@@ -8,3 +8,4 @@ pub mod KeptOrder
 pub mod Dropping
 pub mod Changed
 pub mod Holdings
+pub mod Keyed

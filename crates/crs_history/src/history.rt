@@ -5,8 +5,10 @@ ghost use Rattle.crs_base.specs.Entry.{Entry as LogEntry, IsInKeyOrder};
 ghost use Rattle.crs_base.specs.Seen.{entry_of};
 ghost use Rattle.crs_base.specs.Sifted.{Sifts};
 ghost use Rattle.crs_history.specs.Histories.{IsAfterAll, IsKept, StandsFor};
-ghost use Rattle.crs_history.specs.Looking.{IsNamedIn, HasValueOver};
+ghost use Rattle.crs_history.specs.Keyed.{IsLike};
+ghost use Rattle.crs_history.specs.Looking.{Finds, IsNamedIn, HasValueOver};
 
+use crate::found::Found;
 use crate::holdings::Holdings;
 use crate::looking::holds_over;
 use crate::range::Range;
@@ -40,12 +42,22 @@ impl Model for History {
 }
 
 impl History {
-    /// A history without entries, which takes no memory. Its floor is -2^45.
+    /// A history without entries, which takes no memory. Its floor is -2^45. Each look-up goes through all
+    /// entries of the dates: `with_look_ups` tells it which there will be.
     pub fn new(alloc: Global) -> History
         ensures { result ≡ record { entries = []; floor = neg_ℤ (pos (2 ^ 45)) } }
     {
+        History::with_look_ups(alloc, Vec::new(alloc))
+    }
+
+    /// The same, told which names are looked up: by the number of a name the places of the arguments that
+    /// each look-up of it knows, as bits from the least, or none where nobody looks for it. Look-ups that
+    /// know less, or of other names, only take longer.
+    pub fn with_look_ups(alloc: Global, places: Vec<Option<u8>>) -> History
+        ensures { result ≡ record { entries = []; floor = neg_ℤ (pos (2 ^ 45)) } }
+    {
         History {
-            held: Holdings::new(alloc),
+            held: Holdings::new(alloc, places),
             floor: LOWEST,
         }
     }
@@ -78,8 +90,20 @@ impl History {
         ensures all_in_order { IsInKeyOrder self.now.entries }
         ensures stands { self.now.floor ≤ℤ from → (settled : Items (LogEntry Sym)) → StandsFor settled self.now → Sifts (IsNamedIn name from to) settled result }
     {
-        let lane = self.held.lane(name);
-        lane.since(to_date(from)).before(to_date(to))
+        Range::of(self.find(name, &[], from, to), name)
+    }
+
+    /// The held entries dated from the one date on and before the other, in key order: all of the name whose
+    /// arguments have the known symbols at their places, and maybe others. Where the first date is before
+    /// the floor, they begin at the floor. Places behind the known ones, and those of none, aren't looked at.
+    pub fn find(&self, name: Sym, known: &[Option<Sym>], from: i64, to: i64) -> Found<'_>
+        ensures held { Finds (IsLike name known.now) (int_max self.now.floor from) to self.now.entries result }
+        ensures in_order { IsInKeyOrder result }
+        ensures all_in_order { IsInKeyOrder self.now.entries }
+        ensures stands { self.now.floor ≤ℤ from → (settled : Items (LogEntry Sym)) → StandsFor settled self.now → Finds (IsLike name known.now) from to settled result }
+    {
+        let found = self.held.find(name, known);
+        found.since(to_date(from)).before(to_date(to))
     }
 
     /// Whether the attribute has the value at each date from the one on and before the other, where

@@ -1,4 +1,4 @@
-ghost use Rattle.std.specs.Prelude.{◌≡◌, ◌<◌, ◌≤◌, [], ◌∷◌, ◌++◌, length, drop, true, false, OnOk, OnErr, List as Items};
+ghost use Rattle.std.specs.Prelude.{◌≡◌, ◌<◌, ◌≤◌, [], ◌∷◌, ◌++◌, length, true, false, OnOk, OnErr, List as Items};
 ghost use Rattle.std.specs.List.{AllByRecursion};
 ghost use Rattle.crs_base.specs.Entry.{Entry as LogEntry, IsInKeyOrder};
 ghost use Rattle.crs_base.specs.Seen.{entry_of};
@@ -8,13 +8,13 @@ ghost use Rattle.crs_base.specs.Values.{Attribute, IsChange};
 ghost use Rattle.crs_history.specs.Histories.{IsAfterAll, entries_of};
 ghost use Rattle.crs_history.specs.Dates.{IsByDate};
 ghost use Rattle.crs_history.specs.Dropping.{Drops};
-ghost use Rattle.crs_history.specs.Lanes.{lane_of, IsSetTo};
-ghost use Rattle.crs_history.specs.Holdings.{held_of, IsNamed, IsChanging, AreLatest, AreBefore, IsPast, Extends, weight};
+ghost use Rattle.crs_history.specs.Keyed.{AreKeyed, IsLike};
+ghost use Rattle.crs_history.specs.Holdings.{held_of, IsChanging, AreLatest, AreBefore, IsPast, Extends, weight};
 ghost use Rattle.crs_history.specs.Tracks.{track_of, AreSame};
 
 use crate::changed::Changed;
-use crate::lanes::Lanes;
-use crate::range::Range;
+use crate::found::Found;
+use crate::keyed::Keyed;
 use crate::tracks::Tracks;
 use crs_base::{Entry, Sym, SymList};
 use std::alloc::{AllocError, Global};
@@ -26,8 +26,8 @@ use std::rc::Rc;
 #[derive(Drop)]
 pub(crate) struct Holdings {
     ring: VecDeque<Rc<Entry>>,
-    /// The ring's entries by the number of their name.
-    lanes: Lanes,
+    /// The ring's entries by what tells them apart where they are looked up.
+    keyed: Keyed,
     /// All held changes by attribute.
     tracks: Tracks,
     /// All held changes in key order.
@@ -42,7 +42,7 @@ impl Model for Holdings {
 
     ghost view = { λ h. record { older = h.changed.older; ring = entries_of h.ring.items } };
 
-    ghost invariant = { λ h. AreHoldings h.changed.older h.changed.later (entries_of h.ring.items) h.lanes h.tracks };
+    ghost invariant = { λ h. AreHoldings h.changed.older h.changed.later (entries_of h.ring.items) h.keyed h.tracks };
 }
 
 /// Adds a change to its track and to the others. After a refusal they are as they were.
@@ -70,22 +70,23 @@ fn push_change(
 }
 
 /// Takes the first entry out of the ring and of its lane.
-fn pop_first(ring: &mut VecDeque<Rc<Entry>>, lanes: &mut Lanes)
-    ensures { (e : LogEntry Sym) (rest : Items (LogEntry Sym)) → entries_of ring.old.items ≡ e ∷ rest → (entries_of ring.new.items ≡ rest) × IsSetTo lanes.old e.name.0 (drop 1 (lane_of lanes.old e.name.0)) lanes.new }
+fn pop_first(ring: &mut VecDeque<Rc<Entry>>, keyed: &mut Keyed)
+    ensures { (e : LogEntry Sym) (rest : Items (LogEntry Sym)) → entries_of ring.old.items ≡ e ∷ rest → (entries_of ring.new.items ≡ rest) × (AreKeyed (e ∷ rest) keyed.old → AreKeyed rest keyed.new) }
 {
     if let Some(first) = ring.pop_front() {
-        let _ = lanes.pop_first(first.name.0 as usize);
+        keyed.pop_first(&first);
     }
 }
 
 impl Holdings {
-    /// No entries, which take no memory.
-    pub fn new(alloc: Global) -> Holdings
+    /// No entries, which take no memory. By the number of a name, the places of the arguments that each
+    /// look-up of it knows, as bits from the least.
+    pub fn new(alloc: Global, places: Vec<Option<u8>>) -> Holdings
         ensures { result ≡ record { older = []; ring = [] } }
     {
         Holdings {
             ring: VecDeque::new(alloc),
-            lanes: Lanes::new(alloc),
+            keyed: Keyed::new(alloc, places),
             tracks: Tracks::new(alloc),
             changed: Changed::new(alloc),
         }
@@ -105,29 +106,31 @@ impl Holdings {
         ensures ok { OnOk result (self.new ≡ record { older = self.old.older; ring = self.old.ring ++ entry_of entry.value ∷ [] }) }
         ensures err { OnErr result (self.new ≡ self.old) }
     {
-        let name = entry.name.0 as usize;
         self.ring.reserve(1)?;
-        self.lanes.push(name, entry.clone()?)?;
+        self.keyed.push(&entry)?;
         if let Err(refused) = push_change(&mut self.tracks, &mut self.changed, &entry) {
-            self.lanes.drop_last(name);
+            self.keyed.drop_last(&entry);
             return Err(refused);
         }
         self.ring.push_back_reserved(entry);
         Ok(())
     }
 
-    /// The ring's entries of the name.
-    pub fn lane(&self, name: Sym) -> Range<'_>
-        ensures named { Sifts (IsNamed name) self.now.ring result }
+    /// The ring's entries of the name with the known symbols, and maybe others.
+    pub fn find(&self, name: Sym, known: &[Option<Sym>]) -> Found<'_>
+        ensures found { Drops (λ e. IsLike name known.now e → ⊥) self.now.ring result }
         ensures in_order { IsInKeyOrder result }
         ensures all_in_order { IsInKeyOrder (held_of self.now) }
         ensures by_date { IsByDate result }
     {
-        self.lanes.lane(name.0 as usize)
+        match self.keyed.find(name, known) {
+            Some(range) => range,
+            None => Found::of(&self.ring),
+        }
     }
 
     /// The held changes of the attribute.
-    pub fn track(&self, name: Sym, args: &SymList) -> Range<'_>
+    pub fn track(&self, name: Sym, args: &SymList) -> Found<'_>
         ensures changes { Sifts (IsChange (record { name = name; args = args.now })) (held_of self.now) result }
         ensures by_date { IsByDate result }
     {
@@ -150,7 +153,7 @@ impl Holdings {
             return false;
         }
         if first.change.is_none() {
-            pop_first(&mut self.ring, &mut self.lanes);
+            pop_first(&mut self.ring, &mut self.keyed);
             return true;
         }
         if let Some(overtaken) = self.tracks.pop_before(first.name, &first.args, first.date) {
@@ -158,7 +161,7 @@ impl Holdings {
             return true;
         }
         self.changed.age();
-        pop_first(&mut self.ring, &mut self.lanes);
+        pop_first(&mut self.ring, &mut self.keyed);
         true
     }
 }

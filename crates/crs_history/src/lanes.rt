@@ -2,7 +2,7 @@ ghost use Rattle.std.specs.Prelude.{◌≡◌, ◌<◌, ◌-◌, [], ◌∷◌, 
 ghost use Rattle.crs_base.specs.Seen.{entry_of};
 ghost use Rattle.crs_history.specs.Lanes.{lane_of, AreAlike, IsSetTo};
 
-use crate::range::Range;
+use crate::found::Found;
 use crs_base::Entry;
 use std::alloc::{AllocError, Global};
 use std::collections::VecDeque;
@@ -39,12 +39,12 @@ impl Lanes {
     }
 
     /// The entries of a lane.
-    pub fn lane(&self, number: usize) -> Range<'_>
+    pub fn lane(&self, number: usize) -> Found<'_>
         ensures { result ≡ lane_of self.now number }
     {
         match self.queues.as_slice().get(number) {
-            Some(queue) => Range::of(queue),
-            None => Range::none(),
+            Some(queue) => Found::of(queue),
+            None => Found::none(),
         }
     }
 

@@ -2,9 +2,11 @@
 #![tactic(auto)]
 
 mod changed;
+mod found;
 mod held;
 mod history;
 mod holdings;
+mod keyed;
 mod lanes;
 mod looking;
 mod numbers;
@@ -12,6 +14,7 @@ mod range;
 mod reading;
 mod tracks;
 
+pub use found::Found;
 pub use history::History;
 pub use range::Range;
 pub use reading::{brings, changes, to_date};

@@ -6,7 +6,7 @@ ghost use Rattle.crs_history.specs.Histories.{entries_of};
 ghost use Rattle.crs_history.specs.Dates.{IsByDate, nat_of};
 ghost use Rattle.crs_history.specs.Looking.{is_before, is_since, AllBring, AreChanges, HasValueOver};
 
-use crate::range::Range;
+use crate::found::Found;
 use crate::reading::{brings, to_date};
 use crs_base::{Entry, Sym};
 use std::rc::Rc;
@@ -26,7 +26,7 @@ pub(crate) fn split_by_date(items: &[Rc<Entry>], date: u64) -> (&[Rc<Entry>], &[
 }
 
 /// Whether all entries bring this value.
-fn all_bring(entries: Range<'_>, value: Sym) -> bool
+fn all_bring(entries: Found<'_>, value: Sym) -> bool
     ensures yes { result ≡ true → AllBring value entries.entry }
     ensures no { result ≡ false → AllBring value entries.entry → ⊥ }
 {
@@ -47,7 +47,7 @@ fn to_date_after(t: i64) -> u64
 }
 
 /// Whether the attribute, of which these are the changes, has the value at each date of the range.
-pub(crate) fn holds_over(track: &Range<'_>, value: Sym, from: i64, to: i64) -> bool
+pub(crate) fn holds_over(track: &Found<'_>, value: Sym, from: i64, to: i64) -> bool
     requires by_date { IsByDate track.now }
     ensures yes { (a : Attribute Sym) → AreChanges a track.now → result ≡ true → HasValueOver a track.now value from to }
     ensures no { (a : Attribute Sym) → AreChanges a track.now → result ≡ false → HasValueOver a track.now value from to → ⊥ }

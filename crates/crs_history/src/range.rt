@@ -1,82 +1,45 @@
-ghost use Rattle.std.specs.Prelude.{◌≡◌, filter, [], None, IfSome};
+ghost use Rattle.std.specs.Prelude.{◌≡◌, ◌==◌, filter};
 ghost use Rattle.std.specs.Iterator.{YieldsFirstBy, item_count};
 ghost use Rattle.crs_base.specs.Seen.{entry_of};
-ghost use Rattle.crs_history.specs.Histories.{entries_of, EndsWith};
-ghost use Rattle.crs_history.specs.Dates.{IsByDate};
-ghost use Rattle.crs_history.specs.Looking.{is_before, is_since};
+ghost use Rattle.crs_history.specs.Looking.{is_named};
 
-use crate::looking::split_by_date;
-use crs_base::Entry;
-use std::collections::VecDeque;
+use crate::found::Found;
+use crs_base::{Entry, Sym};
 use std::marker::Model;
 use std::rc::Rc;
 
-/// Some of the held entries, in key order, seen as the list of those that are left.
+/// The held entries of a name among some that were found, in key order, seen as the list of those that are
+/// left.
 #[derive(Drop)]
 pub struct Range<'a> {
-    front: &'a [Rc<Entry>],
-    back: &'a [Rc<Entry>],
+    found: Found<'a>,
+    name: Sym,
 }
 
 impl<'a> Model for Range<'a> {
-    ghost use Rattle.std.specs.Prelude.{List, ◌++◌};
+    ghost use Rattle.std.specs.Prelude.{List, filter};
     ghost use Rattle.crs_base.specs.declared.symbols.Sym.{Sym};
     ghost use Rattle.crs_base.specs.Entry.{Entry};
-    ghost use Rattle.crs_history.specs.Histories.{entries_of};
+    ghost use Rattle.crs_history.specs.Looking.{is_named};
 
     ghost Value = { List (Entry Sym) };
 
-    ghost view = { λ r. entries_of r.front.now ++ entries_of r.back.now };
+    ghost view = { λ r. filter (is_named r.name) r.found };
+}
+
+/// Whether the entry has the name.
+fn has_name(entry: &Entry, name: Sym) -> bool
+    ensures { result ≡ is_named name (entry_of entry.now) }
+{
+    entry.name.0 == name.0
 }
 
 impl<'a> Range<'a> {
-    /// No entries.
-    pub(crate) fn none() -> Range<'a>
-        ensures { result ≡ [] }
+    /// Those of the name.
+    pub(crate) fn of(found: Found<'a>, name: Sym) -> Range<'a>
+        ensures { result ≡ filter (is_named name) found.entry }
     {
-        Range {
-            front: &[],
-            back: &[],
-        }
-    }
-
-    /// All entries of a queue.
-    pub(crate) fn of(queue: &'a VecDeque<Rc<Entry>>) -> Range<'a>
-        ensures { result ≡ entries_of queue.now.items }
-    {
-        let (front, back) = queue.as_slices();
-        Range { front, back }
-    }
-
-    /// Those that are dated before the date.
-    pub(crate) fn before(&self, date: u64) -> Range<'a>
-        requires { IsByDate self.now }
-        ensures { result ≡ filter (is_before date) self.now }
-    {
-        let (front, _) = split_by_date(self.front, date);
-        let (back, _) = split_by_date(self.back, date);
-        Range { front, back }
-    }
-
-    /// Those that are dated at or after the date.
-    pub(crate) fn since(&self, date: u64) -> Range<'a>
-        requires { IsByDate self.now }
-        ensures { result ≡ filter (is_since date) self.now }
-    {
-        let (_, front) = split_by_date(self.front, date);
-        let (_, back) = split_by_date(self.back, date);
-        Range { front, back }
-    }
-
-    /// The last of them.
-    pub(crate) fn latest(&self) -> Option<&'a Rc<Entry>>
-        ensures none { result ≡ None → self.now ≡ [] }
-        ensures some { IfSome result (λ r. EndsWith (entry_of r.now.value) self.now) }
-    {
-        match self.back.last() {
-            Some(entry) => Some(entry),
-            None => self.front.last(),
-        }
+        Range { found, name }
     }
 }
 
@@ -88,12 +51,11 @@ impl<'a> Iterator for Range<'a> {
     ghost remaining = { item_count (λ rest. rest) };
 
     fn next(&mut self) -> Option<&'a Rc<Entry>> {
-        if let Some((first, rest)) = self.front.split_first() {
-            self.front = rest;
-            return Some(first);
+        while let Some(entry) = self.found.next() {
+            if has_name(entry, self.name) {
+                return Some(entry);
+            }
         }
-        let (first, rest) = self.back.split_first()?;
-        self.back = rest;
-        Some(first)
+        None
     }
 }

@@ -6,9 +6,9 @@ ghost use Rattle.crs_base.specs.Values.{Attribute};
 ghost use Rattle.crs_history.specs.Histories.{attribute_of};
 ghost use Rattle.crs_history.specs.Tracks.{number_of, track_of, AreSame, IsTrackSetTo, TakesFirst, BeginsSince};
 
+use crate::found::Found;
 use crate::lanes::Lanes;
 use crate::numbers::{Step, add_from, number_from};
-use crate::range::Range;
 use crs_base::{Entry, Sym, SymList};
 use std::alloc::{AllocError, Global};
 use std::collections::BTreeMap;
@@ -57,12 +57,12 @@ impl Tracks {
     }
 
     /// The changes of an attribute.
-    pub fn track(&self, name: Sym, args: &SymList) -> Range<'_>
+    pub fn track(&self, name: Sym, args: &SymList) -> Found<'_>
         ensures { result ≡ track_of self.now (record { name = name; args = args.now }) }
     {
         match number_of(&self.steps, name, args) {
             Some(number) => self.lanes.lane(number),
-            None => Range::none(),
+            None => Found::none(),
         }
     }
 

@@ -2,11 +2,35 @@
 ghost use Rattle.std.specs.Prelude.{◌≡◌, [], IfOk};
 
 use crs_base::{Entry, Sym, SymList, Text};
-use crs_history::{History, Range};
+use crs_history::{Found, History, Range};
 use std::alloc::{AllocError, Global};
 use std::marker::Model;
 use std::rc::Rc;
 use std::test::Fail;
+
+/// An entry without a text.
+fn entry_with(
+    alloc: Global,
+    arrival: u32,
+    date: u64,
+    name: u32,
+    args: SymList,
+    change: Option<(Sym, Sym)>,
+) -> Result<Rc<Entry>, AllocError>
+    ensures { IfOk result (λ r. (r.value.date ≡ date) × (r.value.arrival ≡ arrival) × (r.value.text ≡ [])) }
+{
+    Ok(Rc::new(
+        alloc,
+        Entry {
+            arrival,
+            date,
+            name: Sym(name),
+            args,
+            change,
+            text: Text::new(alloc, b"")?,
+        },
+    )?)
+}
 
 /// An entry without arguments.
 pub(crate) fn entry(
@@ -18,17 +42,7 @@ pub(crate) fn entry(
 ) -> Result<Rc<Entry>, AllocError>
     ensures { IfOk result (λ r. (r.value.date ≡ date) × (r.value.arrival ≡ arrival) × (r.value.text ≡ [])) }
 {
-    Ok(Rc::new(
-        alloc,
-        Entry {
-            arrival,
-            date,
-            name: Sym(name),
-            args: SymList::from_slice(&[]),
-            change,
-            text: Text::new(alloc, b"")?,
-        },
-    )?)
+    entry_with(alloc, arrival, date, name, SymList::from_slice(&[]), change)
 }
 
 /// A history with what it takes to add an entry behind all others.
@@ -62,6 +76,20 @@ impl Filled {
         }
     }
 
+    /// The same, where each name below 10 is looked up by its first argument.
+    fn by_first_argument(alloc: Global) -> Result<Filled, AllocError> {
+        let mut places = Vec::new(alloc);
+        for _ in 0..10 {
+            places.push(Some(1))?;
+        }
+        Ok(Filled {
+            history: History::with_look_ups(alloc, places),
+            alloc,
+            last: 0,
+            count: 0,
+        })
+    }
+
     /// Adds an entry, where it isn't dated before the last one.
     pub(crate) fn add(
         &mut self,
@@ -69,10 +97,21 @@ impl Filled {
         name: u32,
         change: Option<(Sym, Sym)>,
     ) -> Result<(), AllocError> {
+        self.add_with(date, name, SymList::from_slice(&[]), change)
+    }
+
+    /// The same, with these arguments.
+    fn add_with(
+        &mut self,
+        date: u64,
+        name: u32,
+        args: SymList,
+        change: Option<(Sym, Sym)>,
+    ) -> Result<(), AllocError> {
         if date < self.last || self.count == u32::MAX {
             return Ok(());
         }
-        let entry = entry(self.alloc, self.count, date, name, change)?;
+        let entry = entry_with(self.alloc, self.count, date, name, args, change)?;
         self.history.push(entry)?;
         self.last = date;
         self.count += 1;
@@ -153,6 +192,38 @@ fn a_range_has_the_entries_of_its_name(rt: HostRuntime) -> Result<(), Fail> {
     ] {
         assert!(rt; count_of(filled.history.range(Sym(name), from, to)) == count);
     }
+    Ok(())
+}
+
+/// How many entries were found.
+fn found_count(found: Found<'_>) -> usize {
+    let mut count: usize = 0;
+    for _ in found {
+        count = count.saturating_add(1);
+    }
+    count
+}
+
+#[test]
+fn what_has_the_known_symbols_is_found(rt: HostRuntime) -> Result<(), Fail> {
+    let mut filled = Filled::by_first_argument(rt.alloc())?;
+    for (date, name, first, second) in [
+        (1, 5, 11, 7),
+        (2, 5, 12, 7),
+        (3, 5, 11, 8),
+        (4, 6, 11, 7),
+        (4, 5, 13, 7),
+    ] {
+        let args = SymList::from_slice(&[Sym(first), Sym(second)]);
+        filled.add_with(date, name, args, None)?;
+    }
+    let history = &filled.history;
+    let seven = Some(Sym(7));
+    assert!(rt; found_count(history.find(Sym(5), &[Some(Sym(11))], 0, 9)) == 2);
+    assert!(rt; found_count(history.find(Sym(5), &[Some(Sym(11)), seven], 2, 9)) == 1);
+    assert!(rt; found_count(history.find(Sym(5), &[Some(Sym(14))], 0, 9)) == 0);
+    assert!(rt; found_count(history.find(Sym(5), &[None, seven], 0, 9)) == 5);
+    assert!(rt; count_of(history.range(Sym(5), 0, 9)) == 4);
     Ok(())
 }
 

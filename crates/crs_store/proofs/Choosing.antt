@@ -1,10 +1,7 @@
 -- An event is put behind the others, to be decided on first.
-use Rattle.std.proofs.Common.{Bool, ◌≡◌, ◌≢◌, ℕ, zero, suc, ◌<◌, ◌≤◌, List, [], ◌∷◌, ◌++◌, length, take, drop, get_or, refl, sym, ap, subst, inl, inr, arith, length-append}
-use Rattle.std.specs.List.{AllByRecursion}
-use Rattle.crs_base.specs.declared.symbols.Sym.{Sym}
+use Rattle.std.proofs.Common.{◌≡◌, ◌≢◌, ℕ, zero, suc, ◌<◌, List, [], ◌∷◌, ◌++◌, length, take, drop, get_or, refl, sym, ap, subst, inl, inr, arith, length-append}
 use Rattle.crs_base.specs.Words.{IsIn, Ordered}
 use Rattle.crs_base.proofs.Words.{each_from_in, in_append, in_append_left, in_append_right, in_from_each, ordered_append}
-use Rattle.crs_model.specs.Partial.{Partial}
 use Rattle.crs_store.specs.PlanLevels.{AreAwaited, KeepsAwaited}
 
 -- with the event behind the others, the list has the same events

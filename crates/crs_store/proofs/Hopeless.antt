@@ -11,7 +11,7 @@ use Rattle.crs_base.specs.Entry.{Entry}
 use Rattle.crs_model.specs.declared.plan.Plan.{Plan}
 use Rattle.crs_model.specs.Models.{EventDef}
 use Rattle.crs_model.specs.Matching.{PatternIs}
-use Rattle.crs_model.specs.Partial.{Partial, at, IsAwaited, CanGoOn, dates_of}
+use Rattle.crs_model.specs.Partial.{Partial, at, IsAwaited, dates_of}
 use Rattle.crs_model.specs.Plans.{chronicle, IsProper}
 use Rattle.crs_model.specs.SeenModels.{event_of}
 use Rattle.std.proofs.lemmas.List.{length-map}
@@ -21,7 +21,6 @@ use Rattle.crs_model.proofs.Parts.{agrees_part, agrees_at}
 use Rattle.crs_instance.specs.Instances.{InstanceState, IsOf, window_at}
 use Rattle.crs_store.specs.Ahead.{MayBecome, AreAhead, IsHopeless, MayGo}
 use Rattle.crs_store.specs.PlanLevels.{levels_in}
-use Rattle.crs_store.specs.Windows.{IsAble}
 
 pub item_at : {A : Type 0} (xs : List A) (k : ℕ) → k < length xs → (x : A) × (slice_get xs k ≡ Some x)
 item_at [] k l = absurd (omega arith)

@@ -1,5 +1,5 @@
 -- What comes of the instances of a prompt chronicle.
-use Rattle.std.proofs.Common.{Bool, true, false, ◌≡◌, ℕ, List, [], ◌∷◌, ◌++◌, refl, sym, ap, subst, ◌∙◌, inl, inr, arith}
+use Rattle.std.proofs.Common.{Bool, true, false, ◌≡◌, ℕ, List, [], ◌∷◌, ◌++◌, refl, sym, ap, subst, ◌∙◌, inl, arith}
 use Rattle.std.specs.Prelude.{Some, Result, OnOk}
 use Rattle.std.proofs.lemmas.Result.{on_ok_weaker}
 use Rattle.std.specs.List.{AllByRecursion}
@@ -8,7 +8,7 @@ use Rattle.crs_base.specs.declared.symbols.Sym.{Sym}
 use Rattle.crs_base.specs.Words.{IsIn, Ordered}
 use Rattle.crs_base.specs.Entry.{Entry}
 use Rattle.crs_base.proofs.Alls.{all_each, all_both, all_append}
-use Rattle.crs_base.proofs.Words.{in_append_left, in_append_right, in_from_each, each_from_in, in_map, in_map_back}
+use Rattle.crs_base.proofs.Words.{in_append_left, in_append_right, in_from_each, each_from_in, in_map_back}
 use Rattle.crs_history.specs.Histories.{HistoryState}
 use Rattle.crs_history.proofs.FarBack.{far_later}
 use Rattle.crs_model.specs.declared.plan.Plan.{Plan}

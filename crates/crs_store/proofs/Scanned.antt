@@ -15,6 +15,7 @@ use Rattle.crs_base.specs.Words.{IsIn, Ordered}
 use Rattle.crs_base.proofs.Alls.{all_append}
 use Rattle.crs_base.proofs.Words.{in_append, in_append_left, in_append_right, in_from_each}
 use Rattle.crs_history.specs.Histories.{HistoryState}
+use Rattle.crs_history.specs.Keyed.{HaveKnown}
 use Rattle.crs_history.proofs.FarBack.{far_later}
 use Rattle.crs_focus.specs.Candidacy.{IsHeldFor}
 use Rattle.crs_instance.specs.Instances.{InstanceState, IsOf, CanBe, window_at}
@@ -22,10 +23,12 @@ use Rattle.crs_instance.specs.Waits.{AnotherIsLate}
 use Rattle.crs_instance.proofs.BindAnswers.{event_as}
 use Rattle.crs_instance.proofs.Openings.{beginnings_can_be, candidates_fit, more_binds}
 use Rattle.crs_model.specs.declared.plan.Plan.{Plan}
+use Rattle.crs_model.specs.Bindings.{look_of, Looser}
 use Rattle.crs_model.specs.Images.{IsImage}
+use Rattle.crs_model.specs.Matching.{PatternIs}
 use Rattle.crs_model.specs.Models.{EventDef}
 use Rattle.crs_model.specs.declared.chronicle.EventDef.{EventDef as CodeEvent}
-use Rattle.crs_model.specs.Partial.{Partial, at, put, IsAwaited, IsLevelClosed, dates_of}
+use Rattle.crs_model.specs.Partial.{Partial, at, put, EqualsAll, IsAwaited, IsLevelClosed, dates_of}
 use Rattle.crs_model.specs.Plans.{chronicle, IsProper}
 use Rattle.crs_model.specs.Scans.{Decides, DecidesWith, StartsAt}
 use Rattle.crs_model.specs.SeenModels.{event_of}
@@ -33,7 +36,7 @@ use Rattle.crs_model.specs.Steps.{GoesOn}
 use Rattle.crs_model.proofs.Decided.{decided_start, decided_one, never_left, decided_end, decided_up, with_one_more}
 use Rattle.crs_model.proofs.Images.{image_none}
 use Rattle.crs_model.proofs.Least.{Extends}
-use Rattle.crs_model.proofs.Options.{cases_of}
+use Rattle.crs_model.proofs.Options.{cases_of, of_some, some_if}
 use Rattle.crs_model.proofs.Parts.{put_same, put_other, agrees_part}
 use Rattle.crs_model.proofs.Scanning.{put_closed}
 use Rattle.crs_stn.specs.Bound.{Agrees, Meets}
@@ -43,9 +46,18 @@ use Rattle.crs_store.specs.Scannings.{Adds, IsOnTheWay, IsKeptIfAble, IsDecided,
 use Rattle.crs_store.specs.Stores.{parts}
 use Rattle.crs_store.specs.Sweeps.{IsNow}
 use Rattle.crs_store.specs.Windows.{IsAble, IsBegun, IsPassed, IsOpenAt, IsOver}
+use Rattle.crs_watch.specs.Known.{AreTold}
+use Rattle.crs_watch.proofs.Telling.{have_told}
 use Rattle.crs_store.proofs.Kept.{dated_from_floor, history_holds}
 use Rattle.crs_store.proofs.Leaving.{one_stays, one_goes}
 use Rattle.crs_store.proofs.Overs.{open_able, starts_after, floor_early}
+
+-- an instance binds what each binding has that makes the patterns equal all that it has
+less_binds : (plan : Plan) (i : InstanceState) (b : Partial Sym) (look : ℕ → Option Sym) → IsOf plan i → Extends i.partial b → EqualsAll (chronicle plan) b look → Looser (look_of i.binding) look
+less_binds plan i b look of part all v x e = of.binding.least look equal v x e
+  where
+    equal : EqualsAll (chronicle plan) i.partial look
+    equal f = some_if (slice_get (chronicle plan).events f) _ (λ ev k. some_if (at i.partial f) _ (λ y l. of_some (at b f) y _ (part f y l) (of_some (slice_get (chronicle plan).events f) ev _ k (all f))))
 
 -- ---- lists that grow
 
@@ -268,17 +280,20 @@ module _ (plan : Plan) (focus : Bool) (proper : IsProper plan) (history : Histor
       only_part z (inr none) = absurd none
 
   -- what is open beyond it binds the event to a candidate
-  pub enough_at : focus ≡ true → (pool entries : List (Entry Sym)) → IsNow plan focus history x since pool entries → IsOnTheWay plan focus pool x parent next → (given : List (Entry Sym)) (name : Sym) → ((def : EventDef Sym) → slice_get (chronicle plan).events e ≡ Some def → def.pattern.name ≡ name)
-      → ((y : Entry Sym) → IsIn y history.entries → IsHeldFor history.floor name (window_at next.windows e) y → IsIn y given)
+  pub enough_at : focus ≡ true → (pool entries : List (Entry Sym)) → IsNow plan focus history x since pool entries → IsOnTheWay plan focus pool x parent next → (given : List (Entry Sym)) (name : Sym) (known : List (Option Sym)) → ((def : EventDef Sym) → slice_get (chronicle plan).events e ≡ Some def → (def.pattern.name ≡ name) × AreTold (look_of next.binding) def.pattern.terms known)
+      → ((y : Entry Sym) → IsIn y history.entries → IsHeldFor history.floor name (window_at next.windows e) y → HaveKnown known y.args → IsIn y given)
       → (y : Entry Sym) (b : Partial Sym) → Decides (levels_in plan focus) (IsOpenAt plan focus pool entries until) l (rest ++ e ∷ []) next.partial b → at b e ≡ Some y → IsIn y given
-  enough_at read pool entries now way given name named enough y b dec is =
+  enough_at read pool entries now way given name known told enough y b dec is =
       let d = subst (λ (p : List (Entry Sym)). Decides (levels_in plan focus) (IsOpenAt plan focus p entries until) l (rest ++ e ∷ []) next.partial b) (now.whole read) dec in
       let v = event_there in
       let fit = candidates_fit plan next (levels_in plan focus) entries entries until b e y v.0 proper of (d.0).part d.1 v.1 is in
       let has_x : at b (way.bound).0 ≡ Some x = (d.0).part (way.bound).0 x (way.bound).1 in
       let floor = dated_from_floor plan proper (levels_in plan focus) entries entries until since b d.1 (way.bound).0 x has_x now.early e y is history.floor now.read.far in
       let held = history_holds plan proper (levels_in plan focus) entries entries until since b d.1 (way.bound).0 x has_x now.early e y is history now.read.kept now.read.far in
-      enough y held (record { named = sym fit.0 ∙ named v.0 v.1; kept = floor; not_soon = (fit.1).not_soon; not_late = (fit.1).not_late })
+      let more : Looser (look_of next.binding) (d.1).look = less_binds plan next b (d.1).look of (d.0).part (d.1).partial.binding.equal in
+      let equals : PatternIs (d.1).look v.0.pattern y = of_some (at b e) y _ is (of_some (slice_get (chronicle plan).events e) v.0 _ v.1 ((d.1).partial.binding.equal e)) in
+      let has : HaveKnown known y.args = have_told (look_of next.binding) (d.1).look v.0.pattern.terms known y.args (told v.0 v.1).1 more equals.terms in
+      enough y held (record { named = sym fit.0 ∙ (told v.0 v.1).0; kept = floor; not_soon = (fit.1).not_soon; not_late = (fit.1).not_late }) has
 
   -- both: bound to each of the candidates, and left
   pub decided_both : (at_all : List InstanceState) (left : List InstanceState) → IsDecidedAt plan focus history x since until parent next l rest e at_all → IsDecided plan focus history x since until parent next l rest left → IsDecided plan focus history x since until parent next l (rest ++ e ∷ []) (at_all ++ left)
@@ -344,12 +359,23 @@ fresh_next done y left all split order i = by done (subst IsInKeyOrder split ord
         never (entry_cmp y y) (entry_total.antisymm y y) (subst (λ (t : Entry Sym). entry_cmp t y ≡ Less) (sym s) l)
     by (d ∷ ds) o (inr k) = by ds o.1 k
 
--- the name of the event's pattern
-pub named_as : (plan : Plan) (e : ℕ) (events : List CodeEvent) → events ≡ plan.chronicle.events → e < length plan.chronicle.events → (v : CodeEvent) → (def : EventDef Sym) → slice_get (chronicle plan).events e ≡ Some def → def.pattern.name ≡ (get_or events e v).pattern.name
-named_as plan e events same inside v def there = ap (λ (d : EventDef Sym). d.pattern.name) (one (sym there ∙ event_as events plan.chronicle.events e v same inside))
+-- the event itself
+event_is : (plan : Plan) (e : ℕ) (events : List CodeEvent) → events ≡ plan.chronicle.events → e < length plan.chronicle.events → (v : CodeEvent) (def : EventDef Sym) → slice_get (chronicle plan).events e ≡ Some def → def ≡ event_of (get_or events e v)
+event_is plan e events same inside v def there = one (sym there ∙ event_as events plan.chronicle.events e v same inside)
   where
     one : {a b : EventDef Sym} → Some a ≡ Some b → a ≡ b
     one s = cc
+
+-- the name of the event's pattern
+pub named_as : (plan : Plan) (e : ℕ) (events : List CodeEvent) → events ≡ plan.chronicle.events → e < length plan.chronicle.events → (v : CodeEvent) (def : EventDef Sym) → slice_get (chronicle plan).events e ≡ Some def → def.pattern.name ≡ (get_or events e v).pattern.name
+named_as plan e events same inside v def there = ap (λ (d : EventDef Sym). d.pattern.name) (event_is plan e events same inside v def there)
+
+-- the event's name, and what is told of its pattern's terms
+pub told_as : (plan : Plan) (e : ℕ) (events : List CodeEvent) → events ≡ plan.chronicle.events → e < length plan.chronicle.events → (v : CodeEvent) (look : ℕ → Option Sym) (known : List (Option Sym)) (def : EventDef Sym)
+    → slice_get (chronicle plan).events e ≡ Some def → AreTold look (event_of (get_or events e v)).pattern.terms known → (def.pattern.name ≡ (get_or events e v).pattern.name) × AreTold look def.pattern.terms known
+told_as plan e events same inside v look known def there told =
+    let is = event_is plan e events same inside v def there in
+    (ap (λ (d : EventDef Sym). d.pattern.name) is, subst (λ (d : EventDef Sym). AreTold look d.pattern.terms known) (sym is) told)
 
 -- what came of those that aren't left
 pub record IsGoneThrough (plan : Plan) (focus : Bool) (history : HistoryState) (x : Entry Sym) (since until : ℕ) (parent next : InstanceState) (l : ℕ) (rest : List ℕ) (e : ℕ) (start : List InstanceState) (given left : List (Entry Sym)) (now : List InstanceState) : Type 0 where

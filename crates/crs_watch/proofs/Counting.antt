@@ -1,7 +1,7 @@
 -- How many of a list there are.
-use Rattle.std.proofs.Common.{ℕ, ◌+◌, ◌≤◌, List, [], ◌∷◌, length, refl, sym, subst, inl, inr, arith}
+use Rattle.std.proofs.Common.{ℕ, ◌+◌, List, [], ◌∷◌, refl, subst, inl, inr, arith}
 use Rattle.crs_base.specs.Words.{IsIn}
-use Rattle.crs_base.specs.Sifted.{Sifts}
+use Rattle.crs_history.specs.Dropping.{Drops}
 use Rattle.crs_model.specs.Verdicts.{Count}
 
 module _ {A : Type 0} where
@@ -13,7 +13,11 @@ module _ {A : Type 0} where
   count_iff P Q (x ∷ xs) n f g (inl h) = inl (f x (inl refl) h.0, h.1, h.2, count_iff P Q xs h.1 (λ y i. f y (inr i)) (λ y i. g y (inr i)) h.3)
   count_iff P Q (x ∷ xs) n f g (inr h) = inr (λ q. h.0 (g x (inl refl) q), count_iff P Q xs n (λ y i. f y (inr i)) (λ y i. g y (inr i)) h.1)
 
-  pub sifts_short : (P : A → Type 0) (xs ys : List A) → Sifts P xs ys → length ys ≤ length xs
-  sifts_short P [] ys h = subst (λ (w : List A). length w ≤ 0) (sym h) (omega arith)
-  sifts_short P (x ∷ xs) ys (inl h) = let s = sifts_short P xs h.1 h.3 in subst (λ (w : List A). length w ≤ length (x ∷ xs)) (sym h.2) (omega arith)
-  sifts_short P (x ∷ xs) ys (inr h) = let s = sifts_short P xs ys h.1 in omega arith
+  -- what is left out doesn't count
+  pub count_left : (P L : A → Type 0) (xs ys : List A) (n : ℕ) → ((x : A) → P x → L x) → Drops (λ x. L x → ⊥) xs ys → Count P ys n → Count P xs n
+  count_left P L [] ys n f d h = subst (λ (w : List A). Count P w n) d h
+  count_left P L (x ∷ xs) ys n f (inl d) h = elim (subst (λ (w : List A). Count P w n) d.1 h) [
+    | inl k ↦ inl (k.0, k.1, k.2, count_left P L xs d.0 k.1 f d.2 k.3)
+    | inr k ↦ inr (k.0, count_left P L xs d.0 n f d.2 k.1)
+  ]
+  count_left P L (x ∷ xs) ys n f (inr d) h = inr ((λ p. d.0 (f x p)), count_left P L xs ys n f d.1 h)

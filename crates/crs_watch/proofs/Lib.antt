@@ -4,3 +4,4 @@ mod Verdicts
 mod Counting
 mod Holds
 mod Starts
+pub mod Telling

@@ -1,3 +1,4 @@
 pub mod Judged
 pub mod Begun
 pub mod Watching
+pub mod Known

@@ -14,9 +14,9 @@ ghost use Rattle.crs_model.specs.HasProgress.{IsProgress, IsCounted, IsBroken, I
 ghost use Rattle.crs_model.specs.Ready.{HoldsOne};
 ghost use Rattle.crs_watch.specs.Begun.{HasStray, Falls};
 
-use crate::naming::{args_of, value_of};
+use crate::naming::{args_of, known_of, value_of};
 use crs_base::{List, Sym, SymList};
-use crs_history::{History, Range, brings, changes};
+use crs_history::{Found, History, brings, changes};
 use crs_model::{Binding, Body, Pattern, Progress, Stretch, Term, Window, accepts};
 
 /// One more, where there is room.
@@ -29,12 +29,12 @@ pub(crate) fn one_more(count: u32) -> u32
 }
 
 /// How many of the entries equal the pattern.
-fn count_of(range: Range<'_>, pattern: &Pattern, binding: &Binding) -> u32
+fn count_of(found: Found<'_>, pattern: &Pattern, binding: &Binding) -> u32
     requires bound { PatternIsBound (look_of binding.now) (pattern_of pattern.now) }
-    ensures { length range.entry < 2 ^ 32 → Count (PatternIs (look_of binding.now) (pattern_of pattern.now)) range.entry result }
+    ensures { length found.entry < 2 ^ 32 → Count (PatternIs (look_of binding.now) (pattern_of pattern.now)) found.entry result }
 {
     let mut count = 0;
-    for e in range {
+    for e in found {
         if accepts(pattern, binding, e) {
             count = one_more(count);
         }
@@ -47,8 +47,10 @@ fn count_over(pattern: &Pattern, binding: &Binding, stretch: Stretch, history: &
     requires bound { PatternIsBound (look_of binding.now) (pattern_of pattern.now) }
     ensures { length history.now.entries < 2 ^ 32 → history.now.floor ≤ℤ stretch.from → (settled : Items (LogEntry Sym)) → StandsFor settled history.now → IsCount settled (look_of binding.now) (pattern_of pattern.now) stretch.from stretch.to result }
 {
-    let range = history.range(pattern.name, stretch.from, stretch.to);
-    count_of(range, pattern, binding)
+    // those of other units aren't walked: where 16,000 entries lie in the stretch, it took 1.2 seconds
+    let known = known_of(pattern.terms.as_slice(), binding);
+    let found = history.find(pattern.name, &known, stretch.from, stretch.to);
+    count_of(found, pattern, binding)
 }
 
 /// How many entries count for the body.
@@ -64,11 +66,11 @@ fn count_for(body: &Body, binding: &Binding, stretch: Stretch, history: &History
 }
 
 /// Whether one of the entries is a change of the attribute that brings another value.
-fn has_stray(range: Range<'_>, name: Sym, args: &SymList, value: Sym) -> bool
-    ensures yes { result ≡ true → HasStray (record { name = name; args = args.now }) value range.entry }
-    ensures no { result ≡ false → AllAgree (record { name = name; args = args.now }) value range.entry }
+fn has_stray(found: Found<'_>, name: Sym, args: &SymList, value: Sym) -> bool
+    ensures yes { result ≡ true → HasStray (record { name = name; args = args.now }) value found.entry }
+    ensures no { result ≡ false → AllAgree (record { name = name; args = args.now }) value found.entry }
 {
-    for e in range {
+    for e in found {
         if changes(e, name, args) {
             if !brings(e, value) {
                 return true;
@@ -111,7 +113,8 @@ fn keeps_value(
     if !history.value_over(name, args, value, stretch.from, until) {
         return false;
     }
-    let ahead = history.range(name, later(stretch.from, h), stretch.to);
+    // what is dated from h on is little: the attribute's changes aren't looked for among it
+    let ahead = history.find(name, &[], later(stretch.from, h), stretch.to);
     !has_stray(ahead, name, args, value)
 }
 

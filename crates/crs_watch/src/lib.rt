@@ -11,6 +11,7 @@ mod watch;
 
 pub use beginning::begin;
 pub use judging::judge;
+pub use naming::known_of;
 pub use passing::pass;
 pub use settling::settle;
 pub use touched::Touched;

@@ -1,10 +1,11 @@
-ghost use Rattle.std.specs.Prelude.{◌≤◌, length, map};
+ghost use Rattle.std.specs.Prelude.{◌≤◌, length, map, IfSome};
 ghost use Rattle.std.specs.List.{AllZip, AllByRecursion};
 ghost use Rattle.crs_model.specs.Bindings.{look_of};
 ghost use Rattle.crs_model.specs.Matching.{TermIs};
 ghost use Rattle.crs_model.specs.SeenModels.{term_of};
 ghost use Rattle.crs_model.specs.Verdicts.{TermIsBound};
 ghost use Rattle.crs_model.specs.ProperModels.{IsDefinite};
+ghost use Rattle.crs_watch.specs.Known.{Tells, AreTold};
 
 use crs_base::{Sym, SymList};
 use crs_model::{Binding, Term};
@@ -23,6 +24,31 @@ pub(crate) fn value_of(term: Term, binding: &Binding) -> Sym
         },
         Term::Any => unreachable!(),
     }
+}
+
+/// The symbol that a term tells. None where that is any, or a variable that isn't bound.
+fn told_by(term: Term, binding: &Binding) -> Option<Sym>
+    ensures { IfSome result (Tells (look_of binding.now) (term_of term)) }
+{
+    match term {
+        Term::Value(symbol) => Some(symbol),
+        Term::Var(v) => binding.get(v),
+        Term::Any => None,
+    }
+}
+
+/// The symbols that the first eight terms tell under the binding, each at its place: all entries that the
+/// terms equal under a binding that has as much have them.
+pub fn known_of(terms: &[Term], binding: &Binding) -> [Option<Sym>; 8]
+    ensures { AreTold (look_of binding.now) (map term_of terms.now) result }
+{
+    let mut known = [None; 8];
+    for (place, term) in terms.iter().enumerate() {
+        if place < 8 {
+            known[place] = told_by(*term, binding);
+        }
+    }
+    known
 }
 
 /// The symbols that terms name.

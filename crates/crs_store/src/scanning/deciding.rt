@@ -12,10 +12,11 @@ use crate::living::judging::{Judging, Passing};
 use crate::living::levels::{awaited_events, next_level};
 use crate::living::windows::{begin_windows, go_on_to, is_able};
 use crs_base::{Entry, Steps};
-use crs_focus::candidates;
+use crs_focus::candidates_with;
 use crs_history::History;
 use crs_instance::Instance;
 use crs_model::Plan;
+use crs_watch::known_of;
 use std::alloc::{AllocError, Global};
 use std::rc::Rc;
 use std::sync::ledger::Ledger;
@@ -93,10 +94,10 @@ fn how_many(scan: &Scan<'_>, next: &Instance, event: u8) -> usize
     requires next { IsOf scan.now.plan.now next.now }
     requires event { event < length scan.now.plan.now.chronicle.events }
 {
-    let name = scan.plan.chronicle.events.as_slice()[event as usize]
-        .pattern
-        .name;
-    let mut found = candidates(scan.history, name, next.date_window(event), scan.entry);
+    let pattern = &scan.plan.chronicle.events.as_slice()[event as usize].pattern;
+    let known = known_of(pattern.terms.as_slice(), next.binding());
+    let window = next.date_window(event);
+    let mut found = candidates_with(scan.history, pattern.name, &known, window, scan.entry);
     for count in 0..MOST {
         if found.next().is_none() {
             return count;
@@ -219,10 +220,10 @@ fn decide_at<L: Ledger>(
     ensures decided { OnOk result (Adds scan.now.plan.now scan.now.focus scan.now.until (IsDecidedAt scan.now.plan.now scan.now.focus scan.now.history.now (entry_of scan.now.entry.now) scan.now.since scan.now.until scan.now.parent.now next.now choice.now.level choice.now.rest.now.items choice.now.event) out.old.items out.new.items) }
 {
     let event = choice.event;
-    let name = scan.plan.chronicle.events.as_slice()[event as usize]
-        .pattern
-        .name;
-    for candidate in candidates(scan.history, name, next.date_window(event), scan.entry) {
+    let pattern = &scan.plan.chronicle.events.as_slice()[event as usize].pattern;
+    let known = known_of(pattern.terms.as_slice(), next.binding());
+    let window = next.date_window(event);
+    for candidate in candidates_with(scan.history, pattern.name, &known, window, scan.entry) {
         decide_with(scan, next, choice, candidate, steps, out)?;
     }
     Ok(())

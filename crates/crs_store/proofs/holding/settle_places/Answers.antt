@@ -1,7 +1,5 @@
-use Rattle.std.proofs.Common.{rules, ◌+◌, ◌≡◌, drop, get_or, sym, ◌∙◌, arith, ℕ, ◌≤◌, subst}
-use Rattle.std.specs.Prelude.{Some}
+use Rattle.std.proofs.Common.{rules, ◌+◌, drop, get_or, sym, ◌∙◌, ℕ, ◌≤◌, subst}
 use Rattle.std.proofs.lemmas.List.{drop_more, drop_all}
-use Rattle.crs_store.specs.Slots.{SlotsState, slot_at}
 use Rattle.crs_store.proofs.Settling.{stands_at, settled_begin, settled_next, settled_whole}
 use Rattle.crs_store.proofs.holding.settle_places.Goals as goal
 

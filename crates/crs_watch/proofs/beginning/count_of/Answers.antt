@@ -26,17 +26,17 @@ loop-e-preserved-then-accepts c =
     let rest = c.next.new.self in
     let step : c.loop-e.e-iterator ≡ x ∷ rest = c.in-Some.ensures.steps in
     let same : length c.loop-e.e-iterator ≡ suc (length rest) = ap length step in
-    let few : c.loop-e.count + length c.loop-e.e-iterator ≤ length c.args.range = c.loop-e.invariant.3 in
+    let few : c.loop-e.count + length c.loop-e.e-iterator ≤ length c.args.found = c.loop-e.invariant.3 in
     let hit : P x = subst (λ w. P (entry_of w)) c.deref.ensures (c.accepts.ensures.0 c.if-accepts.true) in (
       tt,
       tt,
       λ small n h.
           let room : c.loop-e.count < 4294967295 = within _ _ _ _ same few small in
-          subst (λ (m : ℕ). Count P c.args.range m) (moved c.loop-e.count n ∙ ap (λ (k : ℕ). k + n) (sym (c.one_more-count.ensures.more room))) (c.loop-e.invariant.2 small (n + 1) (subst (λ w. Count P w (n + 1)) (sym step) (count_more P x rest n hit h))),
+          subst (λ (m : ℕ). Count P c.args.found m) (moved c.loop-e.count n ∙ ap (λ (k : ℕ). k + n) (sym (c.one_more-count.ensures.more room))) (c.loop-e.invariant.2 small (n + 1) (subst (λ w. Count P w (n + 1)) (sym step) (count_more P x rest n hit h))),
       less _ _ _ _ _ same few c.one_more-count.ensures.most,
     )
 
 pub returns : goal.returns
 returns c = λ small.
     let P = PatternIs (look_of c.args.binding.now) (pattern_of c.args.pattern.now) in
-    subst (λ (m : ℕ). Count P c.args.range m) (none c.loop-e.count) (c.loop-e.invariant.2 small 0 (subst (λ w. Count P w 0) (sym c.in-None.ensures.steps.0) refl))
+    subst (λ (m : ℕ). Count P c.args.found m) (none c.loop-e.count) (c.loop-e.invariant.2 small 0 (subst (λ w. Count P w 0) (sym c.in-None.ensures.steps.0) refl))

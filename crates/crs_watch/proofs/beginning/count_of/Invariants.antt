@@ -9,5 +9,5 @@ use Rattle.crs_watch.proofs.beginning.count_of.Given as goal
 abbrev pub invariant-loop-e : goal.invariant-loop-e
 invariant-loop-e l =
     (goal.iterator-loop-e).can_next l.e-iterator × (goal.iterator-loop-e).is_finite l.e-iterator
-    × (length l.fn.range < 2 ^ 32 → (n : ℕ) → Count (PatternIs (look_of l.binding) (pattern_of l.pattern)) l.e-iterator n → Count (PatternIs (look_of l.binding) (pattern_of l.pattern)) l.fn.range (l.count + n))
-    × (l.count + length l.e-iterator ≤ length l.fn.range)
+    × (length l.fn.found < 2 ^ 32 → (n : ℕ) → Count (PatternIs (look_of l.binding) (pattern_of l.pattern)) l.e-iterator n → Count (PatternIs (look_of l.binding) (pattern_of l.pattern)) l.fn.found (l.count + n))
+    × (l.count + length l.e-iterator ≤ length l.fn.found)

@@ -9,5 +9,5 @@ use Rattle.crs_watch.proofs.beginning.has_stray.Given as goal
 abbrev pub invariant-loop-e : goal.invariant-loop-e
 invariant-loop-e l =
     (goal.iterator-loop-e).can_next l.e-iterator × (goal.iterator-loop-e).is_finite l.e-iterator
-    × ((e : Entry Sym) → IsIn e l.fn.range → IsIn e l.e-iterator ⊎ Agrees (record { name = l.name; args = l.args }) l.value e)
-    × ((e : Entry Sym) → IsIn e l.e-iterator → IsIn e l.fn.range)
+    × ((e : Entry Sym) → IsIn e l.fn.found → IsIn e l.e-iterator ⊎ Agrees (record { name = l.name; args = l.args }) l.value e)
+    × ((e : Entry Sym) → IsIn e l.e-iterator → IsIn e l.fn.found)

@@ -31,7 +31,7 @@ returns-then-deref-date-clause-done c = λ _.
     subst (λ (w : HoldingsState). AllByRecursion (λ e. c.args.date ≤ e.date) w.ring) c.self.view_is
     (subst (λ (w : List (Entry Sym)). AllByRecursion (λ e. c.args.date ≤ e.date) w) (sym is) all)
 
-plain : (c : goal.After-pop_first) → Stepped c.args.self.now c.args.date c.self.inside.changed.older c.self.inside.changed.later (entries_of c.pop_first.new.ring.items) c.pop_first.new.lanes c.self.inside.tracks
+plain : (c : goal.After-pop_first) → Stepped c.args.self.now c.args.date c.self.inside.changed.older c.self.inside.changed.later (entries_of c.pop_first.new.ring.items) c.pop_first.new.keyed c.self.inside.tracks
 plain c =
     let h = c.self.inside in
     let items = h.ring.items in
@@ -44,7 +44,7 @@ plain c =
     let early : x.date < c.args.date = (let d : c.deref.result.now.date ≡ x.date = ap (λ w. w.date) c.deref.ensures in let t : c.deref.result.now.date < c.args.date = c.if-deref-date.false in omega arith) in
     let p = c.pop_first.ensures x rest is in
     let no : IsChanging x → ⊥ = λ s. true≢false (sym s ∙ ap (λ w. Rattle.std.specs.Option.is_some w.change) (sym c.deref-2.ensures) ∙ c.if-is_none.ensures) in
-    plain_step c.args.self.now h.changed.older h.changed.later (entries_of items) rest x h.lanes h.tracks c.self.view_is c.self.invariant is c.args.date early (entries_of c.pop_first.new.ring.items) c.pop_first.new.lanes p.0 p.1 no
+    plain_step c.args.self.now h.changed.older h.changed.later (entries_of items) rest x h.keyed h.tracks c.self.view_is c.self.invariant is c.args.date early (entries_of c.pop_first.new.ring.items) c.pop_first.new.keyed p.0 p.1 no
 
 pub invariant_of-self : goal.invariant_of-self
 invariant_of-self c = (plain c).held
@@ -58,7 +58,7 @@ returns-then-is_none-clause-past c = (plain c).past
 pub returns-then-is_none-clause-shrinks : goal.returns-then-is_none-clause-shrinks
 returns-then-is_none-clause-shrinks c = λ _. (plain c).shrinks
 
-aged : (c : goal.After-pop_first-2) → Stepped c.args.self.now c.args.date c.age.new.self.older c.age.new.self.later (entries_of c.pop_first-2.new.ring.items) c.pop_first-2.new.lanes c.pop_before.new.self
+aged : (c : goal.After-pop_first-2) → Stepped c.args.self.now c.args.date c.age.new.self.older c.age.new.self.later (entries_of c.pop_first-2.new.ring.items) c.pop_first-2.new.keyed c.pop_before.new.self
 aged c =
     let h = c.self.inside in
     let items = h.ring.items in
@@ -75,11 +75,11 @@ aged c =
     let begins : BeginsSince x.date (track_of h.tracks (attribute_of x)) =
     subst (λ (w : Attribute Sym). BeginsSince x.date (track_of h.tracks w)) same (subst (λ w. BeginsSince w.date (track_of h.tracks (record { name = c.deref-3.result.now.name; args = c.deref-4.result.now.args }))) c.deref-5.ensures (c.in_default-pop_before.ensures.none refl)) in
     let p = c.pop_first-2.ensures x rest is in
-    let l = next_later c.args.self.now h.changed.older h.changed.later (entries_of items) rest x h.lanes h.tracks c.self.view_is c.self.invariant is c.args.date early changing begins in
+    let l = next_later c.args.self.now h.changed.older h.changed.later (entries_of items) rest x h.keyed h.tracks c.self.view_is c.self.invariant is c.args.date early changing begins in
     let q = c.age.ensures x l.0 l.1 in
-    subst (λ (w : TracksState). Stepped c.args.self.now c.args.date c.age.new.self.older c.age.new.self.later (entries_of c.pop_first-2.new.ring.items) c.pop_first-2.new.lanes w) (sym (c.in_default-pop_before.ensures.same refl))
-    (aged_step c.args.self.now h.changed.older h.changed.later (entries_of items) rest x h.lanes h.tracks c.self.view_is c.self.invariant is c.args.date early changing begins
-    c.age.new.self.older c.age.new.self.later (entries_of c.pop_first-2.new.ring.items) c.pop_first-2.new.lanes (ap (λ w. w.older) q) (l.1 ∙ ap (λ w. x ∷ w) (sym (ap (λ w. w.later) q))) p.0 p.1)
+    subst (λ (w : TracksState). Stepped c.args.self.now c.args.date c.age.new.self.older c.age.new.self.later (entries_of c.pop_first-2.new.ring.items) c.pop_first-2.new.keyed w) (sym (c.in_default-pop_before.ensures.same refl))
+    (aged_step c.args.self.now h.changed.older h.changed.later (entries_of items) rest x h.keyed h.tracks c.self.view_is c.self.invariant is c.args.date early changing begins
+    c.age.new.self.older c.age.new.self.later (entries_of c.pop_first-2.new.ring.items) c.pop_first-2.new.keyed (ap (λ w. w.older) q) (l.1 ∙ ap (λ w. x ∷ w) (sym (ap (λ w. w.later) q))) p.0 p.1)
 
 pub invariant_of-self-2 : goal.invariant_of-self-2
 invariant_of-self-2 c = (aged c).held
@@ -113,9 +113,9 @@ drop_older-requires c =
     (λ i. record { name = (ap (λ w. w.name) c.deref-3.ensures) i; args = (ap (λ w. w.args) c.deref-4.ensures) i }) in
     let takes : TakesFirst h.tracks (attribute_of x) y c.pop_before.new.self = subst (λ (w : Attribute Sym). TakesFirst h.tracks w y c.pop_before.new.self) same c.in-Some-pop_before.ensures.first in
     let overtaken : y.date < x.date = (let d : c.deref-5.result.now.date ≡ x.date = ap (λ w. w.date) c.deref-5.ensures in let t : y.date < c.deref-5.result.now.date = c.in-Some-pop_before.ensures.before in omega arith) in
-    is_older c.args.self.now h.changed.older h.changed.later (entries_of items) rest x h.lanes h.tracks c.self.view_is c.self.invariant is c.args.date early changing y c.pop_before.new.self takes overtaken
+    is_older c.args.self.now h.changed.older h.changed.later (entries_of items) rest x h.keyed h.tracks c.self.view_is c.self.invariant is c.args.date early changing y c.pop_before.new.self takes overtaken
 
-left : (c : goal.After-drop_older) → Stepped c.args.self.now c.args.date c.drop_older.new.self.older c.drop_older.new.self.later (entries_of c.self.inside.ring.items) c.self.inside.lanes c.pop_before.new.self
+left : (c : goal.After-drop_older) → Stepped c.args.self.now c.args.date c.drop_older.new.self.older c.drop_older.new.self.later (entries_of c.self.inside.ring.items) c.self.inside.keyed c.pop_before.new.self
 left c =
     let h = c.self.inside in
     let items = h.ring.items in
@@ -132,8 +132,8 @@ left c =
     (λ i. record { name = (ap (λ w. w.name) c.deref-3.ensures) i; args = (ap (λ w. w.args) c.deref-4.ensures) i }) in
     let takes : TakesFirst h.tracks (attribute_of x) y c.pop_before.new.self = subst (λ (w : Attribute Sym). TakesFirst h.tracks w y c.pop_before.new.self) same c.in-Some-pop_before.ensures.first in
     let overtaken : y.date < x.date = (let d : c.deref-5.result.now.date ≡ x.date = ap (λ w. w.date) c.deref-5.ensures in let t : y.date < c.deref-5.result.now.date = c.in-Some-pop_before.ensures.before in omega arith) in
-    subst (λ (w : List (Entry Sym)). Stepped c.args.self.now c.args.date c.drop_older.new.self.older w (entries_of items) h.lanes c.pop_before.new.self) (sym c.drop_older.ensures.later)
-    (left_step c.args.self.now h.changed.older h.changed.later (entries_of items) rest x h.lanes h.tracks c.self.view_is c.self.invariant is c.args.date early changing y c.pop_before.new.self takes overtaken
+    subst (λ (w : List (Entry Sym)). Stepped c.args.self.now c.args.date c.drop_older.new.self.older w (entries_of items) h.keyed c.pop_before.new.self) (sym c.drop_older.ensures.later)
+    (left_step c.args.self.now h.changed.older h.changed.later (entries_of items) rest x h.keyed h.tracks c.self.view_is c.self.invariant is c.args.date early changing y c.pop_before.new.self takes overtaken
     c.drop_older.new.self.older c.drop_older.ensures.older c.drop_older.ensures.only)
 
 pub invariant_of-self-in-Some-pop_before : goal.invariant_of-self-in-Some-pop_before

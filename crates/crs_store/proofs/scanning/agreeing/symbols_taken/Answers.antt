@@ -1,8 +1,5 @@
 use Rattle.std.proofs.Common.{length, refl}
-use Rattle.crs_model.specs.SeenModels.{event_of}
-use Rattle.crs_instance.proofs.BindAnswers.{event_as, pattern_as}
-use Rattle.crs_model.proofs.Options.{some_if}
-use Rattle.std.specs.Prelude.{slice_index_or}
+use Rattle.crs_instance.proofs.BindAnswers.{pattern_as}
 use Rattle.crs_store.proofs.scanning.agreeing.symbols_taken.Goals as goal
 
 pub matched-requires-clause-below : goal.matched-requires-clause-below

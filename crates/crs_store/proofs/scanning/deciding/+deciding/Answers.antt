@@ -1,5 +1,5 @@
 use Rattle.std.proofs.Common.{rules, get_or, ◌≡◌, ◌<◌, ◌+◌, ◌-◌, ◌*◌, ◌^◌, ◌++◌, ◌∷◌, [], Bool, true, false, List, ℕ, length, refl, sym, ap, subst, ◌∙◌, inl, arith, length-append, append_assoc, append-nil}
-use Rattle.std.specs.Prelude.{Option, Some, None}
+use Rattle.std.specs.Prelude.{Option, Some, None, map}
 use Rattle.std.proofs.lemmas.Result.{on_ok_weaker}
 use Rattle.crs_base.specs.declared.symbols.Sym.{Sym}
 use Rattle.crs_base.specs.Entry.{Entry}
@@ -7,13 +7,16 @@ use Rattle.crs_base.specs.Seen.{entry_of}
 use Rattle.crs_base.specs.Words.{IsIn}
 use Rattle.crs_base.proofs.Sifted.{sifted_in}
 use Rattle.crs_base.proofs.Words.{in_append_right}
-use Rattle.crs_focus.specs.Candidacy.{IsCandidate, IsHeldFor}
-use Rattle.crs_focus.proofs.UpTo.{by_date}
+use Rattle.crs_focus.specs.Candidacy.{IsHeldFor}
+use Rattle.crs_focus.proofs.KnownSymbols.{candidate_held}
+use Rattle.crs_model.specs.Bindings.{look_of}
+use Rattle.crs_model.specs.SeenModels.{term_of}
+use Rattle.crs_watch.specs.Known.{AreTold}
 use Rattle.crs_history.specs.Histories.{IsKept}
 use Rattle.crs_instance.specs.Instances.{InstanceState, IsForked}
 use Rattle.crs_store.specs.PlanLevels.{levels_in, AreToDecide, AreAwaited, IsLevelAbove, IsNoLevelAbove}
 use Rattle.crs_store.specs.Scannings.{Adds, IsKeptIfAble, IsDecided, IsDecidedAt, AreDecidedWith}
-use Rattle.crs_store.proofs.Scanned.{adds_none, adds_as, adds_both, none_above, last_awaited, rest_to_decide, bound_to_decide, unbound_with, bound_with, none_with, more_with, enough_at, decided_both, never_decided, ended, gone_up, to_decide, fresh_next, named_as}
+use Rattle.crs_store.proofs.Scanned.{adds_none, adds_as, adds_both, none_above, last_awaited, rest_to_decide, bound_to_decide, unbound_with, bound_with, none_with, more_with, enough_at, decided_both, never_decided, ended, gone_up, to_decide, fresh_next, told_as}
 use Rattle.crs_store.proofs.scanning.deciding.+deciding.Goals as goal
 
 no_both : (b : Bool) → b ≡ true → b ≡ false → ⊥
@@ -77,15 +80,8 @@ decide_at-bounds-as_slice-event g t c =
     let b = c.requires.next.len in
     let d = ap length c.as_slice.ensures in omega arith
 
-pub decide_at-bounds-as_slice-event-2 : goal.decide_at-bounds-as_slice-event-2
-decide_at-bounds-as_slice-event-2 g t c =
-    let w = last_awaited (levels_in c.args.scan.now.plan.now c.args.scan.now.focus) c.args.next.now.partial c.args.choice.now.level c.args.choice.now.rest.now.items c.args.choice.now.event c.requires.todo in
-    let a = w.within in
-    let b = c.requires.next.len in
-    let d = ap length c.as_slice.ensures in omega arith
-
-pub decide_at-date_window-requires : goal.decide_at-date_window-requires
-decide_at-date_window-requires g t c =
+pub decide_at-date_window-window-requires : goal.decide_at-date_window-window-requires
+decide_at-date_window-window-requires g t c =
     let w = last_awaited (levels_in c.args.scan.now.plan.now c.args.scan.now.focus) c.args.next.now.partial c.args.choice.now.level c.args.choice.now.rest.now.items c.args.choice.now.event c.requires.todo in
     let a = w.within in
     let b = c.requires.next.len in
@@ -104,10 +100,10 @@ pub decide_at-decide_with-requires : goal.decide_at-decide_with-requires
 decide_at-decide_with-requires g t c = λ κs le.
     let x = entry_of c.in-Some.candidate.now.value in
     let step : c.loop-candidate.candidate-iterator ≡ x ∷ c.next.new.self = c.in-Some.ensures.steps in
-    let iter : c.into_iter-candidate-iterator.result ≡ c.candidates-candidate-items.result = search rules in
-    let there : IsIn x c.candidates-candidate-items.result = subst (IsIn x) (sym (c.loop-candidate.invariant.split ∙ ap (λ (ys : List (Entry Sym)). c.loop-candidate.invariant.done ++ ys) step) ∙ iter) (in_append_right c.loop-candidate.invariant.done (x ∷ c.next.new.self) x (inl refl)) in
-    let s = sifted_in (IsCandidate c.args.scan.now.history.now.floor (get_or c.as_slice.result.now c.args.choice.now.event c.index-as_slice-event.result).pattern.name c.date_window.result (entry_of c.args.scan.now.entry.now)) c.args.scan.now.history.now.entries c.candidates-candidate-items.result x c.candidates-candidate-items.ensures.held there in
-    let early : x.date < 2 ^ 40 = (let a = by_date x (entry_of c.args.scan.now.entry.now) (s.1).up_to in let b = c.requires.scan.date in omega arith) in
+    let iter : c.into_iter-candidate-iterator.result ≡ c.candidates_with-candidate-items.result = search rules in
+    let there : IsIn x c.candidates_with-candidate-items.result = subst (IsIn x) (sym (c.loop-candidate.invariant.split ∙ ap (λ (ys : List (Entry Sym)). c.loop-candidate.invariant.done ++ ys) step) ∙ iter) (in_append_right c.loop-candidate.invariant.done (x ∷ c.next.new.self) x (inl refl)) in
+    let s = candidate_held _ _ _ _ (entry_of c.args.scan.now.entry.now) _ _ c.candidates_with-candidate-items.ensures.held x there in
+    let early : x.date < 2 ^ 40 = (let a = (s.1).by in let b = c.requires.scan.date in omega arith) in
     let fewer : 4 * ((256 - c.args.choice.now.level) * 17 + length c.args.choice.now.rest.now.items) + 2 < t = omega (arith, c.decreases) in
     (fewer, (le, (c.requires.scan, (c.requires.next, (c.requires.todo, (c.requires.read, (early, s.0)))))))
 
@@ -115,7 +111,7 @@ pub decide_at-loop-candidate-preserved : goal.decide_at-loop-candidate-preserved
 decide_at-loop-candidate-preserved g t c =
     let x = entry_of c.in-Some.candidate.now.value in
     let step : c.loop-candidate.candidate-iterator ≡ x ∷ c.next.new.self = c.in-Some.ensures.steps in
-    let iter : c.into_iter-candidate-iterator.result ≡ c.candidates-candidate-items.result = search rules in
+    let iter : c.into_iter-candidate-iterator.result ≡ c.candidates_with-candidate-items.result = search rules in
     let split : c.into_iter-candidate-iterator.result ≡ c.loop-candidate.invariant.done ++ x ∷ c.next.new.self = c.loop-candidate.invariant.split ∙ ap (λ (ys : List (Entry Sym)). c.loop-candidate.invariant.done ++ ys) step in
     record {
       done = c.loop-candidate.invariant.done ++ x ∷ [];
@@ -124,24 +120,28 @@ decide_at-loop-candidate-preserved g t c =
           (AreDecidedWith c.args.scan.now.plan.now c.args.scan.now.focus c.args.scan.now.history.now (entry_of c.args.scan.now.entry.now) c.args.scan.now.since c.args.scan.now.until c.args.scan.now.parent.now c.args.next.now c.args.choice.now.level c.args.choice.now.rest.now.items c.args.choice.now.event (x ∷ []))
           (AreDecidedWith c.args.scan.now.plan.now c.args.scan.now.focus c.args.scan.now.history.now (entry_of c.args.scan.now.entry.now) c.args.scan.now.since c.args.scan.now.until c.args.scan.now.parent.now c.args.next.now c.args.choice.now.level c.args.choice.now.rest.now.items c.args.choice.now.event (c.loop-candidate.invariant.done ++ x ∷ [])) c.args.out.now.items c.loop-candidate.out.items c.decide_with.new.out.items
           (λ one two a b. more_with c.args.scan.now.plan.now c.args.scan.now.focus c.requires.scan.proper c.args.scan.now.history.now (entry_of c.args.scan.now.entry.now) c.args.scan.now.since c.args.scan.now.until c.args.scan.now.parent.now c.args.next.now c.args.choice.now.level c.args.choice.now.rest.now.items c.args.choice.now.event c.requires.next c.requires.todo c.loop-candidate.invariant.done x one two
-          (fresh_next c.loop-candidate.invariant.done x c.next.new.self c.candidates-candidate-items.result (sym iter ∙ split) c.candidates-candidate-items.ensures.in_order) a b)
+          (fresh_next c.loop-candidate.invariant.done x c.next.new.self c.candidates_with-candidate-items.result (sym iter ∙ split) c.candidates_with-candidate-items.ensures.in_order) a b)
           c.loop-candidate.invariant.adds ((c.in_ok-decide_with.ensures {u = tt}).decided);
     }
 
 pub decide_at-returns : goal.decide_at-returns
 decide_at-returns g t c =
-    let iter : c.into_iter-candidate-iterator.result ≡ c.candidates-candidate-items.result = search rules in
-    let all : c.candidates-candidate-items.result ≡ c.loop-candidate.invariant.done = sym iter ∙ c.loop-candidate.invariant.split ∙ ap (λ (ys : List (Entry Sym)). c.loop-candidate.invariant.done ++ ys) c.in-None.ensures.steps.0 ∙ append-nil c.loop-candidate.invariant.done in
+    let iter : c.into_iter-candidate-iterator.result ≡ c.candidates_with-candidate-items.result = search rules in
+    let all : c.candidates_with-candidate-items.result ≡ c.loop-candidate.invariant.done = sym iter ∙ c.loop-candidate.invariant.split ∙ ap (λ (ys : List (Entry Sym)). c.loop-candidate.invariant.done ++ ys) c.in-None.ensures.steps.0 ∙ append-nil c.loop-candidate.invariant.done in
     let w = last_awaited (levels_in c.args.scan.now.plan.now c.args.scan.now.focus) c.args.next.now.partial c.args.choice.now.level c.args.choice.now.rest.now.items c.args.choice.now.event c.requires.todo in
     let inside : c.args.choice.now.event < length c.args.scan.now.plan.now.chronicle.events = (let a = w.within in let b = c.requires.next.len in omega arith) in
+    let def = get_or c.as_slice.result.now c.args.choice.now.event c.index-as_slice-event.result in
+    let told : AreTold (look_of c.args.next.now.binding) (map term_of def.pattern.terms) c.known_of-known.result =
+    subst (λ b. AreTold (look_of b) (map term_of def.pattern.terms) c.known_of-known.result) c.binding.ensures
+    (subst (λ ts. AreTold (look_of c.binding.result.now) (map term_of ts) c.known_of-known.result) c.as_slice-2.ensures c.known_of-known.ensures) in
     record {
       decided = adds_as c.args.scan.now.plan.now c.args.scan.now.focus c.args.scan.now.until (AreDecidedWith c.args.scan.now.plan.now c.args.scan.now.focus c.args.scan.now.history.now (entry_of c.args.scan.now.entry.now) c.args.scan.now.since c.args.scan.now.until c.args.scan.now.parent.now c.args.next.now c.args.choice.now.level c.args.choice.now.rest.now.items c.args.choice.now.event c.loop-candidate.invariant.done)
           (IsDecidedAt c.args.scan.now.plan.now c.args.scan.now.focus c.args.scan.now.history.now (entry_of c.args.scan.now.entry.now) c.args.scan.now.since c.args.scan.now.until c.args.scan.now.parent.now c.args.next.now c.args.choice.now.level c.args.choice.now.rest.now.items c.args.choice.now.event) c.args.out.now.items c.loop-candidate.out.items
           (λ more are. record {
             ys = c.loop-candidate.invariant.done;
             enough = λ pool entries now way. enough_at c.args.scan.now.plan.now c.args.scan.now.focus c.requires.scan.proper c.args.scan.now.history.now (entry_of c.args.scan.now.entry.now) c.args.scan.now.since c.args.scan.now.until c.args.scan.now.parent.now c.args.next.now c.args.choice.now.level c.args.choice.now.rest.now.items c.args.choice.now.event c.requires.next c.requires.todo c.requires.read pool entries now way
-                c.loop-candidate.invariant.done (get_or c.as_slice.result.now c.args.choice.now.event c.index-as_slice-event.result).pattern.name (named_as c.args.scan.now.plan.now c.args.choice.now.event c.as_slice.result.now c.as_slice.ensures inside c.index-as_slice-event.result)
-                (λ y i h. subst (IsIn y) all (c.candidates-candidate-items.ensures.up_to_last (c.requires.scan.last c.requires.read) y i (subst (λ w. IsHeldFor c.args.scan.now.history.now.floor (get_or c.as_slice.result.now c.args.choice.now.event c.index-as_slice-event.result).pattern.name w y) (sym c.date_window.ensures) h)));
+                c.loop-candidate.invariant.done (get_or c.as_slice.result.now c.args.choice.now.event c.index-as_slice-event.result).pattern.name c.known_of-known.result (λ def there. told_as c.args.scan.now.plan.now c.args.choice.now.event c.as_slice.result.now c.as_slice.ensures inside c.index-as_slice-event.result (look_of c.args.next.now.binding) c.known_of-known.result def there told)
+                (λ y i h has. subst (IsIn y) all (c.candidates_with-candidate-items.ensures.up_to_last (c.requires.scan.last c.requires.read) y i (subst (λ w. IsHeldFor c.args.scan.now.history.now.floor (get_or c.as_slice.result.now c.args.choice.now.event c.index-as_slice-event.result).pattern.name w y) (sym c.date_window-window.ensures) h) has));
             decided = are;
           }) c.loop-candidate.invariant.adds;
     }

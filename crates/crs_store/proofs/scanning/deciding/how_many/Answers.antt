@@ -6,8 +6,8 @@ bounds-as_slice-event c =
     let a = c.requires.event in
     let d = ap length c.as_slice.ensures in omega arith
 
-pub date_window-requires : goal.date_window-requires
-date_window-requires c =
+pub date_window-window-requires : goal.date_window-window-requires
+date_window-window-requires c =
     let a = c.requires.event in
     let d = c.requires.next.window_count in
     let e = c.requires.scan.proper.points in omega arith

@@ -3,7 +3,7 @@ use Rattle.std.proofs.lemmas.List.{map-append, append_assoc}
 use Rattle.crs_base.specs.Seen.{entry_of}
 use Rattle.crs_history.specs.Histories.{entries_of}
 use Rattle.crs_history.proofs.Split.{ends_at}
-use Rattle.crs_history.proofs.range.Range.latest.Goals as goal
+use Rattle.crs_history.proofs.found.Found.latest.Goals as goal
 
 pub returns-in-Some-clause-some : goal.returns-in-Some-clause-some
 returns-in-Some-clause-some c =

@@ -1,9 +1,9 @@
 use Rattle.std.proofs.Common.{◌≤◌, ◌++◌, filter, sym, ap, subst, ◌∙◌}
 use Rattle.crs_history.specs.Histories.{entries_of}
 use Rattle.crs_history.specs.Dates.{IsByDate}
-use Rattle.crs_history.specs.Looking.{is_since}
+use Rattle.crs_history.specs.Looking.{is_before}
 use Rattle.crs_history.proofs.Split.{ordered_front, ordered_back, filter-append}
-use Rattle.crs_history.proofs.range.Range.since.Goals as goal
+use Rattle.crs_history.proofs.found.Found.before.Goals as goal
 
 pub split_by_date-requires : goal.split_by_date-requires
 split_by_date-requires c = ordered_front (λ d e. d.date ≤ e.date) (entries_of c.self.inside.front.now) (entries_of c.self.inside.back.now) (subst IsByDate (sym c.self.view_is) c.requires)
@@ -13,8 +13,8 @@ split_by_date-requires-2 c = ordered_back (λ d e. d.date ≤ e.date) (entries_o
 
 pub returns : goal.returns
 returns c =
-    let p = is_since c.args.date in
+    let p = is_before c.args.date in
     let front = entries_of c.self.inside.front.now in
     let back = entries_of c.self.inside.back.now in
-    ap (λ w. w ++ entries_of c.split_by_date-2.result.1.now) c.split_by_date.ensures.since ∙ ap (λ w. filter p front ++ w) c.split_by_date-2.ensures.since
+    ap (λ w. w ++ entries_of c.split_by_date-2.result.0.now) c.split_by_date.ensures.before ∙ ap (λ w. filter p front ++ w) c.split_by_date-2.ensures.before
     ∙ sym (filter-append p front back) ∙ ap (filter p) c.self.view_is

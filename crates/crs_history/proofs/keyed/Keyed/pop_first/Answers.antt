@@ -1,0 +1,21 @@
+use Rattle.std.proofs.Common.{◌≡◌, ◌∷◌, Some, None, sym, ap, subst, ◌∙◌}
+use Rattle.crs_base.specs.Seen.{entry_of}
+use Rattle.crs_history.specs.Keyed.{AreKeyed, key_of}
+use Rattle.crs_history.proofs.Keying.{plain_popped, key_popped}
+use Rattle.crs_history.proofs.keyed.Keyed.pop_first.Goals as goal
+use Rattle.crs_history.proofs.keyed.Keyed.pop_first.Goals.{in-Some-1, in-None-1}
+
+pub returns-in-Some : goal.returns-in-Some
+returns-in-Some c = λ ring h.
+    let p = c.self.inside.places.items in
+    let e = entry_of c.args.entry.now in
+    let is : key_of p e ≡ Some c.in-Some.key = ap (λ w. key_of w e) (sym c.as_slice.ensures.value) ∙ sym c.key_of.ensures ∙ c.in-Some.is in
+    let popped = key_popped p ring e c.self.inside.lanes c.pop_first.new.self c.in-Some.key is c.pop_first.ensures.rest (subst (AreKeyed (e ∷ ring)) (sym c.self.view_is) h) in
+    elim c.match-pop_first.branch [ in-Some-1 w ↦ subst (AreKeyed ring) (sym w.self-is) popped | in-None-1 w ↦ subst (AreKeyed ring) (sym w.self-is) popped ]
+
+pub returns-in_default : goal.returns-in_default
+returns-in_default c = λ ring h.
+    let p = c.self.inside.places.items in
+    let e = entry_of c.args.entry.now in
+    let none : key_of p e ≡ None = ap (λ w. key_of w e) (sym c.as_slice.ensures.value) ∙ sym c.key_of.ensures ∙ c.in_default.is in
+    subst (AreKeyed ring) c.self.view_is (plain_popped p ring e c.self.inside.lanes c.self.inside.lanes none (subst (AreKeyed (e ∷ ring)) (sym c.self.view_is) h))
