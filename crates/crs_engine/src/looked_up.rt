@@ -1,7 +1,7 @@
 //! Which names are looked up among the settled entries, and by which of their arguments. No clause speaks of
-//! it: a history answers the same whatever it is told, and only takes longer.
+//! it: what a history is told changes how long it takes to answer, and not what is recognised.
 use crs_base::Sym;
-use crs_model::{Body, Chronicle, EventDef, Pattern, Plan, Term, Window};
+use crs_model::{Body, Chronicle, EventDef, Plan, Term, Window};
 use std::alloc::{AllocError, Global};
 use std::rc::Rc;
 
@@ -58,13 +58,14 @@ fn add(all: &mut Vec<Option<u8>>, name: Sym, places: u8) -> Result<(), AllocErro
     Ok(())
 }
 
-/// The pattern whose entries a window counts.
-fn counted(window: &Window) -> Option<&Pattern> {
-    match &window.body {
-        Body::NoEvent(pattern) => Some(pattern),
-        Body::Occurs { pattern, .. } => Some(pattern),
-        Body::Hold { .. } => None,
-    }
+/// Adds the look-up of a window.
+fn add_window(all: &mut Vec<Option<u8>>, window: &Window) -> Result<(), AllocError> {
+    let (name, terms) = match &window.body {
+        Body::NoEvent(pattern) => (pattern.name, &pattern.terms),
+        Body::Occurs { pattern, .. } => (pattern.name, &pattern.terms),
+        Body::Hold { name, terms, .. } => (*name, terms),
+    };
+    add(all, name, places_of_window(terms.as_slice()))
 }
 
 /// Adds the look-ups of a chronicle: those of its windows, and of its events where levels are read.
@@ -74,13 +75,7 @@ fn add_all(
     focus: bool,
 ) -> Result<(), AllocError> {
     for window in chronicle.windows.as_slice() {
-        if let Some(pattern) = counted(window) {
-            add(
-                all,
-                pattern.name,
-                places_of_window(pattern.terms.as_slice()),
-            )?;
-        }
+        add_window(all, window)?;
     }
     if !focus {
         return Ok(());

@@ -4,6 +4,7 @@ ghost use Rattle.crs_base.specs.Words.{IsIn};
 ghost use Rattle.crs_base.specs.Entry.{Entry as LogEntry};
 ghost use Rattle.crs_base.specs.Values.{IsChange, NewIs};
 ghost use Rattle.crs_history.specs.Histories.{StandsFor};
+ghost use Rattle.crs_history.specs.Keyed.{HaveKnown};
 ghost use Rattle.crs_history.specs.Looking.{AllAgree};
 ghost use Rattle.crs_model.specs.Models.{Hold as HoldBody};
 ghost use Rattle.crs_model.specs.Bindings.{look_of};
@@ -101,11 +102,13 @@ fn later(a: i64, b: i64) -> i64
 fn keeps_value(
     name: Sym,
     args: &SymList,
+    known: &[Option<Sym>],
     value: Sym,
     stretch: Stretch,
     history: &History,
     h: i64,
 ) -> bool
+    requires known { HaveKnown known.now args.now }
     ensures yes { result ≡ true → history.now.floor ≤ℤ stretch.from → (settled : Items (LogEntry Sym)) → StandsFor settled history.now → IsWholeFor settled (record { name = name; args = args.now }) value stretch.from stretch.to h }
     ensures no { result ≡ false → history.now.floor ≤ℤ stretch.from → (settled : Items (LogEntry Sym)) → StandsFor settled history.now → Falls settled (record { name = name; args = args.now }) value stretch.from stretch.to h }
 {
@@ -113,8 +116,7 @@ fn keeps_value(
     if !history.value_over(name, args, value, stretch.from, until) {
         return false;
     }
-    // what is dated from h on is little: the attribute's changes aren't looked for among it
-    let ahead = history.find(name, &[], later(stretch.from, h), stretch.to);
+    let ahead = history.find(name, known, later(stretch.from, h), stretch.to);
     !has_stray(ahead, name, args, value)
 }
 
@@ -134,8 +136,9 @@ fn is_hold_broken(
     ensures no { result ≡ false → history.now.floor ≤ℤ stretch.from → (settled : Items (LogEntry Sym)) → StandsFor settled history.now → IsUnbroken settled (look_of binding.now) (HoldBody name (map term_of terms.now) (term_of value)) stretch.from stretch.to h }
 {
     let args = args_of(terms.as_slice(), binding);
+    let known = known_of(terms.as_slice(), binding);
     let wanted = value_of(value, binding);
-    !keeps_value(name, &args, wanted, stretch, history, h)
+    !keeps_value(name, &args, &known, wanted, stretch, history, h)
 }
 
 /// Whether the body is broken at h.

@@ -11,8 +11,19 @@ use Rattle.crs_model.specs.Matching.{TermIs}
 use Rattle.crs_model.specs.SeenModels.{term_of}
 use Rattle.crs_model.specs.HasProgress.{IsWholeFor}
 use Rattle.crs_watch.specs.Begun.{Falls}
+use Rattle.crs_watch.specs.Known.{AreTold}
+use Rattle.crs_watch.proofs.Telling.{have_told}
 use Rattle.crs_watch.proofs.Holds.{not_true, not_false, whole_by, broken_by}
 use Rattle.crs_watch.proofs.beginning.is_hold_broken.Goals as goal
+
+pub keeps_value-requires : goal.keeps_value-requires
+keeps_value-requires c =
+    let look = look_of c.args.binding.now in
+    let terms = map term_of c.args.terms.now in
+    let known = c.known_of-known.result in
+    let args : AllZip (TermIs look) terms c.args_of-args.result = subst (λ w. AllZip (TermIs look) (map term_of w) c.args_of-args.result) c.as_slice.ensures c.args_of-args.ensures in
+    let told : AreTold look terms known = subst (λ w. AreTold look (map term_of w) known) c.as_slice-2.ensures c.known_of-known.ensures in
+    record { known = have_told look look terms known c.args_of-args.result told (λ v s is. is) args }
 
 pub returns-clause-yes : goal.returns-clause-yes
 returns-clause-yes c = λ f low settled stands.

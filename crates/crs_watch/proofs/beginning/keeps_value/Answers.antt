@@ -1,10 +1,10 @@
-use Rattle.std.proofs.Common.{rules, [], inr, arith}
+use Rattle.std.proofs.Common.{rules, inr, arith, sym, subst}
 use Rattle.std.specs.Prelude.{ℤ, pos, ◌≤ℤ◌, ◌<ℤ◌}
 use Rattle.std.proofs.lemmas.Int.{ints, to_z-of_z, by_lt_z}
 use mir.Val.{SFits}
 use mir.Syntax.{w64}
 use Rattle.crs_base.specs.declared.symbols.Sym.{Sym}
-use Rattle.crs_history.specs.Keyed.{IsLike}
+use Rattle.crs_history.specs.Keyed.{HaveKnown, IsLike}
 use Rattle.crs_base.specs.Values.{Attribute}
 use Rattle.crs_history.proofs.Finding.{of_found, is_found}
 use Rattle.crs_base.proofs.Values.{change_agrees}
@@ -34,14 +34,14 @@ returns-clause-yes c = λ f low settled stands.
     let late : (t : ℤ) → g.from ≤ℤ t → h ≤ℤ t → start ≤ℤ t = simp to_z-of_z at c.later.ensures.both in
     let from : (t : ℤ) → start ≤ℤ t → (g.from ≤ℤ t) × (h ≤ℤ t) = simp to_z-of_z at c.later.ensures.from in
     let holds : HasValueOver a settled c.args.value g.from until = simp to_z-of_z at (c.value_over.ensures.yes c.if-not-value_over.false (simp to_z-of_z low) settled stands) in
-    let L = IsLike c.args.name [] in
+    let L = IsLike c.args.name c.args.known.now in
     let floor : c.args.history.now.floor ≤ℤ start = under _ _ _ low ((from start (self start)).0) in
     let found : Finds L start g.to settled c.find-ahead.result = simp to_z-of_z at (c.find-ahead.ensures.stands (simp to_z-of_z floor) settled stands) in
     record {
       values = λ t i j k. holds t i (both t j k);
       changes = λ e i ch d. by_lt_z (pos e.date) h
           (λ l. change_agrees a settled c.args.value e i ch (holds (pos e.date) d.0 (both (pos e.date) d.1 l)))
-          (λ l. c.has_stray.ensures.no (not_true c.has_stray.result f) e (is_found L start g.to settled c.find-ahead.result found e i (record { since = late (pos e.date) d.0 l; before = d.1 }) (record { named = ch.named; has = tt })) ch);
+          (λ l. c.has_stray.ensures.no (not_true c.has_stray.result f) e (is_found L start g.to settled c.find-ahead.result found e i (record { since = late (pos e.date) d.0 l; before = d.1 }) (record { named = ch.named; has = subst (HaveKnown c.args.known.now) (sym ch.of) c.requires.known })) ch);
     }
 
 pub returns-clause-no : goal.returns-clause-no
@@ -54,7 +54,7 @@ returns-clause-no c = λ f low settled stands.
     let fits3 : SFits w64 h = c.ranges.h in
     let fits5 : SFits w64 start = record { sfits = c.later.type_inv } in
     let from : (t : ℤ) → start ≤ℤ t → (g.from ≤ℤ t) × (h ≤ℤ t) = simp to_z-of_z at c.later.ensures.from in
-    let L = IsLike c.args.name [] in
+    let L = IsLike c.args.name c.args.known.now in
     let floor : c.args.history.now.floor ≤ℤ start = under _ _ _ low ((from start (self start)).0) in
     let found : Finds L start g.to settled c.find-ahead.result = simp to_z-of_z at (c.find-ahead.ensures.stands (simp to_z-of_z floor) settled stands) in
     let s = c.has_stray.ensures.yes (not_false c.has_stray.result f) in

@@ -5,7 +5,7 @@ use Rattle.std.proofs.lemmas.Int.{ints}
 use Rattle.crs_base.specs.Seen.{entry_of}
 use Rattle.crs_history.specs.Histories.{HistoryState}
 use Rattle.crs_history.proofs.Order.{after_keyed, keyed_with}
-use Rattle.crs_parts_tests.proofs.histories.Filled.add.Goals as goal
+use Rattle.crs_parts_tests.proofs.histories.Filled.add_with.Goals as goal
 
 pub push-requires-clause-after : goal.push-requires-clause-after
 push-requires-clause-after c =
