@@ -7,6 +7,7 @@ pub mod Kept
 pub mod Split
 pub mod FarBack
 pub mod LaneEdits
+pub mod Runs
 pub mod Numbering
 pub mod Over
 pub mod Left
@@ -14,6 +15,7 @@ pub mod Keying
 pub mod Finding
 pub mod Ageing
 pub mod Trying
+pub mod RowEdits
 pub mod TrackEdits
 pub mod HeldSteps
 pub mod Stepping

@@ -3,9 +3,11 @@ pub mod Dates
 pub mod Looking
 pub mod Lanes
 pub mod ListNumbers
+pub mod Rows
 pub mod Tracks
 pub mod KeptOrder
 pub mod Dropping
 pub mod Changed
 pub mod Holdings
 pub mod Keyed
+pub mod Runs

@@ -74,14 +74,16 @@ impl Changed {
         }
     }
 
-    /// Drops an older one.
-    pub fn drop_older(&mut self, entry: Rc<Entry>)
+    /// Drops an older one, and gives back what it was told by.
+    pub fn drop_older(&mut self, entry: Rc<Entry>) -> Rc<Entry>
         requires { IsIn (entry_of entry.value) self.old.older }
         ensures older { Sifts (λ d. d ≡ entry_of entry.value → ⊥) self.old.older self.new.older }
         ensures only { Drops (λ d. d ≡ entry_of entry.value) self.old.older self.new.older }
         ensures later { self.new.later ≡ self.old.later }
     {
-        let _ = self.set.remove(&Held { entry });
+        let held = Held { entry };
+        let _ = self.set.remove(&held);
         self.count -= 1;
+        held.entry
     }
 }

@@ -67,17 +67,6 @@ impl<'a> Found<'a> {
         let (_, back) = split_by_date(self.back, date);
         Found { front, back }
     }
-
-    /// The last of them.
-    pub(crate) fn latest(&self) -> Option<&'a Rc<Entry>>
-        ensures none { result ≡ None → self.now ≡ [] }
-        ensures some { IfSome result (λ r. EndsWith (entry_of r.now.value) self.now) }
-    {
-        match self.back.last() {
-            Some(entry) => Some(entry),
-            None => self.front.last(),
-        }
-    }
 }
 
 impl<'a> Iterator for Found<'a> {

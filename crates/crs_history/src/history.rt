@@ -1,4 +1,4 @@
-ghost use Rattle.std.specs.Prelude.{◌≡◌, ◌≤◌, ◌≤ℤ◌, ◌<ℤ◌, ◌^◌, pos, neg_ℤ, [], ◌∷◌, ◌++◌, length, true, false, OnOk, OnErr, List as Items};
+ghost use Rattle.std.specs.Prelude.{◌≡◌, ◌≤◌, ◌≤ℤ◌, ◌<ℤ◌, ◌^◌, pos, neg_ℤ, [], ◌∷◌, ◌++◌, length, max, vec_len, true, false, OnOk, OnErr, List as Items};
 ghost use Rattle.std.specs.Int.{int_max};
 ghost use Rattle.crs_base.specs.declared.symbols.Sym.{Sym};
 ghost use Rattle.crs_base.specs.Entry.{Entry as LogEntry, IsInKeyOrder};
@@ -21,6 +21,9 @@ use std::rc::Rc;
 /// The floor of a new history, in ticks: -2^45, before every horizon less any finite reach.
 const LOWEST: i64 = -35_184_372_088_832;
 
+/// So many dropped entries are kept for use again at most: where a mark drops many, most of their memory goes.
+const SPARE: usize = 64;
+
 /// The settled entries that are still needed, in key order: those dated at or after its floor, and
 /// for each attribute its changes of the greatest date before the floor. Dates and the floor are
 /// ticks of the log's clock.
@@ -28,6 +31,7 @@ const LOWEST: i64 = -35_184_372_088_832;
 pub struct History {
     held: Holdings,
     floor: i64,
+    alloc: Global,
 }
 
 impl Model for History {
@@ -59,6 +63,7 @@ impl History {
         History {
             held: Holdings::new(alloc, places),
             floor: LOWEST,
+            alloc,
         }
     }
 
@@ -124,11 +129,37 @@ impl History {
         ensures held { self.old.floor <ℤ date → Sifts (IsKept self.old.entries date) self.old.entries self.new.entries }
         ensures stands { (settled : Items (LogEntry Sym)) → StandsFor settled self.old → StandsFor settled self.new }
     {
+        let mut spare = Vec::new(self.alloc);
+        self.forget(date, &mut spare, 0);
+    }
+
+    /// The same, and puts entries that it drops among the spare ones, while these are fewer than 64: where
+    /// nobody else has such an entry, the next one may be made in its place. It takes memory for the spare
+    /// ones alone, and drops the entry where there is none.
+    pub fn forget_into(&mut self, date: i64, spare: &mut Vec<Rc<Entry>>)
+        ensures floor { self.new.floor ≡ int_max self.old.floor date }
+        ensures low { date ≤ℤ self.old.floor → self.new ≡ self.old }
+        ensures held { self.old.floor <ℤ date → Sifts (IsKept self.old.entries date) self.old.entries self.new.entries }
+        ensures stands { (settled : Items (LogEntry Sym)) → StandsFor settled self.old → StandsFor settled self.new }
+        ensures spare { vec_len spare.new ≤ max (vec_len spare.old) 64 }
+    {
+        self.forget(date, spare, SPARE);
+    }
+
+    /// Raises the floor, drops entries, and puts these among the spare ones, while they are fewer than the
+    /// room.
+    fn forget(&mut self, date: i64, spare: &mut Vec<Rc<Entry>>, room: usize)
+        ensures floor { self.new.floor ≡ int_max self.old.floor date }
+        ensures low { date ≤ℤ self.old.floor → self.new ≡ self.old }
+        ensures held { self.old.floor <ℤ date → Sifts (IsKept self.old.entries date) self.old.entries self.new.entries }
+        ensures stands { (settled : Items (LogEntry Sym)) → StandsFor settled self.old → StandsFor settled self.new }
+        ensures spare { vec_len spare.new ≤ max (vec_len spare.old) room }
+    {
         if date <= self.floor {
             return;
         }
         let limit = to_date(date);
-        while self.held.forget_one(limit) {}
+        while self.held.forget_one(limit, spare, room) {}
         self.floor = date;
     }
 }

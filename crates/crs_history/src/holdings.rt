@@ -1,4 +1,4 @@
-ghost use Rattle.std.specs.Prelude.{◌≡◌, ◌<◌, ◌≤◌, [], ◌∷◌, ◌++◌, length, true, false, OnOk, OnErr, List as Items};
+ghost use Rattle.std.specs.Prelude.{◌≡◌, ◌<◌, ◌≤◌, [], ◌∷◌, ◌++◌, length, max, vec_len, true, false, OnOk, OnErr, List as Items};
 ghost use Rattle.std.specs.List.{AllByRecursion};
 ghost use Rattle.crs_base.specs.Entry.{Entry as LogEntry, IsInKeyOrder};
 ghost use Rattle.crs_base.specs.Seen.{entry_of};
@@ -15,6 +15,7 @@ ghost use Rattle.crs_history.specs.Tracks.{track_of, AreSame};
 use crate::changed::Changed;
 use crate::found::Found;
 use crate::keyed::Keyed;
+use crate::stretch::Stretch;
 use crate::tracks::Tracks;
 use crs_base::{Entry, Sym, SymList};
 use std::alloc::{AllocError, Global};
@@ -70,11 +71,22 @@ fn push_change(
 }
 
 /// Takes the first entry out of the ring and of its lane.
-fn pop_first(ring: &mut VecDeque<Rc<Entry>>, keyed: &mut Keyed)
+fn pop_first(ring: &mut VecDeque<Rc<Entry>>, keyed: &mut Keyed) -> Option<Rc<Entry>>
     ensures { (e : LogEntry Sym) (rest : Items (LogEntry Sym)) → entries_of ring.old.items ≡ e ∷ rest → (entries_of ring.new.items ≡ rest) × (AreKeyed (e ∷ rest) keyed.old → AreKeyed rest keyed.new) }
 {
-    if let Some(first) = ring.pop_front() {
-        keyed.pop_first(&first);
+    let first = ring.pop_front()?;
+    keyed.pop_first(&first);
+    Some(first)
+}
+
+/// Keeps what was forgotten, where there are fewer than that and memory suffices.
+fn keep(spare: &mut Vec<Rc<Entry>>, room: usize, forgotten: Option<Rc<Entry>>)
+    ensures { vec_len spare.new ≤ max (vec_len spare.old) room }
+{
+    if let Some(entry) = forgotten {
+        if spare.len() < room {
+            let _ = spare.push(entry);
+        }
     }
 }
 
@@ -130,7 +142,7 @@ impl Holdings {
     }
 
     /// The held changes of the attribute.
-    pub fn track(&self, name: Sym, args: &SymList) -> Found<'_>
+    pub fn track(&self, name: Sym, args: &SymList) -> Stretch<'_>
         ensures changes { Sifts (IsChange (record { name = name; args = args.now })) (held_of self.now) result }
         ensures by_date { IsByDate result }
     {
@@ -138,13 +150,15 @@ impl Holdings {
     }
 
     /// Takes the first entry, which is dated before the date, out of the ring, or drops a change of
-    /// its attribute that is dated before it. Answers whether there was one.
-    pub fn forget_one(&mut self, date: u64) -> bool
+    /// its attribute that is dated before it. Answers whether there was one. What isn't held any more goes to
+    /// the spare entries, where these are fewer than the room.
+    pub fn forget_one(&mut self, date: u64, spare: &mut Vec<Rc<Entry>>, room: usize) -> bool
         ensures latest { AreLatest self.new.older }
         ensures before { AreBefore date self.old.older → AreBefore date self.new.older }
         ensures past { Drops (IsPast (held_of self.old) date) (held_of self.old) (held_of self.new) }
         ensures shrinks { result ≡ true → weight self.new < weight self.old }
         ensures done { result ≡ false → AllByRecursion (λ e. date ≤ e.date) self.new.ring }
+        ensures spare { vec_len spare.new ≤ max (vec_len spare.old) room }
     {
         let Some(first) = self.ring.front() else {
             return false;
@@ -153,15 +167,15 @@ impl Holdings {
             return false;
         }
         if first.change.is_none() {
-            pop_first(&mut self.ring, &mut self.keyed);
+            keep(spare, room, pop_first(&mut self.ring, &mut self.keyed));
             return true;
         }
         if let Some(overtaken) = self.tracks.pop_before(first.name, &first.args, first.date) {
-            self.changed.drop_older(overtaken);
+            keep(spare, room, Some(self.changed.drop_older(overtaken)));
             return true;
         }
         self.changed.age();
-        pop_first(&mut self.ring, &mut self.keyed);
+        let _ = pop_first(&mut self.ring, &mut self.keyed);
         true
     }
 }

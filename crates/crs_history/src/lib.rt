@@ -9,9 +9,13 @@ mod holdings;
 mod keyed;
 mod lanes;
 mod looking;
+mod numbered;
 mod numbers;
 mod range;
 mod reading;
+mod rows;
+mod stretch;
+mod track;
 mod tracks;
 
 pub use found::Found;

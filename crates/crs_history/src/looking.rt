@@ -6,8 +6,8 @@ ghost use Rattle.crs_history.specs.Histories.{entries_of};
 ghost use Rattle.crs_history.specs.Dates.{IsByDate, nat_of};
 ghost use Rattle.crs_history.specs.Looking.{is_before, is_since, AllBring, AreChanges, HasValueOver};
 
-use crate::found::Found;
-use crate::reading::{brings, to_date};
+use crate::reading::to_date;
+use crate::stretch::Stretch;
 use crs_base::{Entry, Sym};
 use std::rc::Rc;
 
@@ -25,19 +25,6 @@ pub(crate) fn split_by_date(items: &[Rc<Entry>], date: u64) -> (&[Rc<Entry>], &[
     items.split_at(place)
 }
 
-/// Whether all entries bring this value.
-fn all_bring(entries: Found<'_>, value: Sym) -> bool
-    ensures yes { result ≡ true → AllBring value entries.entry }
-    ensures no { result ≡ false → AllBring value entries.entry → ⊥ }
-{
-    for e in entries {
-        if !brings(e, value) {
-            return false;
-        }
-    }
-    true
-}
-
 /// The least date of an entry after this one.
 fn to_date_after(t: i64) -> u64
     requires { t <ℤ pos (2 ^ 63 - 1) }
@@ -47,7 +34,7 @@ fn to_date_after(t: i64) -> u64
 }
 
 /// Whether the attribute, of which these are the changes, has the value at each date of the range.
-pub(crate) fn holds_over(track: &Found<'_>, value: Sym, from: i64, to: i64) -> bool
+pub(crate) fn holds_over(track: &Stretch<'_>, value: Sym, from: i64, to: i64) -> bool
     requires by_date { IsByDate track.now }
     ensures yes { (a : Attribute Sym) → AreChanges a track.now → result ≡ true → HasValueOver a track.now value from to }
     ensures no { (a : Attribute Sym) → AreChanges a track.now → result ≡ false → HasValueOver a track.now value from to → ⊥ }
@@ -55,13 +42,16 @@ pub(crate) fn holds_over(track: &Found<'_>, value: Sym, from: i64, to: i64) -> b
     if from >= to {
         return true;
     }
-    let after = track.since(to_date_after(from));
-    if !all_bring(after.before(to_date(to)), value) {
+    let (until, after) = track.split(to_date_after(from));
+    let (within, _) = after.split(to_date(to));
+    if !within.all_bring(value) {
         return false;
     }
-    let until = track.before(to_date_after(from));
     match until.latest() {
         None => false,
-        Some(last) => all_bring(until.since(last.date), value),
+        Some(last) => {
+            let (_, of_its_date) = until.split(last.date);
+            of_its_date.all_bring(value)
+        }
     }
 }

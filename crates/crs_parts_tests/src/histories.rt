@@ -279,3 +279,89 @@ fn a_value_holds_where_its_change_is_forgotten(rt: HostRuntime) -> Result<(), Fa
     assert!(rt; count_of(filled.history.range(Sym(0), 0, 40)) == 0);
     Ok(())
 }
+
+/// Whether there are changes up to the date, and all those of the greatest such date bring the value: told
+/// as dates and values, in the order of dates.
+fn has_value(told: &[(u32, u32)], value: u32, date: u32) -> bool {
+    let mut latest = None;
+    let mut agreed = false;
+    for row in told {
+        if row.0 <= date {
+            agreed = row.1 == value && (agreed || latest != Some(row.0));
+            latest = Some(row.0);
+        }
+    }
+    agreed
+}
+
+/// The same at each date of a stretch, one after the other.
+fn has_value_over(told: &[(u32, u32)], value: u32, from: u32, to: u32) -> bool {
+    for date in from..to {
+        if !has_value(told, value, date) {
+            return false;
+        }
+    }
+    true
+}
+
+/// Whether the history answers so of each stretch from the date on, for two values.
+fn agrees_from(history: &History, told: &[(u32, u32)], from: u32) -> bool {
+    for to in 0..10 {
+        let seven = holds(history, 0, 7, from as i64, to as i64);
+        let nine = holds(history, 0, 9, from as i64, to as i64);
+        if seven != has_value_over(told, 7, from, to) || nine != has_value_over(told, 9, from, to) {
+            return false;
+        }
+    }
+    true
+}
+
+/// The same of each stretch that isn't before the floor.
+fn agrees(history: &History, told: &[(u32, u32)], floor: u32) -> bool {
+    for from in floor..10 {
+        if !agrees_from(history, told, from) {
+            return false;
+        }
+    }
+    true
+}
+
+#[test]
+fn values_are_those_of_a_plain_walk(rt: HostRuntime) -> Result<(), Fail> {
+    let told = [
+        (1, 7),
+        (1, 7),
+        (2, 7),
+        (4, 9),
+        (4, 7),
+        (5, 7),
+        (5, 7),
+        (7, 9),
+        (8, 9),
+    ];
+    let mut filled = Filled::new(rt.alloc());
+    for row in &told {
+        filled.add(row.0 as u64, 0, Some((Sym(8), Sym(row.1))))?;
+    }
+    let Filled { mut history, .. } = filled;
+    for floor in 0..10 {
+        history.forget_before(floor as i64);
+        assert!(rt; agrees(&history, &told, floor));
+    }
+    Ok(())
+}
+
+#[test]
+fn what_is_dropped_is_given_back(rt: HostRuntime) -> Result<(), Fail> {
+    let alloc = rt.alloc();
+    let change = Some((Sym(8), Sym(9)));
+    let rows = [(1, 0, change), (2, 0, change), (4, 2, None), (6, 0, change)];
+    let Filled { mut history, .. } = filled_with(alloc, &rows)?;
+    let mut spare = Vec::new(alloc);
+    for (date, kept, dropped) in [(1, 4, 0), (5, 2, 2), (6, 2, 2), (7, 1, 3)] {
+        history.forget_into(date, &mut spare);
+        assert!(rt; history.len() == kept);
+        assert!(rt; spare.len() == dropped);
+    }
+    Ok(())
+}

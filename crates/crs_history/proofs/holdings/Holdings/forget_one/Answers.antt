@@ -31,7 +31,7 @@ returns-then-deref-date-clause-done c = λ _.
     subst (λ (w : HoldingsState). AllByRecursion (λ e. c.args.date ≤ e.date) w.ring) c.self.view_is
     (subst (λ (w : List (Entry Sym)). AllByRecursion (λ e. c.args.date ≤ e.date) w) (sym is) all)
 
-plain : (c : goal.After-pop_first) → Stepped c.args.self.now c.args.date c.self.inside.changed.older c.self.inside.changed.later (entries_of c.pop_first.new.ring.items) c.pop_first.new.keyed c.self.inside.tracks
+plain : (c : goal.After-keep) → Stepped c.args.self.now c.args.date c.self.inside.changed.older c.self.inside.changed.later (entries_of c.pop_first.new.ring.items) c.pop_first.new.keyed c.self.inside.tracks
 plain c =
     let h = c.self.inside in
     let items = h.ring.items in
@@ -58,7 +58,7 @@ returns-then-is_none-clause-past c = (plain c).past
 pub returns-then-is_none-clause-shrinks : goal.returns-then-is_none-clause-shrinks
 returns-then-is_none-clause-shrinks c = λ _. (plain c).shrinks
 
-aged : (c : goal.After-pop_first-2) → Stepped c.args.self.now c.args.date c.age.new.self.older c.age.new.self.later (entries_of c.pop_first-2.new.ring.items) c.pop_first-2.new.keyed c.pop_before.new.self
+aged : (c : goal.Joined-pop_first) → Stepped c.args.self.now c.args.date c.age.new.self.older c.age.new.self.later (entries_of c.pop_first-2.new.ring.items) c.pop_first-2.new.keyed c.pop_before.new.self
 aged c =
     let h = c.self.inside in
     let items = h.ring.items in
@@ -115,7 +115,7 @@ drop_older-requires c =
     let overtaken : y.date < x.date = (let d : c.deref-5.result.now.date ≡ x.date = ap (λ w. w.date) c.deref-5.ensures in let t : y.date < c.deref-5.result.now.date = c.in-Some-pop_before.ensures.before in omega arith) in
     is_older c.args.self.now h.changed.older h.changed.later (entries_of items) rest x h.keyed h.tracks c.self.view_is c.self.invariant is c.args.date early changing y c.pop_before.new.self takes overtaken
 
-left : (c : goal.After-drop_older) → Stepped c.args.self.now c.args.date c.drop_older.new.self.older c.drop_older.new.self.later (entries_of c.self.inside.ring.items) c.self.inside.keyed c.pop_before.new.self
+left : (c : goal.After-keep-in-Some-pop_before) → Stepped c.args.self.now c.args.date c.drop_older.new.self.older c.drop_older.new.self.later (entries_of c.self.inside.ring.items) c.self.inside.keyed c.pop_before.new.self
 left c =
     let h = c.self.inside in
     let items = h.ring.items in

@@ -14,7 +14,8 @@ invariant_of-self c =
     let steps = c.self.inside.steps.entries in
     let lanes = c.self.inside.lanes in
     let k = c.in-Some.number in
-    tracks_put steps lanes c.drop_last.new.self c.self.invariant a k (sym c.number_of.ensures ∙ c.in-Some.is) (take (length (lane_of lanes k) - 1) (lane_of lanes k)) c.drop_last.ensures
+    let numbered : number_of steps a ≡ Some k = ap (λ (w : TracksState). number_of w.steps a) c.self.view_is ∙ sym c.number_of.ensures ∙ c.in-Some.is in
+    (tracks_put steps lanes c.drop_last.new.self c.self.invariant.0 a k numbered (take (length (lane_of lanes k) - 1) (lane_of lanes k)) c.drop_last.ensures, c.self.invariant.1)
 
 pub returns-in-Some : goal.returns-in-Some
 returns-in-Some c = λ rest e is.
@@ -22,9 +23,9 @@ returns-in-Some c = λ rest e is.
     let steps = c.self.inside.steps.entries in
     let lanes = c.self.inside.lanes in
     let k = c.in-Some.number in
-    let numbered : number_of steps a ≡ Some k = sym c.number_of.ensures ∙ c.in-Some.is in
+    let numbered : number_of steps a ≡ Some k = ap (λ (w : TracksState). number_of w.steps a) c.self.view_is ∙ sym c.number_of.ensures ∙ c.in-Some.is in
     let lane : lane_of lanes k ≡ rest ++ e ∷ [] = sym (ap (track_at lanes) numbered) ∙ ap (λ (w : TracksState). track_of w a) c.self.view_is ∙ is in
     let left = last_off (lane_of lanes k) rest e (length (lane_of lanes k) - 1) refl lane in
     subst (λ (w : List (Entry Sym)). IsTrackSetTo c.args.self.now a w (record { steps = steps; lanes = c.drop_last.new.self })) left
     (subst (λ (w : TracksState). IsTrackSetTo w a (take (length (lane_of lanes k) - 1) (lane_of lanes k)) (record { steps = steps; lanes = c.drop_last.new.self })) c.self.view_is
-    (track_put steps lanes c.drop_last.new.self c.self.invariant a k numbered (take (length (lane_of lanes k) - 1) (lane_of lanes k)) c.drop_last.ensures))
+    (track_put steps lanes c.drop_last.new.self c.self.invariant.0 a k numbered (take (length (lane_of lanes k) - 1) (lane_of lanes k)) c.drop_last.ensures))

@@ -15,12 +15,12 @@ returns-clause-first c =
     let steps = c.self.inside.steps.entries in
     let lanes = c.self.inside.lanes in
     let k = c.in_ok-number.number in
-    let numbered : number_of steps a ≡ Some k = sym c.number_of.ensures ∙ c.in_ok-number.was in
+    let numbered : number_of steps a ≡ Some k = ap (λ (w : TracksState). number_of w.steps a) c.self.view_is ∙ sym c.number_of.ensures ∙ c.in_ok-number.was in
     if_some c.pop_first.result (λ r. TakesFirst c.args.self.now a (entry_of r.value) (record { steps = steps; lanes = c.pop_first.new.self }))
     (λ r e.
     let first = first_is (lane_of lanes k) (entry_of r.value) (sym c.pop_first.ensures.first ∙ ap (option_map (λ r. entry_of r.value)) e) in
     subst (λ (w : TracksState). TakesFirst w a (entry_of r.value) (record { steps = steps; lanes = c.pop_first.new.self })) c.self.view_is (record {
       rest = drop 1 (lane_of lanes k);
       first = ap (track_at lanes) numbered ∙ first;
-      taken = track_put steps lanes c.pop_first.new.self c.self.invariant a k numbered (drop 1 (lane_of lanes k)) c.pop_first.ensures.rest;
+      taken = track_put steps lanes c.pop_first.new.self c.self.invariant.0 a k numbered (drop 1 (lane_of lanes k)) c.pop_first.ensures.rest;
     }))

@@ -5,66 +5,54 @@ use Rattle.crs_base.specs.Entry.{Entry}
 use Rattle.crs_base.specs.Seen.{entry_of}
 use Rattle.crs_history.specs.Histories.{attribute_of}
 use Rattle.crs_history.specs.Lanes.{lane_of, AreAlike, IsSetTo}
-use Rattle.crs_history.specs.ListNumbers.{Grows, number_from}
 use Rattle.crs_history.specs.Tracks.{TracksState, number_of, track_at, track_of, AreSame, IsTrackSetTo}
-use Rattle.crs_history.proofs.Numbering.{grows_on, number_kept, number_joined}
 use Rattle.crs_history.proofs.Trying.{on_err, by_result}
 use Rattle.crs_history.proofs.TrackEdits.{tracks_same, tracks_more, track_put, tracks_put, set_after}
 use Rattle.crs_history.proofs.tracks.Tracks.push.Goals as goal
 
-pub returns-in_err-named-clause-err : goal.returns-in_err-named-clause-err
-returns-in_err-named-clause-err c =
-    let old = c.self.inside.steps.entries in
-    let lanes = c.self.inside.lanes in
-    on_err c.from_residual.result
-    (subst (λ (w : TracksState). AreSame w (record { steps = c.add_from.new.steps.entries; lanes = lanes })) c.self.view_is
-    (tracks_same old c.add_from.new.steps.entries lanes lanes c.self.invariant c.add_from.ensures.grows c.add_from.ensures.numbering (λ n. refl)))
-
 pub returns-in_err-number-clause-err : goal.returns-in_err-number-clause-err
 returns-in_err-number-clause-err c =
     let old = c.self.inside.steps.entries in
-    let new = c.add_from-2.new.steps.entries in
+    let new = c.number_for.new.steps.entries in
     let lanes = c.self.inside.lanes in
-    let g : Grows old new = grows_on old c.add_from.new.steps.entries new c.add_from.ensures.grows c.add_from-2.ensures.grows in
-    on_err c.from_residual-in_err-number.result
+    on_err c.from_residual.result
     (subst (λ (w : TracksState). AreSame w (record { steps = new; lanes = lanes })) c.self.view_is
-    (tracks_same old new lanes lanes c.self.invariant g c.add_from-2.ensures.numbering (λ n. refl)))
+    (tracks_same old new lanes lanes c.self.invariant.0 c.number_for.ensures.grows c.number_for.ensures.numbering (λ n. refl)))
 
 pub invariant_of-self-2 : goal.invariant_of-self-2
 invariant_of-self-2 c =
     let e = entry_of c.args.entry.value in
     let a = attribute_of e in
     let old = c.self.inside.steps.entries in
-    let mid = c.add_from.new.steps.entries in
-    let new = c.add_from-2.new.steps.entries in
+    let new = c.number_for.new.steps.entries in
     let lanes = c.self.inside.lanes in
     let k = c.in_ok-number.number in
-    let g : Grows old new = grows_on old mid new c.add_from.ensures.grows c.add_from-2.ensures.grows in
-    let one : number_from mid 0 (e.name ∷ []) ≡ Some c.in_ok-named.named = subst (λ w. number_from mid 0 (w.name ∷ []) ≡ Some c.in_ok-named.named) c.deref.ensures c.in_ok-named.ensures.ok in
-    let two : number_from new c.in_ok-named.named e.args ≡ Some k =
-    subst (λ (w : List Sym). number_from new c.in_ok-named.named w ≡ Some k) (c.as_slice.ensures ∙ ap (λ w. w.args) c.deref-2.ensures) c.in_ok-number.ensures.ok in
-    let numbered : number_of new a ≡ Some k = number_joined new 0 c.in_ok-named.named k e.name e.args (number_kept mid new c.add_from-2.ensures.grows (e.name ∷ []) 0 c.in_ok-named.named one) two in
-    let kept = tracks_more old new lanes lanes c.self.invariant g c.add_from-2.ensures.numbering (λ n. refl) in
-    by_result c.push.result c.push.ensures.ok c.push.ensures.err
-    (λ put. tracks_put new lanes c.push.new.self kept a k numbered (lane_of lanes k ++ e ∷ []) put)
-    (λ alike. tracks_more old new lanes c.push.new.self c.self.invariant g c.add_from-2.ensures.numbering alike)
+    let named : number_of new (record { name = e.name; args = c.as_slice.result.now }) ≡ Some k =
+    subst (λ w. number_of new (record { name = w.name; args = c.as_slice.result.now }) ≡ Some k) c.deref.ensures c.in_ok-number.ensures.ok in
+    let numbered : number_of new a ≡ Some k =
+    subst (λ (w : List Sym). number_of new (record { name = e.name; args = w }) ≡ Some k) (c.as_slice.ensures ∙ ap (λ w. w.args) c.deref-2.ensures) named in
+    let kept = tracks_more old new lanes lanes c.self.invariant.0 c.number_for.ensures.grows c.number_for.ensures.numbering (λ n. refl) in (
+      by_result c.push.result c.push.ensures.ok c.push.ensures.err
+          (λ put. tracks_put new lanes c.push.new.self kept a k numbered (lane_of lanes k ++ e ∷ []) put)
+          (λ alike. tracks_more old new lanes c.push.new.self c.self.invariant.0 c.number_for.ensures.grows c.number_for.ensures.numbering alike),
+      c.number_for.ensures.rows,
+    )
 
 pub returns-clause-ok : goal.returns-clause-ok
 returns-clause-ok c =
     let e = entry_of c.args.entry.value in
     let a = attribute_of e in
     let old = c.self.inside.steps.entries in
-    let mid = c.add_from.new.steps.entries in
-    let new = c.add_from-2.new.steps.entries in
+    let new = c.number_for.new.steps.entries in
     let lanes = c.self.inside.lanes in
     let k = c.in_ok-number.number in
-    let g : Grows old new = grows_on old mid new c.add_from.ensures.grows c.add_from-2.ensures.grows in
-    let one : number_from mid 0 (e.name ∷ []) ≡ Some c.in_ok-named.named = subst (λ w. number_from mid 0 (w.name ∷ []) ≡ Some c.in_ok-named.named) c.deref.ensures c.in_ok-named.ensures.ok in
-    let two : number_from new c.in_ok-named.named e.args ≡ Some k =
-    subst (λ (w : List Sym). number_from new c.in_ok-named.named w ≡ Some k) (c.as_slice.ensures ∙ ap (λ w. w.args) c.deref-2.ensures) c.in_ok-number.ensures.ok in
-    let numbered : number_of new a ≡ Some k = number_joined new 0 c.in_ok-named.named k e.name e.args (number_kept mid new c.add_from-2.ensures.grows (e.name ∷ []) 0 c.in_ok-named.named one) two in
-    let kept = tracks_more old new lanes lanes c.self.invariant g c.add_from-2.ensures.numbering (λ n. refl) in
-    let same : AreSame (record { steps = old; lanes = lanes }) (record { steps = new; lanes = lanes }) = tracks_same old new lanes lanes c.self.invariant g c.add_from-2.ensures.numbering (λ n. refl) in
+    let named : number_of new (record { name = e.name; args = c.as_slice.result.now }) ≡ Some k =
+    subst (λ w. number_of new (record { name = w.name; args = c.as_slice.result.now }) ≡ Some k) c.deref.ensures c.in_ok-number.ensures.ok in
+    let numbered : number_of new a ≡ Some k =
+    subst (λ (w : List Sym). number_of new (record { name = e.name; args = w }) ≡ Some k) (c.as_slice.ensures ∙ ap (λ w. w.args) c.deref-2.ensures) named in
+    let kept = tracks_more old new lanes lanes c.self.invariant.0 c.number_for.ensures.grows c.number_for.ensures.numbering (λ n. refl) in
+    let same : AreSame (record { steps = old; lanes = lanes }) (record { steps = new; lanes = lanes }) =
+    tracks_same old new lanes lanes c.self.invariant.0 c.number_for.ensures.grows c.number_for.ensures.numbering (λ n. refl) in
     let track : lane_of lanes k ≡ track_of c.args.self.now a = sym (ap (track_at lanes) numbered) ∙ same a ∙ ap (λ (w : TracksState). track_of w a) c.self.view_is in
     on_ok_weaker c.push.result
     (λ (put : IsSetTo lanes k (lane_of lanes k ++ e ∷ []) c.push.new.self).
@@ -76,9 +64,8 @@ returns-clause-ok c =
 pub returns-clause-err : goal.returns-clause-err
 returns-clause-err c =
     let old = c.self.inside.steps.entries in
-    let new = c.add_from-2.new.steps.entries in
+    let new = c.number_for.new.steps.entries in
     let lanes = c.self.inside.lanes in
-    let g : Grows old new = grows_on old c.add_from.new.steps.entries new c.add_from.ensures.grows c.add_from-2.ensures.grows in
     on_err_weaker c.push.result
     (λ (alike : AreAlike lanes c.push.new.self). subst (λ (w : TracksState). AreSame w (record { steps = new; lanes = c.push.new.self })) c.self.view_is
-    (tracks_same old new lanes c.push.new.self c.self.invariant g c.add_from-2.ensures.numbering alike)) c.push.ensures.err
+    (tracks_same old new lanes c.push.new.self c.self.invariant.0 c.number_for.ensures.grows c.number_for.ensures.numbering alike)) c.push.ensures.err

@@ -14,7 +14,7 @@ use Rattle.crs_history.specs.Holdings.{held_of, AreBefore, IsPast, IsSplitAt}
 use Rattle.crs_history.proofs.Kept.{kept_raised}
 use Rattle.crs_history.proofs.Left.{drops_none}
 use Rattle.crs_history.proofs.Forgetting.{past_on, all_before, now_split, forgotten}
-use Rattle.crs_history.proofs.history.History.forget_before.Goals as goal
+use Rattle.crs_history.proofs.history.History.forget.Goals as goal
 
 pub loop-init : goal.loop-init
 loop-init c =
@@ -25,12 +25,14 @@ loop-init c =
     let all : held_of h ≡ c.args.self.now.entries = ap (λ w. w.entries) c.self.view_is in (
       subst (λ (w : List (Entry Sym)). Drops (IsPast w c.to_date-limit.result) w (held_of h)) all (drops_none (IsPast (held_of h) c.to_date-limit.result) (held_of h)),
       subst (λ n. AreBefore n h.older) (sym one) (all_before c.self.inside.floor c.args.date h.older lt c.self.invariant.before),
+      omega arith,
     )
 
 pub loop-preserved : goal.loop-preserved
 loop-preserved c = (
   past_on c.args.self.now.entries (held_of c.loop.self-inside.held) (held_of c.forget_one.new.self) c.to_date-limit.result c.loop.invariant.0 c.forget_one.ensures.past,
   c.forget_one.ensures.before c.loop.invariant.1,
+  omega (arith, c.forget_one.ensures.spare),
 )
 
 pub invariant_of-self : goal.invariant_of-self
@@ -71,3 +73,6 @@ returns-clause-stands c = λ s stands.
     let same : c.args.self.now.floor ≡ floor = ap (λ w. w.floor) (sym c.self.view_is) in
     subst (λ z. Sifts (IsKept s z) s (held_of h)) (sym (to_z-of_z w64 date fits))
     (kept_raised s all c.args.self.now.floor stands date (subst (λ z. z ≤ℤ date) (sym same) up) (held_of h) kept)
+
+pub returns-clause-spare : goal.returns-clause-spare
+returns-clause-spare c = omega (arith, c.loop.invariant.2, c.forget_one.ensures.spare)
