@@ -9,7 +9,7 @@ use Rattle.crs_stn.specs.DateWindow.{after, greater_of, before}
 use Rattle.crs_model.specs.declared.date_window.DateWindow.{DateWindow}
 use Rattle.std.specs.declared.rc.Rc.{Rc}
 use Rattle.std.proofs.Common.{Global}
-use Rattle.std.specs.Prelude.{Bool, false, IsTrue, ◌↔◌}
+use Rattle.std.specs.Prelude.{Bool, false, IsTrue, ◌↔◌, cond}
 use Rattle.crs_base.specs.declared.symbols.Sym.{Sym}
 use Rattle.crs_base.specs.declared.entry.Entry.{Entry as CodeEntry}
 use Rattle.crs_base.specs.Entry.{Entry}
@@ -55,6 +55,10 @@ bound_not c p old new x h never = λ other l k a. never (allowed_looser c (look_
 
 pub bound_not_at : (c : Chronicle Sym) (p : Pattern Sym) (old mid new : List (Option Sym)) (x : Entry Sym) (b : Bool) → mid ≡ old → IsLeastWith (λ look. PatternIs look p x) (look_of mid) (look_of new) → (IsTrue b ↔ IsAllowed c (look_of new)) → b ≡ false → IsBoundBy c p old x None
 bound_not_at c p old mid new x b s h says e = bound_not c p old new x (subst (λ (t : List (Option Sym)). IsLeastWith (λ look. PatternIs look p x) (look_of t) (look_of new)) s h) (λ a. let t = says.1 a in absurd cc)
+
+pub bound_if : (c : Chronicle Sym) (p : Pattern Sym) (old new : List (Option Sym)) (x : Entry Sym) (b : Bool) → IsLeastWith (λ look. PatternIs look p x) (look_of old) (look_of new) → length new ≡ length old → (IsTrue b ↔ IsAllowed c (look_of new)) → IsBoundBy c p old x (cond b (Some new) None)
+bound_if c p old new x true h l says = (h, says.0 refl, l)
+bound_if c p old new x false h l says = bound_not c p old new x h (λ a. let t = says.1 a in absurd cc)
 
 all_parts : (a b : Partial Sym) → list_all (λ o. is_some o) (a ++ b) ≡ true → (list_all (λ o. is_some o) a ≡ true) × (list_all (λ o. is_some o) b ≡ true)
 all_parts [] b h = (refl, h)

@@ -11,7 +11,9 @@ use std::alloc::{AllocError, Global};
 use std::rc::Rc;
 
 /// What the bound events' entries tell: the symbols of variables, and the dates that are left to each
-/// point.
+/// point. The spans stay a vector: with eight of them held in place a fork makes one allocation less,
+/// but to make, move and drop the larger links takes more than that, 4 % of all instructions with one
+/// point, where eight points gain 1 %. Two in place take 1 % more with either.
 #[derive(Drop)]
 pub(crate) struct Known {
     pub(crate) binding: Binding,

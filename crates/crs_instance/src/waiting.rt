@@ -57,7 +57,6 @@ fn is_other(bound: u16, events: &[EventDef], place: u8, event: u8, focus: bool) 
 /// this date.
 pub(crate) fn others_can_be_from(
     bound: u16,
-    count: u8,
     spans: &[Span],
     plan: &Plan,
     event: u8,
@@ -65,18 +64,17 @@ pub(crate) fn others_can_be_from(
     focus: bool,
     h: u64,
 ) -> bool
-    requires few { count ≤ 16 }
-    requires events { count ≡ length plan.now.chronicle.events }
+    requires few { length plan.now.chronicle.events ≤ 16 }
     requires spans { length spans.now ≡ plan.now.network.points }
     requires points { length plan.now.chronicle.events ≤ plan.now.network.points }
     requires event { event < length plan.now.chronicle.events }
     requires date { date < 2 ^ 40 }
     requires horizon { h ≤ 2 ^ 42 }
-    ensures yes { result ≡ true → (g : ℕ) → IsOtherUnset (level_in (chronicle plan.now).events focus) count bound event g → IsFrom (most_with (window_at (windows_of spans.now) g) (most_of plan.now.network event g) date) h }
-    ensures no { result ≡ false → (g : ℕ) × IsOtherUnset (level_in (chronicle plan.now).events focus) count bound event g × (IsFrom (most_with (window_at (windows_of spans.now) g) (most_of plan.now.network event g) date) h → ⊥) }
+    ensures yes { result ≡ true → (g : ℕ) → IsOtherUnset (level_in (chronicle plan.now).events focus) (length plan.now.chronicle.events) bound event g → IsFrom (most_with (window_at (windows_of spans.now) g) (most_of plan.now.network event g) date) h }
+    ensures no { result ≡ false → (g : ℕ) × IsOtherUnset (level_in (chronicle plan.now).events focus) (length plan.now.chronicle.events) bound event g × (IsFrom (most_with (window_at (windows_of spans.now) g) (most_of plan.now.network event g) date) h → ⊥) }
 {
     let events = plan.chronicle.events.as_slice();
-    for g in 0..count {
+    for g in 0..events.len() as u8 {
         if !is_other(bound, events, g, event, focus) {
             continue;
         }

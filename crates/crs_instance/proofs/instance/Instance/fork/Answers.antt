@@ -42,6 +42,6 @@ returns-clause-fork g c =
     subst (λ (o : Option Known). IsExtended c.args.plan.now c.args.self.now c.args.event (entry_of c.deref.result.now) o) c.in-Some.is (c.in_ok-known.ensures {u = tt}).extended in
     bound_as c.args.plan.now c.args.self.now.partial _ c.args.event (entry_of c.args.entry.now.value) (known_in c.in_ok-links.links.value).binding (windows_of (known_in c.in_ok-links.links.value).spans.items) c.args.self.now.progress c.in_ok-progress.progress.items
     (link.gives ∙ ap (λ a. put a c.args.event (entry_of c.in_ok-clone.field-0.value)) (ap (λ (s : InstanceState). s.partial) c.self.view_is) ∙ ap (λ (e : CodeEntry). put c.args.self.now.partial c.args.event (entry_of e)) cloned)
-    ((c.in_ok-progress.ensures {u = tt}).items ∙ c.as_slice-2.ensures.value ∙ ap (λ (s : InstanceState). s.progress) c.self.view_is)
+    (c.in_ok-progress.ensures {u = tt} ∙ c.as_slice-2.ensures.value ∙ ap (λ (s : InstanceState). s.progress) c.self.view_is)
     (subst (λ (k : Known). IsOf c.args.plan.now (the_state (put c.args.self.now.partial c.args.event (entry_of c.args.entry.now.value)) k.binding (windows_of k.spans.items) c.args.self.now.progress)) (sym link.knows)
     (subst (λ (e : CodeEntry). IsOf c.args.plan.now (the_state (put c.args.self.now.partial c.args.event (entry_of e)) c.in-Some.known.binding (windows_of c.in-Some.known.spans.items) c.args.self.now.progress)) c.deref.ensures of))
