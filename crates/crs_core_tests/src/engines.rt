@@ -6,11 +6,12 @@ ghost use Rattle.crs_model.specs.Reach.{IsReachOfAll};
 ghost use Rattle.crs_engine.specs.Engines.{reaches_of};
 
 use crate::fixtures::{entry, plan};
-use crs_base::{List, Steps};
-use crs_engine::{Engine, Refused};
-use crs_model::{Plans, Recognition};
+use crs_base::{List, Steps, Sym, Symbols};
+use crs_engine::{Engine, Refused, ranks_of};
+use crs_model::{Kind, Name, Plans, Recognition};
 use std::alloc::{AllocError, Global};
 use std::marker::Brand;
+use std::rc::Rc;
 use std::sync::ledger::{Blank, Ledger};
 use std::test::Fail;
 
@@ -161,5 +162,77 @@ fn the_horizon_lags_by_the_delay(rt: HostRuntime) -> Result<(), Fail> {
     );
     assert_eq!(rt; engine.horizon(), 4);
     assert_eq!(rt; engine.plans().plans.len(), 2);
+    Ok(())
+}
+
+/// A plan of two events, the other up to 5 ticks later, or at the same date.
+fn close_plans(alloc: Global) -> Result<Plans, AllocError>
+    ensures proper { IfOk result (λ p. AllByRecursion (λ r. IsProper r.value) p.plans) }
+    ensures few { IfOk result (λ p. length p.plans ≤ 64) }
+    ensures reach { IfOk result (λ p. IsReachOfAll (reaches_of p) p.reach) }
+{
+    let mut plans = List::new(alloc);
+    plans.push(plan(alloc, 0, 1, 0)?)?;
+    Ok(Plans {
+        names: List::new(alloc),
+        derived: List::new(alloc),
+        plans,
+        reach: Some(5),
+    })
+}
+
+/// The ranks of the names 0 and 1.
+fn ranks_with(alloc: Global, one: u32, other: u32) -> Result<Rc<Vec<u32>>, AllocError> {
+    let mut ranks = Vec::new(alloc);
+    ranks.push(one)?;
+    ranks.push(other)?;
+    Ok(Rc::new(alloc, ranks)?)
+}
+
+/// An engine whose names have these ranks. It accepted the other event first at 4, and last at 6.
+fn fed_with(alloc: Global, one: u32, other: u32) -> Result<Engine, AllocError> {
+    let ranks = ranks_with(alloc, one, other)?;
+    let mut engine = Engine::with_ranks(alloc, close_plans(alloc)?, false, 9, ranks)?;
+    let _ = feed(&mut engine, alloc, 4, 1)?;
+    let _ = feed(&mut engine, alloc, 4, 0)?;
+    let _ = feed(&mut engine, alloc, 6, 0)?;
+    let _ = feed(&mut engine, alloc, 6, 1)?;
+    Ok(engine)
+}
+
+/// How many are recognised where the names have these ranks.
+fn recognised_with(alloc: Global, one: u32, other: u32) -> Result<usize, Fail> {
+    let mut engine = fed_with(alloc, one, other)?;
+    Ok(clock_apart::<Brand>(Blank::new(1), &mut engine, 20)?.len())
+}
+
+#[test]
+fn ranks_decide_no_answer(rt: HostRuntime) -> Result<(), Fail> {
+    let alloc = rt.alloc();
+    assert_eq!(rt; recognised_with(alloc, 0, 0)?, 3);
+    assert_eq!(rt; recognised_with(alloc, 1, 2)?, 3);
+    assert_eq!(rt; recognised_with(alloc, 2, 1)?, 3);
+    Ok(())
+}
+
+/// A declared name.
+fn named(name: Sym, arity: u8, kind: Kind) -> Name {
+    Name { name, arity, kind }
+}
+
+#[test]
+fn names_are_ranked_by_the_texts_of_their_entries(rt: HostRuntime) -> Result<(), Fail> {
+    let alloc = rt.alloc();
+    let mut symbols = Symbols::new(alloc, 9)?;
+    let whole = symbols.intern(b"n")?;
+    let message = symbols.intern(b"n1")?;
+    let attribute = symbols.intern(b"n2")?;
+    let mut names = List::new(alloc);
+    names.push(named(whole, 1, Kind::Message))?;
+    names.push(named(message, 0, Kind::Message))?;
+    names.push(named(attribute, 0, Kind::Attribute { values: None }))?;
+    // n1, then n2:(..), then n[..]
+    let ranks = ranks_of(alloc, names.as_slice(), &[], &symbols)?;
+    assert!(rt; ranks.as_slice() == [3, 1, 2].as_slice());
     Ok(())
 }

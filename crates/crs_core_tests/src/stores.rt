@@ -6,7 +6,7 @@ use crate::fixtures::{plan, shared};
 use crs_base::{Entry, List, Steps};
 use crs_history::History;
 use crs_model::{Mark, Plan, Recognition};
-use crs_store::{Store, StoreRefused};
+use crs_store::{Coming, Store, StoreRefused};
 use std::alloc::{AllocError, Global};
 use std::marker::Brand;
 use std::rc::Rc;
@@ -157,7 +157,13 @@ fn held_before<L: Ledger>(
     let mut history = History::new(alloc);
     history.push(offered.clone()?)?;
     let mut steps = Steps::<L>::new(blank);
-    match store.offer_until(&history, &offered, 10, ahead.as_slice(), 12, &mut steps) {
+    let coming = Coming {
+        until: 10,
+        ahead: ahead.as_slice(),
+        beyond: 12,
+        behind: false,
+    };
+    match store.offer_until(&history, &offered, &coming, &mut steps) {
         Ok(()) => Ok(Ok(store.held())),
         Err(refused) => Ok(Err(refused)),
     }

@@ -18,6 +18,7 @@ use Rattle.crs_base.specs.Entry.{Entry}
 use Rattle.crs_base.proofs.Alls.{all_put}
 use Rattle.crs_model.specs.declared.plan.Plans.{Plans}
 use Rattle.crs_engine.specs.Engines.{StandsFor, AreStoresOf, IsEngine, IsWaiting, plans_of, reaches_of, floor_at}
+use Rattle.crs_engine.specs.Moves.{HasRanks}
 use Rattle.crs_engine.proofs.Marking.{AllStand, stores_at}
 use Rattle.crs_engine.proofs.Pools.{among_same}
 use Rattle.crs_model.specs.Levels.{reads_levels}
@@ -26,9 +27,10 @@ abbrev pub planned : List (Rc Plan Global) → List Plan
 planned rs = map (λ r. r.value) rs
 
 -- the stores of the first k plans
-pub record AreStartedBelow (focus : Bool) (k : ℕ) (plans : List (Rc Plan Global)) (stores : List StoreState) : Type 0 where
+pub record AreStartedBelow (focus : Bool) (ranks : List ℕ) (k : ℕ) (plans : List (Rc Plan Global)) (stores : List StoreState) : Type 0 where
   pub of : AreStoresOf focus (planned (take k plans)) 0 stores
   pub stand : AllByRecursion (λ s. Stands s [] [] [] 0 0) stores
+  pub ranked : AllByRecursion (HasRanks ranks) stores
 
 stores_more : (focus : Bool) (ps : List Plan) (n : ℕ) (ss : List StoreState) (p : Plan) (s : StoreState) → AreStoresOf focus ps n ss
     → s.plan ≡ p → s.number ≡ n + length ps → s.focus ≡ reads_levels (chronicle p) focus → AreStoresOf focus (ps ++ p ∷ []) n (ss ++ s ∷ [])
@@ -42,16 +44,17 @@ length_take zero plans l = refl
 length_take (suc k) [] l = absurd (omega arith)
 length_take (suc k) (r ∷ plans) l = ap suc (length_take k plans (omega arith))
 
-pub started_more : (focus : Bool) (k : ℕ) (plans : List (Rc Plan Global)) (out new : List StoreState) (r : Rc Plan Global) (s : StoreState)
-    → k < length plans → r ≡ get_or plans k r → new ≡ out ++ s ∷ [] → AreStartedBelow focus k plans out → s.plan ≡ r.value → s.number ≡ k
-    → (q : Plan) → s.plan ≡ q → s.focus ≡ reads_levels (chronicle q) focus → Stands s [] [] [] 0 0 → AreStartedBelow focus (k + 1) plans new
-started_more focus k plans out new r s l at_k q h a b made made_of f stands =
+pub started_more : (focus : Bool) (ranks : List ℕ) (k : ℕ) (plans : List (Rc Plan Global)) (out new : List StoreState) (r : Rc Plan Global) (s : StoreState)
+    → k < length plans → r ≡ get_or plans k r → new ≡ out ++ s ∷ [] → AreStartedBelow focus ranks k plans out → s.ranks ≡ ranks → s.plan ≡ r.value → s.number ≡ k
+    → (q : Plan) → s.plan ≡ q → s.focus ≡ reads_levels (chronicle q) focus → Stands s [] [] [] 0 0 → AreStartedBelow focus ranks (k + 1) plans new
+started_more focus ranks k plans out new r s l at_k q h w a b made made_of f stands =
     let cut : planned (take (k + 1) plans) ≡ planned (take k plans) ++ r.value ∷ [] =
     ap planned (take_more plans k r l ∙ ap (λ (t : Rc Plan Global). take k plans ++ t ∷ []) (sym at_k)) ∙ map-append (λ (t : Rc Plan Global). t.value) (take k plans) (r ∷ []) in
     let long = length_take k plans (omega arith) in
     rw q (record {
       of = subst (λ (t : List Plan). AreStoresOf focus t 0 (out ++ s ∷ [])) (sym cut) (stores_more focus (planned (take k plans)) 0 out r.value s h.of a (omega (arith, b)) (subst (λ (t : Plan). s.focus ≡ reads_levels (chronicle t) focus) (sym made_of ∙ a) f));
       stand = all_put (λ t. Stands t [] [] [] 0 0) out s h.stand stands;
+      ranked = all_put (HasRanks ranks) out s h.ranked w;
     })
 
 all_far : {floor : ℤ} → floor ≡ lowest → (ps : List Plan) → AllByRecursion (λ p. IsFarBack p.reach 0 floor) ps

@@ -7,3 +7,5 @@ pub mod Marking
 pub mod Floors
 pub mod Forgetting
 pub mod TakenBack
+pub mod Noted
+pub mod Passed

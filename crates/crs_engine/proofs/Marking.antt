@@ -22,6 +22,7 @@ use Rattle.crs_model.specs.Order.{arrived}
 use Rattle.crs_model.specs.Scopes.{Scope, scope_of}
 use Rattle.crs_model.specs.Plans.{chronicle}
 use Rattle.crs_store.specs.Ahead.{AreAhead}
+use Rattle.crs_store.specs.Orders.{AreBehind}
 use Rattle.crs_store.specs.Stores.{StoreState, Stands, StandsAhead, StandsComing, IsSameStore}
 use Rattle.crs_store.proofs.Standing.{ahead_of, coming_of, last_of}
 use Rattle.crs_store.specs.Answers.{IsAnswer, IsMarked, IsAdvanced}
@@ -32,7 +33,7 @@ use Rattle.crs_engine.specs.declared.refused.Refused.{Refused}
 use Rattle.crs_engine.specs.Engines.{HasMoved, EngineState, StandsFor, HaveNumbersBelow, IsStoreAt, IsStoreOf, AreStoresOf, IsWaiting, IsEngine, plans_of, scope_at, has_prompt, not_arrived, floor_at, since}
 use Rattle.crs_engine.proofs.Floors.{floor_later}
 use Rattle.crs_engine.specs.Marks.{ListsAllNew, AfterMark}
-use Rattle.crs_engine.specs.Moves.{AreSameStores, IsTakenIn, IsGivenFresh, AreGivenOne, AreGivenFresh, AreOffered, HasPut, AreOfferedAll, AreAdvanced, AreMarked, IsRestOf, date_after}
+use Rattle.crs_engine.specs.Moves.{AreSameStores, IsTakenIn, IsGivenFresh, AreGivenOne, AreGivenFresh, AreOffered, AreTold, HasPut, AreOfferedAll, AreAdvanced, AreMarked, IsRestOf, date_after}
 use Rattle.crs_engine.proofs.Settling.{date_within, offered_without}
 use Rattle.crs_engine.proofs.Pools.{arrived_all, arrived_none, pool_to, pool_from, pool_apart, stands_alike, among_plain, among_prompt}
 use Rattle.crs_engine.proofs.Order.{numbers_few, ordered_left, ordered_right, ordered_cross, before_parts, since_parts}
@@ -154,15 +155,15 @@ begin_each settled was pool later g h (s ∷ ss) k = (record { date = g; within 
 
 -- ---- offered
 
-taken_one : (o n : StoreState) (put : HistoryState) (x : Entry Sym) (until : ℕ) (ahead : List (Entry Sym)) (beyond : ℕ) (was had settled came later : List (Entry Sym)) (d g h : ℕ) → IsSameStore o n → StandsBy o was had settled came (x ∷ later) d g h → AreAhead ahead beyond later h → IsTakenIn o put x until ahead beyond n
+taken_one : (o n : StoreState) (put : HistoryState) (x : Entry Sym) (until : ℕ) (ahead : List (Entry Sym)) (beyond : ℕ) (behind : Bool) (was had settled came later : List (Entry Sym)) (d g h : ℕ) → IsSameStore o n → StandsBy o was had settled came (x ∷ later) d g h → AreAhead ahead beyond later h → (behind ≡ true → AreBehind o.ranks x later h) → IsTakenIn o put x until ahead beyond behind n
     → HistoryStandsFor (settled ++ x ∷ []) put → IsFarBack o.plan.reach g put.floor → length (settled ++ x ∷ []) < 2 ^ 32 → IsFresh settled x → IsIn x came → d ≤ x.date → x.date ≤ until → StandsBy n was had (settled ++ x ∷ []) came later until g h
-taken_one o n put x until ahead beyond was had settled came later d g h same st coming k kept far few fresh inside dated ends = by o.plan.chronicle.prompt refl
+taken_one o n put x until ahead beyond behind was had settled came later d g h same st coming after k kept far few fresh inside dated ends = by o.plan.chronicle.prompt refl
   where
     after_d : st.date ≤ x.date
     after_d = let w = st.within in omega arith
 
     by : (b : Bool) → o.plan.chronicle.prompt ≡ b → StandsBy n was had (settled ++ x ∷ []) came later until g h
-    by false e = let r = (k.plain e) was settled later st.date g h (st.plain e) coming kept far few fresh after_d in record {
+    by false e = let r = (k.plain e) was settled later st.date g h (st.plain e) coming after kept far few fresh after_d in record {
       date = r.0;
       within = r.2;
       plain = λ f. r.4;
@@ -176,15 +177,15 @@ taken_one o n put x until ahead beyond was had settled came later d g h same st 
           ((k.prompt e) came (settled ++ x ∷ later) [] had came settled st.date g h (st.prompt e) kept far few inside after_d);
     }
 
-offered_one : (olds news : List StoreState) (put : HistoryState) (x : Entry Sym) (until : ℕ) (ahead : List (Entry Sym)) (beyond : ℕ) (was had settled came later : List (Entry Sym)) (d g h : ℕ)
-    → AreSameStores olds news → AllStandBy olds was had settled came (x ∷ later) d g h → AreAhead ahead beyond later h → AreOffered olds put x until ahead beyond news → HistoryStandsFor (settled ++ x ∷ []) put → AllFar olds g put.floor
+offered_one : (olds news : List StoreState) (put : HistoryState) (x : Entry Sym) (until : ℕ) (ahead : List (Entry Sym)) (beyond : ℕ) (behind : Bool) (was had settled came later : List (Entry Sym)) (d g h : ℕ)
+    → AreSameStores olds news → AllStandBy olds was had settled came (x ∷ later) d g h → AreTold olds x ahead beyond behind later h → AreOffered olds put x until ahead beyond behind news → HistoryStandsFor (settled ++ x ∷ []) put → AllFar olds g put.floor
     → length (settled ++ x ∷ []) < 2 ^ 32 → IsFresh settled x → IsIn x came → d ≤ x.date → x.date ≤ until →
     AllStandBy news was had (settled ++ x ∷ []) came later until g h
-offered_one [] [] put x until ahead beyond was had settled came later d g h same stand coming k kept far few fresh inside dated ends = tt
-offered_one [] (n ∷ news) put x until ahead beyond was had settled came later d g h same stand coming k kept far few fresh inside dated ends = absurd k
-offered_one (o ∷ olds) [] put x until ahead beyond was had settled came later d g h same stand coming k kept far few fresh inside dated ends = absurd k
-offered_one (o ∷ olds) (n ∷ news) put x until ahead beyond was had settled came later d g h same stand coming k kept far few fresh inside dated ends =
-    (taken_one o n put x until ahead beyond was had settled came later d g h same.0 stand.0 coming k.0 kept far.0 few fresh inside dated ends, offered_one olds news put x until ahead beyond was had settled came later d g h same.1 stand.1 coming k.1 kept far.1 few fresh inside dated ends)
+offered_one [] [] put x until ahead beyond behind was had settled came later d g h same stand told k kept far few fresh inside dated ends = tt
+offered_one [] (n ∷ news) put x until ahead beyond behind was had settled came later d g h same stand told k kept far few fresh inside dated ends = absurd k
+offered_one (o ∷ olds) [] put x until ahead beyond behind was had settled came later d g h same stand told k kept far few fresh inside dated ends = absurd k
+offered_one (o ∷ olds) (n ∷ news) put x until ahead beyond behind was had settled came later d g h same stand told k kept far few fresh inside dated ends =
+    (taken_one o n put x until ahead beyond behind was had settled came later d g h same.0 stand.0 told.coming (λ b. (told.after b).0) k.0 kept far.0 few fresh inside dated ends, offered_one olds news put x until ahead beyond behind was had settled came later d g h same.1 stand.1 (record { coming = told.coming; after = λ b. (told.after b).1 }) k.1 kept far.1 few fresh inside dated ends)
 
 -- the stores and the history stand for what is settled, and the history goes far enough back
 pub record StandTogether (ss : List StoreState) (past : HistoryState) (was had settled came later : List (Entry Sym)) (d g h : ℕ) : Type 0 where
@@ -192,13 +193,13 @@ pub record StandTogether (ss : List StoreState) (past : HistoryState) (was had s
   pub history : HistoryStandsFor settled past
   pub far : AllFar ss g past.floor
 
-stand_offered : (olds next : List StoreState) (past put : HistoryState) (x : Entry Sym) (until : ℕ) (ahead : List (Entry Sym)) (beyond : ℕ) (was had settled came later : List (Entry Sym)) (d g h : ℕ)
-    → StandTogether olds past was had settled came (x ∷ later) d g h → AreAhead ahead beyond later h → HasPut past x put → AreSameStores olds next → AreOffered olds put x until ahead beyond next
+stand_offered : (olds next : List StoreState) (past put : HistoryState) (x : Entry Sym) (until : ℕ) (ahead : List (Entry Sym)) (beyond : ℕ) (behind : Bool) (was had settled came later : List (Entry Sym)) (d g h : ℕ)
+    → StandTogether olds past was had settled came (x ∷ later) d g h → AreTold olds x ahead beyond behind later h → HasPut past x put → AreSameStores olds next → AreOffered olds put x until ahead beyond behind next
     → length (settled ++ x ∷ []) < 2 ^ 32 → IsFresh settled x → IsIn x came → d ≤ x.date → x.date ≤ until → StandTogether next put was had (settled ++ x ∷ []) came later until g h
-stand_offered olds next past put x until ahead beyond was had settled came later d g h stand coming has same k few fresh inside dated ends =
+stand_offered olds next past put x until ahead beyond behind was had settled came later d g h stand told has same k few fresh inside dated ends =
     let far : AllFar olds g put.floor = subst (AllFar olds g) (sym has.floor) stand.far in
     record {
-      stores = offered_one olds next put x until ahead beyond was had settled came later d g h same stand.stores coming k (has.stands settled stand.history) far few fresh inside dated ends;
+      stores = offered_one olds next put x until ahead beyond behind was had settled came later d g h same stand.stores told k (has.stands settled stand.history) far few fresh inside dated ends;
       history = has.stands settled stand.history;
       far = same_far g put.floor olds next same far;
     }
@@ -229,10 +230,10 @@ offered_all h (x ∷ xs) olds news past now was had settled came d g stand k apa
     let put = k.1 in
     let joined : (settled ++ x ∷ []) ++ xs ≡ settled ++ x ∷ xs = append_assoc settled (x ∷ []) xs in
     let few_one : length (settled ++ x ∷ []) < 2 ^ 32 = let a = length-append settled (x ∷ []) in let b = length-append settled (x ∷ xs) in omega arith in
-    let coming : AreAhead k.2 k.3 xs h = subst (λ (t : List (Entry Sym)). AreAhead k.2 k.3 t h) (append-nil xs) k.4 in
-    let offered : AreOffered olds put x (date_after h xs) k.2 k.3 next = subst (λ (t : List (Entry Sym)). AreOffered olds put x (date_after h t) k.2 k.3 next) (append-nil xs) k.7 in
-    let one = stand_offered olds next past put x (date_after h xs) k.2 k.3 was had settled came xs d g h stand coming k.5 k.6 offered few_one (λ e i. ordered_cross (λ a b. a.arrival ≢ b.arrival) settled (x ∷ xs) apart e x i (inl refl)) (inside x (inl refl)) later.0 (not_after h x xs due.0 dates.0) in
-    let r = offered_all h xs next news put now was had (settled ++ x ∷ []) came (date_after h xs) g one k.8 (subst AreDistinct (sym joined) apart) (none_before h xs dates.1) due.1 (λ y i. inside y (inr i)) dates.1 (date_within h xs)
+    let told : AreTold olds x k.2 k.3 k.4 xs h = subst (λ (t : List (Entry Sym)). AreTold olds x k.2 k.3 k.4 t h) (append-nil xs) k.5 in
+    let offered : AreOffered olds put x (date_after h xs) k.2 k.3 k.4 next = subst (λ (t : List (Entry Sym)). AreOffered olds put x (date_after h t) k.2 k.3 k.4 next) (append-nil xs) k.8 in
+    let one = stand_offered olds next past put x (date_after h xs) k.2 k.3 k.4 was had settled came xs d g h stand told k.6 k.7 offered few_one (λ e i. ordered_cross (λ a b. a.arrival ≢ b.arrival) settled (x ∷ xs) apart e x i (inl refl)) (inside x (inl refl)) later.0 (not_after h x xs due.0 dates.0) in
+    let r = offered_all h xs next news put now was had (settled ++ x ∷ []) came (date_after h xs) g one k.9 (subst AreDistinct (sym joined) apart) (none_before h xs dates.1) due.1 (λ y i. inside y (inr i)) dates.1 (date_within h xs)
     (subst (λ (t : List (Entry Sym)). length t < 2 ^ 32) (sym joined) few) in
     (r.0, subst (λ (t : List (Entry Sym)). StandTogether news now was had t came [] r.0 g h) joined r.1, r.2)
 

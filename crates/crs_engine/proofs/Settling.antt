@@ -9,7 +9,7 @@ use Rattle.crs_base.specs.declared.symbols.Sym.{Sym}
 use Rattle.crs_base.specs.Entry.{Entry, entry_cmp, IsInKeyOrder}
 use Rattle.crs_base.specs.Words.{IsIn}
 use Rattle.crs_base.proofs.Words.{each_from_in, in_from_each, in_append, in_append_left}
-use Rattle.crs_base.proofs.Alls.{all_append, all_left, all_put, all_right}
+use Rattle.crs_base.proofs.Alls.{all_append, all_each, all_left, all_put, all_right}
 use Rattle.crs_base.proofs.KeyOrder.{date_of_less}
 use Rattle.std.specs.declared.cmp.Ordering.TheVariants.{Less}
 use Rattle.crs_model.specs.declared.recognition.Mark.{Mark}
@@ -17,48 +17,66 @@ use Rattle.crs_model.specs.declared.recognition.Recognition.{Recognition}
 use Rattle.crs_buffer.specs.Entries.{released, left}
 use Rattle.crs_history.specs.Histories.{HistoryState, EndsWith, IsAfterAll, StandsFor}
 use Rattle.crs_store.specs.Ahead.{AreAhead}
+use Rattle.crs_store.specs.Orders.{IsBehind, AreBehind}
 use Rattle.crs_store.specs.Stores.{StoreState, IsSameStore}
 use Rattle.crs_store.specs.Answers.{IsAdvanced}
-use Rattle.crs_engine.specs.Moves.{AreSameStores, AreGivenOne, AreGivenFresh, AreOffered, HasPut, AreOfferedAll, AreTaken, ArePut, AreSettled, IsRestOf, AreAdvanced, date_after}
+use Rattle.crs_engine.specs.Moves.{AreSameStores, AreGivenOne, AreGivenFresh, AreOffered, AreTold, HasRanks, AreInOrder, IsFirstBehind, AreApart, HasPut, AreOfferedAll, AreTaken, ArePut, AreSettled, IsRestOf, AreAdvanced, date_after}
 use Rattle.crs_engine.proofs.Order.{ordered_cross, ordered_right, ordered_without}
 
 pub same_all : (ss : List StoreState) → AreSameStores ss ss
 same_all [] = tt
-same_all (s ∷ ss) = (record { plan = refl; number = refl; focus = refl }, same_all ss)
+same_all (s ∷ ss) = (record { plan = refl; number = refl; focus = refl; ranks = refl }, same_all ss)
 
 pub same_on : (xs ys zs : List StoreState) → AreSameStores xs ys → AreSameStores ys zs → AreSameStores xs zs
 same_on [] [] zs h k = k
 same_on [] (y ∷ ys) zs h k = absurd h
 same_on (x ∷ xs) [] zs h k = absurd h
 same_on (x ∷ xs) (y ∷ ys) [] h k = absurd k
-same_on (x ∷ xs) (y ∷ ys) (z ∷ zs) h k = (record { plan = (k.0).plan ∙ (h.0).plan; number = (k.0).number ∙ (h.0).number; focus = (k.0).focus ∙ (h.0).focus }, same_on xs ys zs h.1 k.1)
+same_on (x ∷ xs) (y ∷ ys) (z ∷ zs) h k = (record { plan = (k.0).plan ∙ (h.0).plan; number = (k.0).number ∙ (h.0).number; focus = (k.0).focus ∙ (h.0).focus; ranks = (k.0).ranks ∙ (h.0).ranks }, same_on xs ys zs h.1 k.1)
+
+-- stores that stay the same but for what they hold have the same ranks
+pub ranked_on : (ranks : List ℕ) (xs ys : List StoreState) → AreSameStores xs ys → AllByRecursion (HasRanks ranks) xs → AllByRecursion (HasRanks ranks) ys
+ranked_on ranks [] [] h k = tt
+ranked_on ranks [] (y ∷ ys) h k = absurd h
+ranked_on ranks (x ∷ xs) [] h k = absurd h
+ranked_on ranks (x ∷ xs) (y ∷ ys) h k = ((h.0).ranks ∙ k.0, ranked_on ranks xs ys h.1 k.1)
+
+-- what is behind by the ranks is so by those of each store
+pub behind_all : (ranks : List ℕ) (x : Entry Sym) (later : List (Entry Sym)) (h : ℕ) (ss : List StoreState) → AllByRecursion (HasRanks ranks) ss → AreBehind ranks x later h → AllByRecursion (λ s. AreBehind s.ranks x later h) ss
+behind_all ranks x later h [] all k = tt
+behind_all ranks x later h (s ∷ ss) all k = (subst (λ (r : List ℕ). AreBehind r x later h) (sym all.0) k, behind_all ranks x later h ss all.1 k)
+
+told_as : (stores : List StoreState) (x : Entry Sym) (ahead : List (Entry Sym)) (beyond : ℕ) (behind : Bool) (these those : List (Entry Sym)) (h : ℕ) → these ≡ those → AreTold stores x ahead beyond behind these h → AreTold stores x ahead beyond behind those h
+told_as stores x ahead beyond behind these those h s k = subst (λ (t : List (Entry Sym)). AreTold stores x ahead beyond behind t h) s k
 
 -- one more entry
 offered_more : (h : ℕ) (olds : List StoreState) (past : HistoryState) (xs : List (Entry Sym)) (x : Entry Sym) (after : List (Entry Sym))
     (news : List StoreState) (now : HistoryState)
-    (next : List StoreState) (put : HistoryState) (ahead : List (Entry Sym)) (beyond : ℕ) → AreOfferedAll h (x ∷ after) olds past xs news now → AreAhead ahead beyond after h → HasPut now x put → AreSameStores news next
-    → AreOffered news put x (date_after h after) ahead beyond next → AreOfferedAll h after olds past (xs ++ x ∷ []) next put
-offered_more h olds past [] x after news now next put ahead beyond o a p s k = (
+    (next : List StoreState) (put : HistoryState) (ahead : List (Entry Sym)) (beyond : ℕ) (behind : Bool) → AreOfferedAll h (x ∷ after) olds past xs news now → AreTold news x ahead beyond behind after h → HasPut now x put → AreSameStores news next
+    → AreOffered news put x (date_after h after) ahead beyond behind next → AreOfferedAll h after olds past (xs ++ x ∷ []) next put
+offered_more h olds past [] x after news now next put ahead beyond behind o a p s k = (
   next,
   put,
   ahead,
   beyond,
-  a,
+  behind,
+  subst (λ (t : List StoreState). AreTold t x ahead beyond behind after h) o.0 a,
   subst (λ (t : HistoryState). HasPut t x put) o.1 p,
   subst (λ (t : List StoreState). AreSameStores t next) o.0 s,
-  subst (λ (t : List StoreState). AreOffered t put x (date_after h after) ahead beyond next) o.0 k,
+  subst (λ (t : List StoreState). AreOffered t put x (date_after h after) ahead beyond behind next) o.0 k,
   (refl, refl),
 )
-offered_more h olds past (y ∷ xs) x after news now next put ahead beyond o a p s k = (
+offered_more h olds past (y ∷ xs) x after news now next put ahead beyond behind o a p s k = (
   o.0,
   o.1,
   o.2,
   o.3,
-  subst (λ (t : List (Entry Sym)). AreAhead o.2 o.3 t h) (sym (append_assoc xs (x ∷ []) after)) o.4,
-  o.5,
+  o.4,
+  told_as olds y o.2 o.3 o.4 (xs ++ x ∷ after) ((xs ++ x ∷ []) ++ after) h (sym (append_assoc xs (x ∷ []) after)) o.5,
   o.6,
-  subst (λ (t : List (Entry Sym)). AreOffered olds o.1 y (date_after h t) o.2 o.3 o.0) (sym (append_assoc xs (x ∷ []) after)) o.7,
-  offered_more h o.0 o.1 xs x after news now next put ahead beyond o.8 a p s k,
+  o.7,
+  subst (λ (t : List (Entry Sym)). AreOffered olds o.1 y (date_after h t) o.2 o.3 o.4 o.0) (sym (append_assoc xs (x ∷ []) after)) o.8,
+  offered_more h o.0 o.1 xs x after news now next put ahead beyond behind o.9 a p s k,
 )
 
 abbrev pub IsSmall : Entry Sym → Type 0
@@ -76,6 +94,19 @@ pub record AreSettledSoFar (olds : List StoreState) (past : HistoryState) (due w
   pub floor : now.floor ≡ past.floor
   pub late : AllByRecursion (λ x. past.floor ≤ℤ pos x.date) rest
   pub offered : AreOfferedAll h (rest ++ waiting) olds past done news now
+
+-- what is known besides of their order: they are in that of the ranks where that was seen
+pub record AreRankedSoFar (ranks : List ℕ) (seen : Bool) (waiting : List (Entry Sym)) (news : List StoreState) (rest : List (Entry Sym)) : Type 0 where
+  pub stores : AllByRecursion (HasRanks ranks) news
+  pub order : seen ≡ true → AreInOrder ranks rest
+  pub apart : AreApart rest waiting
+
+pub ranked_more : (ranks : List ℕ) (seen : Bool) (waiting : List (Entry Sym)) (news next : List StoreState) (rest : List (Entry Sym)) (x : Entry Sym) (after : List (Entry Sym)) → rest ≡ x ∷ after → AreSameStores news next → AreRankedSoFar ranks seen waiting news rest → AreRankedSoFar ranks seen waiting next after
+ranked_more ranks seen waiting news next rest x after cut same so = record {
+  stores = ranked_on ranks news next same so.stores;
+  order = λ e. (subst (AreInOrder ranks) cut (so.order e)).1;
+  apart = λ y z i j. so.apart y z (subst (IsIn y) (sym cut) (inr i)) j;
+}
 
 pub settled_none : (olds : List StoreState) (past : HistoryState) (due waiting : List (Entry Sym)) (h : ℕ) → AllByRecursion IsSmall due → AllByRecursion (λ x. x.date < h) due → IsInKeyOrder (past.entries ++ (due ++ waiting))
     → AllByRecursion (λ x. past.floor ≤ℤ pos x.date) due → AreSettledSoFar olds past due waiting h olds past due
@@ -190,10 +221,10 @@ module _ (olds : List StoreState) (past : HistoryState) (due waiting : List (Ent
           stands = λ es k. subst (λ (t : Entry Sym). StandsFor (es ++ t ∷ []) pushed) same_entry (stands_on es k);
         }
 
-        pub settled_on : (next : List StoreState) → AreSameStores news next → (until : ℕ) → until ≡ date_after h (after ++ waiting) → (ahead : List (Entry Sym)) (beyond : ℕ) → AreAhead ahead beyond (after ++ waiting) h
-            → AreOffered news pushed x until ahead beyond next
+        pub settled_on : (next : List StoreState) → AreSameStores news next → (until : ℕ) → until ≡ date_after h (after ++ waiting) → (ahead : List (Entry Sym)) (beyond : ℕ) (behind : Bool) → AreTold news x ahead beyond behind (after ++ waiting) h
+            → AreOffered news pushed x until ahead beyond behind next
             → AreSettledSoFar olds past due waiting h next pushed after
-        settled_on next same until u ahead beyond coming offered = record {
+        settled_on next same until u ahead beyond told coming offered = record {
           same = same_on olds news next so.same same;
           small = (subst (AllByRecursion IsSmall) cut so.small).1;
           before = before_after;
@@ -203,8 +234,8 @@ module _ (olds : List StoreState) (past : HistoryState) (due waiting : List (Ent
           order = subst IsInKeyOrder (sym (ap (λ (t : List (Entry Sym)). t ++ behind) entries_are ∙ append_assoc now.entries (x ∷ []) behind)) order_cut;
           floor = floor_with;
           late = (subst (AllByRecursion (λ y. past.floor ≤ℤ pos y.date)) cut so.late).1;
-          offered = offered_more h olds past so.done x behind news now next pushed ahead beyond (subst (λ (t : List (Entry Sym)). AreOfferedAll h (t ++ waiting) olds past so.done news now) cut so.offered) coming put_last same
-              (subst (λ (n : ℕ). AreOffered news pushed x n ahead beyond next) u offered);
+          offered = offered_more h olds past so.done x behind news now next pushed ahead beyond told (subst (λ (t : List (Entry Sym)). AreOfferedAll h (t ++ waiting) olds past so.done news now) cut so.offered) coming put_last same
+              (subst (λ (n : ℕ). AreOffered news pushed x n ahead beyond told next) u offered);
         }
 
 -- ---- what is due
@@ -238,23 +269,60 @@ rest_behind x held rest r = (x ∷ r.0, ap (λ (t : List (Entry Sym)). x ∷ t) 
 pub rest_first : (h : ℕ) (held after : List (Entry Sym)) (x : Entry Sym) → released held h ≡ Some x → after ≡ left held h → IsRestOf held after
 rest_first h held after x e r = (x ∷ [], (first_taken h held after x e r).0)
 
--- one more is out
-pub rest_more : (h : ℕ) (taken : List (Entry Sym)) (x : Entry Sym) (held rest after : List (Entry Sym)) (y : Entry Sym) → AreTakenSoFar h taken x held rest → released rest h ≡ Some y → after ≡ left rest h → IsRestOf held after
-rest_more h taken x held rest after y so e r = rest_on held rest after so.rest_of (rest_first h rest after y e r)
+-- a piece so far, whose last entry has the date: what is left is dated no earlier, in key order
+pub record AreInPiece (h date : ℕ) (taken : List (Entry Sym)) (x : Entry Sym) (held rest : List (Entry Sym)) : Type 0 where
+  pub so : AreTakenSoFar h taken x held rest
+  pub early : AllByRecursion (λ z. z.date ≤ date) taken
+  pub later : AllByRecursion (λ z. date ≤ z.date) rest
+  pub order : IsInKeyOrder rest
+  pub near : date < h
 
-pub taken_more : (h : ℕ) (taken : List (Entry Sym)) (x : Entry Sym) (held rest after next : List (Entry Sym)) (y : Entry Sym) → AreTakenSoFar h taken x held rest → released rest h ≡ Some y → after ≡ left rest h → next ≡ taken ++ y ∷ [] → AreTakenSoFar h next x held after
-taken_more h taken x held rest after next y so e r n =
-    let out = first_taken h rest after y e r in
-    record {
-      taken_out = record {
-        parted = (so.taken_out).parted ∙ ap (λ (t : List (Entry Sym)). taken ++ t) out.0 ∙ sym (append_assoc taken (y ∷ []) after) ∙ ap (λ (t : List (Entry Sym)). t ++ after) (sym n);
-        before = subst (AllByRecursion (λ x. x.date < h)) (sym n) (all_put (λ z. z.date < h) taken y (so.taken_out).before out.1);
+-- those behind an entry are dated no earlier
+after_first : (x : Entry Sym) (rest : List (Entry Sym)) → IsInKeyOrder (x ∷ rest) → AllByRecursion (λ z. x.date ≤ z.date) rest
+after_first x rest order = all_each {P = λ z. entry_cmp x z ≡ Less} rest (λ z l. date_of_less x z l) order.0
+
+pub piece_first : (h : ℕ) (x : Entry Sym) (held taken : List (Entry Sym)) → taken ≡ x ∷ [] → IsInKeyOrder (x ∷ held) → x.date < h → AreInPiece h x.date taken x held held
+piece_first h x held taken one order l = rw one (record {
+  so = record { taken_out = record { parted = refl; before = (l, tt) }; rest_of = ([], refl) };
+  early = (omega arith, tt);
+  later = after_first x held order;
+  order = order.1;
+  near = l;
+})
+
+-- one more is out
+pub rest_more : (n : ℕ) (x : Entry Sym) (held rest after : List (Entry Sym)) (y : Entry Sym) → IsRestOf held rest → released rest n ≡ Some y → after ≡ left rest n → IsRestOf held after
+rest_more n x held rest after y so e r = rest_on held rest after so (rest_first n rest after y e r)
+
+pub piece_next : (h date n : ℕ) (taken next : List (Entry Sym)) (x : Entry Sym) (held rest after : List (Entry Sym)) (y : Entry Sym) → AreInPiece h date taken x held rest → n ≤ h → released rest n ≡ Some y → after ≡ left rest n → next ≡ taken ++ y ∷ [] → AreInPiece h y.date next x held after
+piece_next h date n taken next x held rest after y p w e r is =
+    let out = first_taken n rest after y e r in
+    let here = out.1 in
+    let later : AllByRecursion (λ z. date ≤ z.date) (y ∷ after) = subst (AllByRecursion (λ z. date ≤ z.date)) out.0 p.later in
+    let order : IsInKeyOrder (y ∷ after) = subst IsInKeyOrder out.0 p.order in
+    let on = later.0 in
+    rw is (record {
+      so = record {
+        taken_out = record {
+          parted = ((p.so).taken_out).parted ∙ ap (λ (t : List (Entry Sym)). taken ++ t) out.0 ∙ sym (append_assoc taken (y ∷ []) after);
+          before = all_put (λ z. z.date < h) taken y ((p.so).taken_out).before (omega arith);
+        };
+        rest_of = rest_more n x held rest after y (p.so).rest_of e r;
       };
-      rest_of = rest_more h taken x held rest after y so e r;
-    }
+      early = all_put (λ z. z.date ≤ y.date) taken y (all_each {P = λ z. z.date ≤ date} taken (λ z k. omega arith) p.early) (omega arith);
+      later = after_first y after order;
+      order = order.1;
+      near = omega arith;
+    })
+
+-- where none is left up to a later date, the piece is apart from what is left
+pub piece_apart : (h date n : ℕ) (taken : List (Entry Sym)) (x : Entry Sym) (held rest : List (Entry Sym)) → AreInPiece h date taken x held rest → date < n → AllByRecursion (λ z. n ≤ z.date) rest → AreApart taken rest
+piece_apart h date n taken x held rest p l none y z i j =
+    let a = in_from_each (λ w. w.date ≤ date) taken p.early y i in
+    let b = in_from_each (λ w. n ≤ w.date) rest none z j in omega arith
 
 -- nothing comes out where none is due
-left_none : (h : ℕ) (es : List (Entry Sym)) → AllByRecursion (λ x. h ≤ x.date) es → left es h ≡ es
+pub left_none : (h : ℕ) (es : List (Entry Sym)) → AllByRecursion (λ x. h ≤ x.date) es → left es h ≡ es
 left_none h [] k = refl
 left_none h (e ∷ es) k = ap (λ (b : Bool). cond b es (e ∷ es)) (le-ltb e.date h k.0)
 
@@ -274,6 +342,10 @@ each_taken P h taken held rest t all = all_left P taken rest (subst (AllByRecurs
 
 -- ---- the date behind a piece
 
+-- dates that are told are within their limit
+pub after_within : (h : ℕ) (es : List (Entry Sym)) (d : ℕ) → d ≡ date_after h es → h ≤ 2 ^ 42 → d ≤ 2 ^ 42
+after_within h es d is small = subst (λ (k : ℕ). k ≤ 2 ^ 42) (sym is) (let w : date_after h es ≤ h = date_within h es in omega (arith, small))
+
 pub date_joined : (h : ℕ) (xs ys : List (Entry Sym)) → AllByRecursion (λ x. x.date < h) xs → IsInKeyOrder (xs ++ ys) → (next : ℕ) → next ≡ date_after h ys → date_after next xs ≡ date_after h (xs ++ ys)
 date_joined h [] ys before order next n = n
 date_joined h (x ∷ xs) ys before order next n =
@@ -291,6 +363,40 @@ parted_behind h after ahead others waiting order before parted next n beyond b =
     subst (λ (m : ℕ). AreAhead ahead m (after ++ waiting) h) (sym (b ∙ date_joined h others waiting before_others order_others next n))
     (parted_ahead h (after ++ waiting) ahead (others ++ waiting) order regrouped)
 
+-- ---- in the order of ranks
+
+behind_on : (ranks : List ℕ) (x y z : Entry Sym) → IsBehind ranks x y → IsBehind ranks y z → IsBehind ranks x z
+behind_on ranks x y z (inl a) (inl b) = inl (omega arith)
+behind_on ranks x y z (inl a) (inr b) = inl (let q = b.0 in omega arith)
+behind_on ranks x y z (inr a) (inl b) = inl (let q = a.0 in omega arith)
+behind_on ranks x y z (inr a) (inr b) = inr (a.0 ∙ b.0, let p = a.1 in let q = b.1 in omega arith)
+
+-- where the first is behind none of the others, and they are in order, so are all
+in_order_first : (ranks : List ℕ) (x y : Entry Sym) (rest : List (Entry Sym)) → IsBehind ranks x y → AreInOrder ranks (y ∷ rest) → AreInOrder ranks (x ∷ y ∷ rest)
+in_order_first ranks x y rest b order = ((b, all_each {P = IsBehind ranks y} rest (λ z k. behind_on ranks x y z b k) order.0), order)
+
+pub in_order_more : (ranks : List ℕ) (x : Entry Sym) (rest : List (Entry Sym)) → IsFirstBehind ranks x rest → AreInOrder ranks rest → AreInOrder ranks (x ∷ rest)
+in_order_more ranks x [] b order = (tt, tt)
+in_order_more ranks x (y ∷ ys) b order = in_order_first ranks x y ys b order
+
+-- an entry of a piece that is in order, which the others are behind by their dates, is before all that come later
+pub piece_behind : (ranks : List ℕ) (x : Entry Sym) (after waiting : List (Entry Sym)) (h : ℕ) → AreInOrder ranks (x ∷ after) → ((y : Entry Sym) → IsIn y waiting → x.date < y.date) → x.date < h → AreBehind ranks x (after ++ waiting) h
+piece_behind ranks x after waiting h order apart l = record {
+  each = λ y i. elim (in_append after waiting y i) [
+    | inl a ↦ in_from_each (IsBehind ranks x) after order.0 y a
+    | inr b ↦ inl (apart y b)
+  ];
+  within = l;
+}
+
+-- what the stores are told of those behind the first of a piece
+pub told_of : (ranks : List ℕ) (seen : Bool) (waiting : List (Entry Sym)) (news : List StoreState) (rest : List (Entry Sym)) (x : Entry Sym) (after : List (Entry Sym)) (h : ℕ) (ahead : List (Entry Sym)) (beyond : ℕ) → rest ≡ x ∷ after → x.date < h → AreRankedSoFar ranks seen waiting news rest → AreAhead ahead beyond (after ++ waiting) h
+    → AreTold news x ahead beyond seen (after ++ waiting) h
+told_of ranks seen waiting news rest x after h ahead beyond cut l so coming = record {
+  coming = coming;
+  after = λ e. behind_all ranks x (after ++ waiting) h news so.stores (piece_behind ranks x after waiting h (subst (AreInOrder ranks) cut (so.order e)) (λ y i. so.apart x y (subst (IsIn x) (sym cut) (inl refl)) i) l);
+}
+
 -- ---- piece by piece
 
 -- what a second piece does, behind the first
@@ -302,11 +408,12 @@ offered_on h (x ∷ xs) ys rest olds mid news past put now first second = (
   first.1,
   first.2,
   first.3,
-  subst (λ (t : List (Entry Sym)). AreAhead first.2 first.3 t h) (sym (append_assoc xs ys rest)) first.4,
-  first.5,
+  first.4,
+  told_as olds x first.2 first.3 first.4 (xs ++ (ys ++ rest)) ((xs ++ ys) ++ rest) h (sym (append_assoc xs ys rest)) first.5,
   first.6,
-  subst (λ (t : List (Entry Sym)). AreOffered olds first.1 x (date_after h t) first.2 first.3 first.0) (sym (append_assoc xs ys rest)) first.7,
-  offered_on h xs ys rest first.0 mid news first.1 put now first.8 second,
+  first.7,
+  subst (λ (t : List (Entry Sym)). AreOffered olds first.1 x (date_after h t) first.2 first.3 first.4 first.0) (sym (append_assoc xs ys rest)) first.8,
+  offered_on h xs ys rest first.0 mid news first.1 put now first.9 second,
 )
 
 -- what isn't due is as if it didn't come
@@ -315,10 +422,19 @@ date_without h [] [] after = refl
 date_without h [] (r ∷ rest) after = let l = after.0 in omega (arith, l)
 date_without h (x ∷ xs) rest after = refl
 
-ahead_without : (ahead : List (Entry Sym)) (beyond : ℕ) (xs rest : List (Entry Sym)) (h : ℕ) → AreAhead ahead beyond (xs ++ rest) h → AreAhead ahead beyond (xs ++ []) h
-ahead_without ahead beyond xs rest h a = record {
-  each = λ x i. a.each x (in_append_left xs rest x (subst (IsIn x) (append-nil xs) i));
+behind_without : (ranks : List ℕ) (x : Entry Sym) (xs rest : List (Entry Sym)) (h : ℕ) → AreBehind ranks x (xs ++ rest) h → AreBehind ranks x (xs ++ []) h
+behind_without ranks x xs rest h a = record {
+  each = λ y i. a.each y (in_append_left xs rest y (subst (IsIn y) (append-nil xs) i));
   within = a.within;
+}
+
+told_without : (stores : List StoreState) (x : Entry Sym) (ahead : List (Entry Sym)) (beyond : ℕ) (behind : Bool) (xs rest : List (Entry Sym)) (h : ℕ) → AreTold stores x ahead beyond behind (xs ++ rest) h → AreTold stores x ahead beyond behind (xs ++ []) h
+told_without stores x ahead beyond seen xs rest h a = record {
+  coming = record {
+    each = λ y i. (a.coming).each y (in_append_left xs rest y (subst (IsIn y) (append-nil xs) i));
+    within = (a.coming).within;
+  };
+  after = λ b. all_each {P = λ s. AreBehind s.ranks x (xs ++ rest) h} stores (λ s k. behind_without s.ranks x xs rest h k) (a.after b);
 }
 
 pub offered_without : (h : ℕ) (xs rest : List (Entry Sym)) (olds news : List StoreState) (past now : HistoryState) → AllByRecursion (λ x. h ≤ x.date) rest → AreOfferedAll h rest olds past xs news now → AreOfferedAll h [] olds past xs news now
@@ -328,11 +444,12 @@ offered_without h (x ∷ xs) rest olds news past now after o = (
   o.1,
   o.2,
   o.3,
-  ahead_without o.2 o.3 xs rest h o.4,
-  o.5,
+  o.4,
+  told_without olds x o.2 o.3 o.4 xs rest h o.5,
   o.6,
-  subst (λ (n : ℕ). AreOffered olds o.1 x n o.2 o.3 o.0) (date_without h xs rest after) o.7,
-  offered_without h xs rest o.0 news o.1 now after o.8,
+  o.7,
+  subst (λ (n : ℕ). AreOffered olds o.1 x n o.2 o.3 o.4 o.0) (date_without h xs rest after) o.8,
+  offered_without h xs rest o.0 news o.1 now after o.9,
 )
 
 -- what is known between two pieces

@@ -1,4 +1,5 @@
 pub mod Engines
+pub mod Concerns
 pub mod EngineRefusals
 pub mod Marks
 pub mod Moves

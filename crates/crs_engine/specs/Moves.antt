@@ -3,25 +3,32 @@ use Rattle.std.specs.Prelude.{Bool, true, false, if◌then◌else◌, ◌≡◌,
 use Rattle.std.specs.List.{AllByRecursion, AllZip}
 use Rattle.crs_base.specs.declared.symbols.Sym.{Sym}
 use Rattle.crs_base.specs.Entry.{Entry}
+use Rattle.crs_base.specs.Words.{IsIn, Ordered}
 use Rattle.crs_model.specs.declared.recognition.Mark.{Mark}
 use Rattle.crs_model.specs.declared.recognition.Recognition.{Recognition}
 use Rattle.crs_model.specs.Order.{put_in_order}
 use Rattle.crs_history.specs.Histories.{HistoryState, StandsFor}
 use Rattle.crs_store.specs.Stores.{StoreState, IsSameStore, IsOfferedUntil, IsOfferedPromptAhead, IsSettledComing}
 use Rattle.crs_store.specs.Ahead.{AreAhead}
+use Rattle.crs_store.specs.Orders.{IsBehind, AreBehind}
 use Rattle.crs_store.specs.Answers.{IsAdvanced}
 
 abbrev pub AreSameStores : List StoreState → List StoreState → Type 0
 AreSameStores olds news = AllZip IsSameStore olds news
 
 -- it was offered x, or x was settled where its chronicle is prompt
-pub record IsTakenIn (o : StoreState) (history : HistoryState) (x : Entry Sym) (until : ℕ) (ahead : List (Entry Sym)) (beyond : ℕ) (n : StoreState) : Type 0 where
-  pub plain : o.plan.chronicle.prompt ≡ false → IsOfferedUntil o history x until ahead beyond n
+pub record IsTakenIn (o : StoreState) (history : HistoryState) (x : Entry Sym) (until : ℕ) (ahead : List (Entry Sym)) (beyond : ℕ) (behind : Bool) (n : StoreState) : Type 0 where
+  pub plain : o.plan.chronicle.prompt ≡ false → IsOfferedUntil o history x until ahead beyond behind n
   pub prompt : o.plan.chronicle.prompt ≡ true → IsSettledComing o history x n
 
--- each was offered x, which the history has as its last, and told of the entries ahead of all that are dated at or after a date, and all that it holds was judged at a date that isn't after `until`; where its chronicle is prompt, x was settled
-abbrev pub AreOffered : List StoreState → HistoryState → Entry Sym → ℕ → List (Entry Sym) → ℕ → List StoreState → Type 0
-AreOffered olds history x until ahead beyond news = AllZip (λ o n. IsTakenIn o history x until ahead beyond n) olds news
+-- each was offered x, which the history has as its last, and told of the entries ahead of all that are dated at or after a date and whether they are behind x, and all that it holds was judged at a date that isn't after `until`; where its chronicle is prompt, x was settled
+abbrev pub AreOffered : List StoreState → HistoryState → Entry Sym → ℕ → List (Entry Sym) → ℕ → Bool → List StoreState → Type 0
+AreOffered olds history x until ahead beyond behind news = AllZip (λ o n. IsTakenIn o history x until ahead beyond behind n) olds news
+
+-- what the stores are told of the later entries is so
+pub record AreTold (stores : List StoreState) (x : Entry Sym) (ahead : List (Entry Sym)) (beyond : ℕ) (behind : Bool) (later : List (Entry Sym)) (h : ℕ) : Type 0 where
+  pub coming : AreAhead ahead beyond later h
+  pub after : behind ≡ true → AllByRecursion (λ s. AreBehind s.ranks x later h) stores
 
 -- x came to its pool where its chronicle is prompt, and it was told of the entries ahead of all that are dated at or after a date; else nothing changed
 pub record IsGivenFresh (o : StoreState) (history : HistoryState) (x : Entry Sym) (ahead : List (Entry Sym)) (beyond : ℕ) (n : StoreState) : Type 0 where
@@ -53,14 +60,14 @@ pub record HasPut (past : HistoryState) (x : Entry Sym) (now : HistoryState) : T
   pub floor : now.floor ≡ past.floor
   pub stands : (es : List (Entry Sym)) → StandsFor es past → StandsFor (es ++ x ∷ []) now
 
--- Each entry in turn was put last in the history, and each store was offered it, told of some of those after it, and judged all no later than at the date of the entry after it,
+-- Each entry in turn was put last in the history, and each store was offered it, told of those after it, and judged all no later than at the date of the entry after it,
 -- or than at h where that is the lesser or there is none. The rest comes after these entries.
 abbrev pub AreOfferedAll : ℕ → List (Entry Sym) → List StoreState → HistoryState → List (Entry Sym) → List StoreState → HistoryState
     → Type 0
 AreOfferedAll h rest olds past [] news now = (news ≡ olds) × (now ≡ past)
 AreOfferedAll h rest olds past (x ∷ xs) news now =
-    (next : List StoreState) × (put : HistoryState) × (ahead : List (Entry Sym)) × (beyond : ℕ) × AreAhead ahead beyond (xs ++ rest) h × HasPut past x put × AreSameStores olds next
-    × AreOffered olds put x (date_after h (xs ++ rest)) ahead beyond next × AreOfferedAll h rest next put xs news now
+    (next : List StoreState) × (put : HistoryState) × (ahead : List (Entry Sym)) × (beyond : ℕ) × (behind : Bool) × AreTold olds x ahead beyond behind (xs ++ rest) h × HasPut past x put × AreSameStores olds next
+    × AreOffered olds put x (date_after h (xs ++ rest)) ahead beyond behind next × AreOfferedAll h rest next put xs news now
 
 -- the first of the entries, all dated before h, and then the others
 pub record AreTaken (h : ℕ) (taken held rest : List (Entry Sym)) : Type 0 where
@@ -99,3 +106,20 @@ pub record AreMarked (h : ℕ) (mark : Mark) (olds : List StoreState) (past : Hi
   pub settled : AreSettled pooled past held h between now rest
   pub after : AllByRecursion (λ x. h ≤ x.date) rest
   pub advanced : AreAdvanced now h mark between news answer
+
+-- it has these ranks
+abbrev pub HasRanks : List ℕ → StoreState → Type 0
+HasRanks ranks s = s.ranks ≡ ranks
+
+-- each of the entries is behind those before it
+abbrev pub AreInOrder : List ℕ → List (Entry Sym) → Type 0
+AreInOrder ranks xs = Ordered (IsBehind ranks) xs
+
+-- each of the ones is dated before each of the others
+abbrev pub AreApart : List (Entry Sym) → List (Entry Sym) → Type 0
+AreApart taken rest = (x y : Entry Sym) → IsIn x taken → IsIn y rest → x.date < y.date
+
+-- the first of the others, if there is one, is behind x
+abbrev pub IsFirstBehind : List ℕ → Entry Sym → List (Entry Sym) → Type 0
+IsFirstBehind ranks x [] = Unit {0}
+IsFirstBehind ranks x (y ∷ ys) = IsBehind ranks x y

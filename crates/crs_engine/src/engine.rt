@@ -13,6 +13,8 @@ ghost use Rattle.crs_engine.specs.Marks.{AfterMark};
 ghost use Rattle.crs_engine.specs.declared.refused.Refused.{Refused};
 ghost use Rattle.crs_engine.specs.declared.refused.Refused.TheVariants.{Memory};
 
+use crate::concerned::{Names, concerned_of};
+use crate::entries::Entries;
 use crate::looked_up::looked_up;
 use crate::moving::{forget_behind, hold, mark_all};
 use crate::refused::Refused;
@@ -37,13 +39,11 @@ const END: u64 = 4_398_046_511_104;
 pub struct Engine {
     plans: Plans,
     stores: Vec<Store>,
-    history: History,
-    buffer: Buffer,
+    names: Names,
+    entries: Entries,
     /// Those of the waiting entries that were accepted since the last mark, where some chronicle is
     /// prompt.
     fresh: Buffer,
-    /// What is settled at a mark. It is filled anew at each one, and keeps its memory.
-    due: Vec<Rc<Entry>>,
     delay: u64,
     last: u64,
     horizon: u64,
@@ -55,18 +55,19 @@ pub struct Engine {
     /// Whether some chronicle is prompt.
     prompt: bool,
     stopped: bool,
-    alloc: Global,
 }
 
 impl Model for Engine {
-    ghost use Rattle.std.specs.Prelude.{◌≡◌};
-    ghost use Rattle.crs_engine.specs.Engines.{EngineState, IsEngine, has_prompt};
+    ghost use Rattle.std.specs.List.{AllByRecursion};
+    ghost use Rattle.crs_engine.specs.Engines.{EngineState, IsEngine};
+    ghost use Rattle.crs_engine.specs.Concerns.{AreKept};
+    ghost use Rattle.crs_engine.specs.Moves.{HasRanks};
 
     ghost Value = { EngineState };
 
-    ghost view = { λ e. record { plans = e.plans; stores = e.stores.items; history = e.history; waiting = e.buffer; fresh = e.fresh; delay = e.delay; last = e.last; horizon = e.horizon; accepted = e.accepted; marked = e.marked; limit = e.limit; focus = e.focus; stopped = e.stopped } };
+    ghost view = { λ e. record { plans = e.plans; stores = e.stores.items; history = e.entries.history; waiting = e.entries.buffer; fresh = e.fresh; delay = e.delay; last = e.last; horizon = e.horizon; accepted = e.accepted; marked = e.marked; limit = e.limit; focus = e.focus; stopped = e.stopped } };
 
-    ghost invariant = { λ e. IsEngine (record { plans = e.plans; stores = e.stores.items; history = e.history; waiting = e.buffer; fresh = e.fresh; delay = e.delay; last = e.last; horizon = e.horizon; accepted = e.accepted; marked = e.marked; limit = e.limit; focus = e.focus; stopped = e.stopped }) × (e.prompt ≡ has_prompt e.plans) };
+    ghost invariant = { λ e. IsEngine (record { plans = e.plans; stores = e.stores.items; history = e.entries.history; waiting = e.entries.buffer; fresh = e.fresh; delay = e.delay; last = e.last; horizon = e.horizon; accepted = e.accepted; marked = e.marked; limit = e.limit; focus = e.focus; stopped = e.stopped }) × AreKept e.plans e.prompt e.names.concerned × AllByRecursion (HasRanks e.names.ranks.value.items) e.stores.items };
 }
 
 impl Engine {
@@ -79,16 +80,45 @@ impl Engine {
         ensures new { IfOk result (IsNewEngine plans focus limit) }
         ensures stands { IfOk result (λ e. StandsFor e [] []) }
     {
-        let stores = stores_of(alloc, plans.plans.as_slice(), focus)?;
+        let ranks = Rc::new(alloc, Vec::new(alloc))?;
+        Engine::with_ranks(alloc, plans, focus, limit, ranks)
+    }
+
+    /// The same, where the ranks of names are told, by their numbers, in whose order entries of one date
+    /// come (`ranks_of`). What they say decides no answer, but how long a run takes.
+    pub fn with_ranks(
+        alloc: Global,
+        plans: Plans,
+        focus: bool,
+        limit: u32,
+        ranks: Rc<Vec<u32>>,
+    ) -> Result<Engine, AllocError>
+        requires proper { AllByRecursion (λ r. IsProper r.value) plans.plans }
+        requires few { length plans.plans ≤ 64 }
+        requires reach { IsReachOfAll (reaches_of plans) plans.reach }
+        ensures new { IfOk result (IsNewEngine plans focus limit) }
+        ensures stands { IfOk result (λ e. StandsFor e [] []) }
+    {
+        let stores = stores_of(alloc, plans.plans.as_slice(), focus, &ranks)?;
         let prompt = has_prompt(plans.plans.as_slice());
+        let concerned = concerned_of(alloc, plans.plans.as_slice())?;
         let places = looked_up(alloc, plans.plans.as_slice(), focus)?;
+        let history = History::with_look_ups(alloc, places);
+        let buffer = Buffer::new(alloc);
+        let fresh = Buffer::new(alloc);
+        let entries = Entries {
+            buffer,
+            due: Vec::new(alloc),
+            history,
+            spare: Vec::new(alloc),
+            alloc,
+        };
         Ok(Engine {
             plans,
             stores,
-            history: History::with_look_ups(alloc, places),
-            buffer: Buffer::new(alloc),
-            fresh: Buffer::new(alloc),
-            due: Vec::new(alloc),
+            names: Names { concerned, ranks },
+            entries,
+            fresh,
             delay: 0,
             last: 0,
             horizon: 0,
@@ -98,7 +128,6 @@ impl Engine {
             focus,
             prompt,
             stopped: false,
-            alloc,
         })
     }
 
@@ -140,7 +169,7 @@ impl Engine {
     pub fn history(&self) -> &History
         ensures { result.now ≡ self.now.history }
     {
-        &self.history
+        &self.entries.history
     }
 
     /// How many ticks the horizon lags behind the clock, from the next clock on.
@@ -193,9 +222,10 @@ impl Engine {
             return Err(Refused::Full { limit: self.limit });
         }
         match hold(
-            self.alloc,
-            &mut self.buffer,
+            self.entries.alloc,
+            &mut self.entries.buffer,
             &mut self.fresh,
+            &mut self.entries.spare,
             self.prompt,
             entry,
         ) {
@@ -281,7 +311,13 @@ impl Engine {
         ensures stands { (settled : Items (LogEntry Sym)) (waiting : Items (LogEntry Sym)) → StandsFor self.old settled waiting → StandsFor self.new settled waiting }
     {
         if let Some(reach) = self.plans.reach {
-            forget_behind(&mut self.history, self.horizon, reach);
+            let entries = &mut self.entries;
+            forget_behind(
+                &mut entries.history,
+                self.horizon,
+                reach,
+                &mut entries.spare,
+            );
         }
     }
 
@@ -302,12 +338,10 @@ impl Engine {
         ensures marked { IfOk result (λ answer. (settled : Items (LogEntry Sym)) (waiting : Items (LogEntry Sym)) → StandsFor self.old settled waiting → AfterMark self.old self.new mark settled waiting answer) }
     {
         match mark_all(
-            self.alloc,
             &mut self.stores,
-            &mut self.history,
-            &mut self.buffer,
+            &self.names,
+            &mut self.entries,
             &mut self.fresh,
-            &mut self.due,
             h,
             mark,
             steps,

@@ -26,6 +26,7 @@ use crs_engine::Refused;
 use crs_model::{Mark, Plans, strata_of};
 use std::alloc::{AllocError, Global};
 use std::marker::Model;
+use std::rc::Rc;
 use std::sync::ledger::Ledger;
 
 /// The recogniser of some plans over one stream of entries, stratum by stratum. There is at least one.
@@ -64,6 +65,26 @@ impl Layers {
         ensures new { IfOk result (AreNew plans focus limit) }
         ensures stands { IfOk result StandAtStart }
     {
+        let ranks = Rc::new(alloc, Vec::new(alloc))?;
+        Layers::with_ranks(alloc, plans, focus, limit, ranks)
+    }
+
+    /// The same, where the ranks of names are told, by their numbers, in whose order entries of one date
+    /// come (`ranks_of` of crs_engine). What they say decides no answer, but how long a run takes.
+    pub fn with_ranks(
+        alloc: Global,
+        plans: Plans,
+        focus: bool,
+        limit: u32,
+        ranks: Rc<Vec<u32>>,
+    ) -> Result<Layers, AllocError>
+        requires proper { AllByRecursion (λ r. IsProper r.value) plans.plans }
+        requires few { length plans.plans ≤ 64 }
+        requires in_order { AreInOrder (map (λ r. chronicle r.value) plans.plans) }
+        requires lags { HaveShortLags (plans_of plans) }
+        ensures new { IfOk result (AreNew plans focus limit) }
+        ensures stands { IfOk result StandAtStart }
+    {
         let strata = strata_of(alloc, plans.plans.as_slice())?;
         let layers = layers_of(
             alloc,
@@ -71,6 +92,7 @@ impl Layers {
             strata.as_slice(),
             focus,
             limit,
+            &ranks,
         )?;
         Ok(Layers {
             plans,

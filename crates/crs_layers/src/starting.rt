@@ -101,6 +101,7 @@ fn engine_of(
     stratum: u8,
     focus: bool,
     limit: u32,
+    ranks: &Rc<Vec<u32>>,
 ) -> Result<Engine, AllocError>
     requires proper { AllByRecursion (λ r. IsProper r.value) plans.now }
     requires few { length plans.now ≤ 64 }
@@ -115,7 +116,8 @@ fn engine_of(
         plans: own,
         reach,
     };
-    Engine::new(alloc, plans_of_own, focus, limit)
+    let shared = ranks.clone()?;
+    Engine::with_ranks(alloc, plans_of_own, focus, limit, shared)
 }
 
 /// A new stratum, whose horizon lies the lags of the strata below it behind that of stratum 0.
@@ -126,6 +128,7 @@ fn layer_of(
     stratum: u8,
     focus: bool,
     limit: u32,
+    ranks: &Rc<Vec<u32>>,
 ) -> Result<Layer, AllocError>
     requires proper { AllByRecursion (λ r. IsProper r.value) plans.now }
     requires few { length plans.now ≤ 64 }
@@ -136,7 +139,7 @@ fn layer_of(
 {
     let mut numbers = List::new(alloc);
     push_numbers(&mut numbers, strata, stratum, 0)?;
-    let mut engine = engine_of(alloc, plans, strata, stratum, focus, limit)?;
+    let mut engine = engine_of(alloc, plans, strata, stratum, focus, limit, ranks)?;
     let behind = lag_below(plans, strata, stratum);
     engine.set_delay(behind);
     Ok(Layer {
@@ -153,6 +156,7 @@ pub(crate) fn layers_of(
     strata: &[u8],
     focus: bool,
     limit: u32,
+    ranks: &Rc<Vec<u32>>,
 ) -> Result<Vec<Layer>, AllocError>
     requires proper { AllByRecursion (λ r. IsProper r.value) plans.now }
     requires few { length plans.now ≤ 64 }
@@ -164,7 +168,7 @@ pub(crate) fn layers_of(
 {
     let mut layers = Vec::new(alloc);
     for stratum in 0..count_of(strata) {
-        layers.push(layer_of(alloc, plans, strata, stratum, focus, limit)?)?;
+        layers.push(layer_of(alloc, plans, strata, stratum, focus, limit, ranks)?)?;
     }
     Ok(layers)
 }

@@ -106,7 +106,7 @@ module _ (c : Chronicle Sym) (level : ℕ → ℕ) (whole all coming : List (Ent
 -- ---- an entry is offered
 
 module _ (c : Chronicle Sym) (level : ℕ → ℕ) (pool entries was later : List (Entry Sym)) (d n g h : ℕ) (on : d ≤ n) (x : Entry Sym) (x_date : d ≤ x.date) (fresh : IsFresh pool x) (held out : List (Partial Sym))
-    (stands : StandsFor c level (IsWanted c level pool entries (x ∷ later) h) held was pool entries d g) where
+    (stands : StandsFor c level (IsWanted c level pool entries (x ∷ later) h) held was pool entries d g) (Out : Partial Sym → Type 0) where
   abbrev pub Fine : Partial Sym → Type 0
   Fine = IsOpen c level (pool ++ x ∷ []) (entries ++ x ∷ []) n
 
@@ -167,16 +167,19 @@ module _ (c : Chronicle Sym) (level : ℕ → ℕ) (pool entries was later : Lis
   more_entries : (e : Entry Sym) → IsIn e (entries ++ x ∷ []) → IsIn e (pool ++ x ∷ [])
   more_entries e i = elim (in_append entries (x ∷ []) e i) [ inl a ↦ in_append_left pool (x ∷ []) e (stands.entries_in e a) | inr b ↦ in_append_right pool (x ∷ []) e b ]
 
-  not_new : (b a : Partial Sym) → IsIn b held → GoesOnByLevel level Fine x b a → IsRecognisedWhole c was (before g (entries ++ x ∷ [])) g a → ⊥
+  abbrev pub Left : Partial Sym → Type 0
+  Left a = Fine a × (Out a → ⊥)
+
+  not_new : (b a : Partial Sym) → IsIn b held → GoesOnByLevel level Left x b a → IsRecognisedWhole c was (before g (entries ++ x ∷ [])) g a → ⊥
   not_new b a i (inl s) rec = (stands.each b i).1 (subst (λ (t : Partial Sym). IsRecognisedWhole c was (before g entries) g t) s.0 (subst (λ (t : List (Entry Sym)). IsRecognisedWhole c was t g a) same_before rec))
   not_new b a i (inr f) rec = fresh x (stands.was_in x (recognised_given c was (before g (entries ++ x ∷ [])) g a f.0 x rec ((f.2).part f.0 x (put_same b f.0 x (f.1).within)))) refl
 
-  fine_of : (b a : Partial Sym) → GoesOnByLevel level Fine x b a → Fine a
-  fine_of b a (inl s) = s.1
-  fine_of b a (inr f) = f.3
+  fine_of : (b a : Partial Sym) → GoesOnByLevel level Left x b a → Fine a
+  fine_of b a (inl s) = (s.1).0
+  fine_of b a (inr f) = (f.3).0
 
-  pub offered_ahead : IsImage (GoesOnByLevel level Fine x) held out → StandsFor c level (IsWanted c level (pool ++ x ∷ []) (entries ++ x ∷ []) later h) out was (pool ++ x ∷ []) (entries ++ x ∷ []) n g
-  offered_ahead im = record {
+  pub offered_ahead : ((a : Partial Sym) → Fine a → Wanted a → Out a → ⊥) → IsImage (GoesOnByLevel level Left x) held out → StandsFor c level (IsWanted c level (pool ++ x ∷ []) (entries ++ x ∷ []) later h) out was (pool ++ x ∷ []) (entries ++ x ∷ []) n g
+  offered_ahead kept im = record {
     was_in = λ e i. in_append_left pool (x ∷ []) e (stands.was_in e i);
     entries_in = more_entries;
     marked = let m = stands.marked in omega arith;
@@ -190,9 +193,9 @@ module _ (c : Chronicle Sym) (level : ℕ → ℕ) (pool entries was later : Lis
           let awaits = rest_awaits level e a k.0.closed x i in
           im.complete b a
           (stands.all b (parent a k.0 e i, λ rec. recognised_full c was (before g entries) g b e rec awaits.within (rest_free level e a)) (wanted_parent a w e i))
-          (inr (e, awaits, rest_grows level e a k.0.closed x i, k.0))
+          (inr (e, awaits, rest_grows level e a k.0.closed x i, (k.0, kept a k.0 w)))
       | inr old ↦ im.complete a a
           (stands.all a (without a k.0 old, λ rec. k.1 (subst (λ (t : List (Entry Sym)). IsRecognisedWhole c was t g a) (sym same_before) rec)) (wanted_without a w))
-          (inl (refl, k.0))
+          (inl (refl, (k.0, kept a k.0 w)))
     ];
   }

@@ -16,6 +16,7 @@ use Rattle.crs_store.specs.declared.waiting.hooks.Hooks.{Hooks}
 use Rattle.crs_store.specs.Forkings.{KeepsStanding}
 use Rattle.std.specs.Prelude.{Bool, false}
 use Rattle.crs_store.specs.Hooks.{AreHooks, key_of}
+use Rattle.crs_store.specs.Orders.{AreOrdered}
 use Rattle.crs_store.specs.Joins.{ComesTo, Renews}
 use Rattle.crs_store.specs.Links.{linked_by, AreLinked, hook_at}
 use Rattle.crs_store.specs.Ripenings.{AreLeft, LeftAt}
@@ -109,6 +110,6 @@ root_held i old new none c = by c.0 c.1 (sym c.2 ∙ none) c.3
 
 -- ---- what is true of a store that goes on
 
-module _ (plan : Plan) (hooks : Hooks) (number : ℕ) (focus stopped : Bool) (was : List InstanceState) (since : ℕ) (is : IsStore (record { plan = plan; number = number; focus = focus; held = was; date = since; stopped = stopped })) (are : AreHooks plan hooks.events.items hooks.windows.items) (holding : Holding) (d : ℕ) where
-  pub tidy_at_mark : d ≤ 2 ^ 42 → IsTidyHolding plan focus hooks holding d → IsStore (record { plan = plan; number = number; focus = focus; held = members holding.slots.slots; date = d; stopped = stopped }) × AreHooks plan hooks.events.items hooks.windows.items × (stopped ≡ false → IsTidyHolding plan focus hooks holding d)
-  tidy_at_mark small tidy = (record { proper = is.proper; instances = tidy_all plan focus hooks holding d tidy; early = small; flat = is.flat }, are, λ e. tidy)
+module _ (plan : Plan) (hooks : Hooks) (number : ℕ) (focus stopped : Bool) (was : List InstanceState) (since : ℕ) (is : IsStore (record { plan = plan; number = number; focus = focus; ranks = hooks.ranks.value.items; held = was; date = since; stopped = stopped })) (are : AreHooks plan hooks.events.items hooks.windows.items) (order : AreOrdered plan focus hooks.ranks.value.items hooks.events.items) (holding : Holding) (d : ℕ) where
+  pub tidy_at_mark : d ≤ 2 ^ 42 → IsTidyHolding plan focus hooks holding d → IsStore (record { plan = plan; number = number; focus = focus; ranks = hooks.ranks.value.items; held = members holding.slots.slots; date = d; stopped = stopped }) × AreHooks plan hooks.events.items hooks.windows.items × AreOrdered plan focus hooks.ranks.value.items hooks.events.items × (stopped ≡ false → IsTidyHolding plan focus hooks holding d)
+  tidy_at_mark small tidy = (record { proper = is.proper; instances = tidy_all plan focus hooks holding d tidy; early = small; flat = is.flat }, are, order, λ e. tidy)

@@ -1,5 +1,5 @@
 -- The forks of what stands in places.
-use Rattle.std.proofs.Common.{false, Bool, ◌≡◌, ℕ, zero, suc, ◌<◌, ◌≤◌, ◌+◌, ◌*◌, List, [], ◌∷◌, ◌++◌, length, take, get_or, refl, sym, ap, subst, ◌∙◌, inl, inr, arith, append_assoc, append-nil, length-append, drop}
+use Rattle.std.proofs.Common.{false, true, Bool, ◌≡◌, ℕ, zero, suc, ◌<◌, ◌≤◌, ◌+◌, ◌*◌, List, [], ◌∷◌, ◌++◌, length, take, get_or, refl, sym, ap, subst, ◌∙◌, inl, inr, arith, append_assoc, append-nil, length-append, drop}
 use Rattle.std.proofs.Math.Nat.{mul-add}
 use Rattle.std.proofs.lemmas.Bool.Decides.{eqb_tells}
 use Rattle.std.proofs.lemmas.List.{length-map, map-append, take_more, take_all}
@@ -23,8 +23,8 @@ use Rattle.crs_instance.specs.Instances.{InstanceState, IsOf, CanBe, IsBoundBy}
 use Rattle.crs_model.specs.declared.plan.Plan.{Plan}
 use Rattle.crs_model.specs.Images.{IsImage}
 use Rattle.crs_model.specs.Models.{EventDef}
-use Rattle.crs_model.specs.Partial.{Partial, put, GivesNoneTwice, IsLevelClosed}
-use Rattle.crs_model.specs.Scans.{StartsAt, IsForkByLevel}
+use Rattle.crs_model.specs.Partial.{Partial, put, GivesNoneTwice, IsAwaited, IsLevelClosed}
+use Rattle.crs_model.specs.Scans.{GrowsTo, StartsAt, IsForkByLevel}
 use Rattle.crs_model.specs.Plans.{chronicle, IsProper}
 use Rattle.crs_model.specs.SeenModels.{event_of}
 use Rattle.crs_model.proofs.Images.{image_one}
@@ -36,14 +36,14 @@ use Rattle.crs_model.specs.Bindings.{look_of, Looser}
 use Rattle.crs_model.specs.Matching.{Binding, PatternIs}
 use Rattle.crs_model.proofs.Options.{of_some}
 use Rattle.crs_store.specs.Agreeing.{Agree, IsTaken}
-use Rattle.crs_store.specs.Forkings.{HaveWindow, IsNoted, AreCandidates, AreCandidatesOf, KeepsStanding, IsHookAt, AreLinkedAt, standing, ComeOf, IsForkWith, IsForkBelow, AreForksOfPlaces, AreForksOfEvent, AreForksOfAll}
-use Rattle.crs_store.specs.Hooks.{IsHookOfEvent, KeepsFresh, picked_symbols, picked_arguments}
-use Rattle.crs_store.specs.Links.{hook_at}
+use Rattle.crs_store.specs.Forkings.{HaveWindow, IsNoted, AreCandidates, KeepsStanding, IsHookAt, AreLinkedAt, AreSought, standing, ComeOf, IsForkWith, IsForkBelow, AreForksBut, AreForksOfPlaces, AreForksOfEvent, AreForksOfAll}
+use Rattle.crs_store.specs.Hooks.{IsHookOfEvent, KeepsFresh, picked_symbols}
+use Rattle.crs_store.specs.Links.{hook_at, IsHeldBack, IsNext}
 use Rattle.crs_store.specs.Slots.{SlotsState, slot_at, handle_at, members}
 use Rattle.crs_store.specs.Stores.{parts, AllOf}
 use Rattle.crs_store.specs.PlanLevels.{levels_in}
-use Rattle.crs_store.specs.Scannings.{Adds, AreForksAt}
-use Rattle.crs_store.specs.Windows.{IsAble, IsOpenAt, IsOver}
+use Rattle.crs_store.specs.Scannings.{Adds}
+use Rattle.crs_store.specs.Windows.{IsAble, IsOpenBut, IsOver}
 use Rattle.crs_store.proofs.Chosen.{Ascends, standing_part, standing_in, part_few, part_map, part_ordered}
 use Rattle.crs_store.proofs.Fitting.{inside_window, fits, binding_grows, fits_hook, fits_part}
 use Rattle.crs_store.proofs.Members.{at_within, at_member, member_at}
@@ -79,6 +79,11 @@ tried_whole slots len e d symbols old new n key numbered cleans handles k l are 
 pub have_window : (plan : Plan) → IsProper plan → (slots : SlotsState) → AllOf plan (members slots.slots) → (e : ℕ) → e < length plan.chronicle.events → HaveWindow slots e
 have_window plan proper slots all e l p i s = let of = in_from_each (IsOf plan) (members slots.slots) all i (at_member slots.slots p i s) in let a = of.window_count in let b = proper.points in omega arith
 
+-- those that were sought are among more places too
+pub sought_kept : (slots : SlotsState) (index : IndexState) (hook : Hook) (skips : Bool) (args : List Sym) (e d : ℕ) (symbols : List (Option Sym)) (these those : List ℕ) → ((p : ℕ) → IsIn p these → IsIn p those) → AreSought slots index hook skips args e d symbols these → AreSought slots index hook skips args e d symbols those
+sought_kept slots index hook skips args e d symbols these those still (inl all) = inl (λ p i s. still p (all p i s))
+sought_kept slots index hook skips args e d symbols these those still (inr some) = inr ((λ part is p w i s inside agrees. still p (some.0 part is p w i s inside agrees)), some.1)
+
 in_none : {A : Type 0} (xs : List A) (x : A) → length xs ≡ 0 → IsIn x xs → ⊥
 in_none [] x e i = i
 in_none (y ∷ xs) x e i = absurd (omega arith)
@@ -95,6 +100,9 @@ both_below one other all l m v x y a b =
 -- nothing bound is part of all
 none_looser : (n : ℕ) (all : Binding Sym) → Looser (look_of (replicate n None)) all
 none_looser n all v x e = let none : look_of (replicate n None) v ≡ None = get-replicate n v None in absurd cc
+
+unnamed : (o : Option ℕ) (f : ℕ) → o ≡ None → o ≡ Some f → ⊥
+unnamed o f n s = cc
 
 -- ---- the forks at one event
 
@@ -152,20 +160,20 @@ module _ (level : ℕ → ℕ) (Fine : Partial Sym → Type 0) (closed : (b : Pa
 -- ---- the places, one after another
 
 -- what came of the places that aren't left
-pub record IsSwept (plan : Plan) (focus : Bool) (history : HistoryState) (x : Entry Sym) (since until : ℕ) (slots : SlotsState) (e : ℕ) (all rest : List ℕ) (out : List InstanceState) (start now : ℕ) : Type 0 where
+pub record IsSwept (plan : Plan) (focus : Bool) (Out : Partial Sym → Type 0) (history : HistoryState) (x : Entry Sym) (since until : ℕ) (slots : SlotsState) (e : ℕ) (all rest : List ℕ) (out : List InstanceState) (start now : ℕ) : Type 0 where
   pub done : List InstanceState
   pub split : standing slots.slots all ≡ done ++ standing slots.slots rest
   pub sorted : Ascends rest → Ascends all
   pub of : AllOf plan out
   pub able : AllByRecursion (IsAble plan focus until) out
-  pub image : ComeOf (IsForkWith (levels_in plan focus) x e) plan focus history x since until (members slots.slots) done out
+  pub image : ComeOf (IsForkWith (levels_in plan focus) x e) plan focus Out history x since until (members slots.slots) done out
   pub cost : focus ≡ false → now ≤ start + length done
 
 -- the list grew by that
-pub record AddsSwept (plan : Plan) (focus : Bool) (history : HistoryState) (x : Entry Sym) (since until : ℕ) (slots : SlotsState) (e : ℕ) (all rest : List ℕ) (old new : List InstanceState) (start now : ℕ) : Type 0 where
+pub record AddsSwept (plan : Plan) (focus : Bool) (Out : Partial Sym → Type 0) (history : HistoryState) (x : Entry Sym) (since until : ℕ) (slots : SlotsState) (e : ℕ) (all rest : List ℕ) (old new : List InstanceState) (start now : ℕ) : Type 0 where
   pub more : List InstanceState
   pub grown : new ≡ old ++ more
-  pub swept : IsSwept plan focus history x since until slots e all rest more start now
+  pub swept : IsSwept plan focus Out history x since until slots e all rest more start now
 
 standing_back : (xs : List (Option InstanceState)) (ps : List ℕ) (i : InstanceState) → IsIn i (standing xs ps) → IsIn i (members xs)
 standing_back xs [] i j = absurd j
@@ -179,11 +187,11 @@ standing_back xs (p ∷ ps) i j = elim (in_append (option_to_list (slice_index_o
     by (Some f) s (inl k) = at_member xs p i (s ∙ ap Some (sym k))
     by (Some f) s (inr k) = absurd k
 
-module _ (plan : Plan) (focus : Bool) (history : HistoryState) (x : Entry Sym) (since until : ℕ) (slots : SlotsState) (e : ℕ) where
+module _ (plan : Plan) (focus : Bool) (Out : Partial Sym → Type 0) (history : HistoryState) (x : Entry Sym) (since until : ℕ) (slots : SlotsState) (e : ℕ) where
   sorted_back : (all : List ℕ) (p : ℕ) (rest left : List ℕ) → rest ≡ p ∷ left → AllByRecursion (λ q. p < q) left → (Ascends rest → Ascends all) → Ascends left → Ascends all
   sorted_back all p rest left s above h o = h (subst Ascends (sym s) (above, o))
 
-  pub swept_skip : (all : List ℕ) (p : ℕ) (rest left : List ℕ) (out : List InstanceState) (start now : ℕ) → rest ≡ p ∷ left → AllByRecursion (λ q. p < q) left → slot_at slots p ≡ None → IsSwept plan focus history x since until slots e all rest out start now → IsSwept plan focus history x since until slots e all left out start now
+  pub swept_skip : (all : List ℕ) (p : ℕ) (rest left : List ℕ) (out : List InstanceState) (start now : ℕ) → rest ≡ p ∷ left → AllByRecursion (λ q. p < q) left → slot_at slots p ≡ None → IsSwept plan focus Out history x since until slots e all rest out start now → IsSwept plan focus Out history x since until slots e all left out start now
   swept_skip all p rest left out start now s above none h = record {
     done = h.done;
     split = h.split ∙ ap (λ (t : List ℕ). h.done ++ standing slots.slots t) s ∙ ap (λ (o : Option InstanceState). h.done ++ (option_to_list o ++ standing slots.slots left)) none;
@@ -210,7 +218,7 @@ module _ (plan : Plan) (focus : Bool) (history : HistoryState) (x : Entry Sym) (
       by (a ∷ these) those k (inr m) = by these those k.1 m
 
   pub swept_more : (all : List ℕ) (p : ℕ) (rest left : List ℕ) (i : InstanceState) (out new : List InstanceState) (start now next : ℕ) → rest ≡ p ∷ left → AllByRecursion (λ q. p < q) left → Ascends left → slot_at slots p ≡ Some i → (focus ≡ false → next ≤ now + 1)
-      → Adds plan focus until (AreForksAt plan focus history x since until i e) out new → IsSwept plan focus history x since until slots e all rest out start now → IsSwept plan focus history x since until slots e all left new start next
+      → Adds plan focus until (AreForksBut plan focus Out history x since until i e) out new → IsSwept plan focus Out history x since until slots e all rest out start now → IsSwept plan focus Out history x since until slots e all left new start next
   swept_more all p rest left i out new start now next s above ascends here step adds h =
       let split : standing slots.slots all ≡ h.done ++ (i ∷ standing slots.slots left) = h.split ∙ ap (λ (t : List ℕ). h.done ++ standing slots.slots t) s ∙ ap (λ (q : Option InstanceState). h.done ++ (option_to_list q ++ standing slots.slots left)) here in
       let sorted = sorted_back all p rest left s above h.sorted in
@@ -220,12 +228,12 @@ module _ (plan : Plan) (focus : Bool) (history : HistoryState) (x : Entry Sym) (
         sorted = sorted;
         of = subst (AllOf plan) (sym adds.grown) (all_append (IsOf plan) out adds.more h.of adds.of);
         able = subst (AllByRecursion (IsAble plan focus until)) (sym adds.grown) (all_append (IsAble plan focus until) out adds.more h.able adds.able);
-        image = subst (λ (t : List InstanceState). ComeOf (IsForkWith (levels_in plan focus) x e) plan focus history x since until (members slots.slots) (h.done ++ i ∷ []) t) (sym adds.grown) (λ pool entries now later over ready.
+        image = subst (λ (t : List InstanceState). ComeOf (IsForkWith (levels_in plan focus) x e) plan focus Out history x since until (members slots.slots) (h.done ++ i ∷ []) t) (sym adds.grown) (λ pool entries now later over ready.
             let member = at_member slots.slots p i here in
             let closed_in : (j : InstanceState) → IsIn j (members slots.slots) → IsLevelClosed (levels_in plan focus) j.partial = (λ j k. (in_from_each (IsOver plan focus pool entries since) (members slots.slots) over j k).closed) in
             let f = adds.are pool entries now later (in_from_each (IsOver plan focus pool entries since) (members slots.slots) over i member) in
             let k = h.image pool entries now later over ready in (
-              with_one_more (levels_in plan focus) (IsOpenAt plan focus pool entries until) (λ b o. o.closed) (λ b o. o.partial.distinct) x e h.done i out adds.more
+              with_one_more (levels_in plan focus) (IsOpenBut plan focus Out pool entries until) (λ b o. (o.0).closed) (λ b o. (o.0).partial.distinct) x e h.done i out adds.more
                   (λ a j. let r = in_map_back (λ (s : InstanceState). s.partial) h.done a j in
                   subst (IsLevelClosed (levels_in plan focus)) (sym r.2) (closed_in r.0 (standing_back slots.slots all r.0 (subst (IsIn r.0) (sym split) (in_append_left h.done (i ∷ standing slots.slots left) r.0 r.1)))))
                   (closed_in i member)
@@ -236,11 +244,11 @@ module _ (plan : Plan) (focus : Bool) (history : HistoryState) (x : Entry Sym) (
       }
 
   -- where the loop is left
-  pub swept_within : (all rest : List ℕ) (out : List InstanceState) (start now : ℕ) → Ascends rest → IsSwept plan focus history x since until slots e all rest out start now → focus ≡ false → now ≤ start + length (members slots.slots)
+  pub swept_within : (all rest : List ℕ) (out : List InstanceState) (start now : ℕ) → Ascends rest → IsSwept plan focus Out history x since until slots e all rest out start now → focus ≡ false → now ≤ start + length (members slots.slots)
   swept_within all rest out start now o h flat = let c = h.cost flat in let f = few all h.done (standing slots.slots rest) (h.sorted o) h.split in omega arith
 
   pub swept_next : (all : List ℕ) (p : ℕ) (rest left : List ℕ) (i : InstanceState) (out : List InstanceState) (start now next : ℕ) → rest ≡ p ∷ left → AllByRecursion (λ q. p < q) left → Ascends left → slot_at slots p ≡ Some i → (focus ≡ false → next ≤ now + 1)
-      → IsSwept plan focus history x since until slots e all rest out start now → focus ≡ false → next ≤ start + length (members slots.slots)
+      → IsSwept plan focus Out history x since until slots e all rest out start now → focus ≡ false → next ≤ start + length (members slots.slots)
   swept_next all p rest left i out start now next s above ascends here step h flat =
       let split : standing slots.slots all ≡ h.done ++ (i ∷ standing slots.slots left) = h.split ∙ ap (λ (t : List ℕ). h.done ++ standing slots.slots t) s ∙ ap (λ (q : Option InstanceState). h.done ++ (option_to_list q ++ standing slots.slots left)) here in
       let c = h.cost flat in
@@ -248,13 +256,13 @@ module _ (plan : Plan) (focus : Bool) (history : HistoryState) (x : Entry Sym) (
       let f = few all h.done (i ∷ standing slots.slots left) (sorted_back all p rest left s above h.sorted ascends) split in
       omega arith
 
-  pub swept_whole : (all rest : List ℕ) (out : List InstanceState) (start now : ℕ) → rest ≡ [] → IsSwept plan focus history x since until slots e all rest out start now → AreForksOfPlaces plan focus history x since until slots e all out
+  pub swept_whole : (all rest : List ℕ) (out : List InstanceState) (start now : ℕ) → rest ≡ [] → IsSwept plan focus Out history x since until slots e all rest out start now → AreForksOfPlaces plan focus Out history x since until slots e all out
   swept_whole all rest out start now s h =
-      subst (λ (t : List InstanceState). ComeOf (IsForkWith (levels_in plan focus) x e) plan focus history x since until (members slots.slots) t out) (sym (h.split ∙ ap (λ (t : List ℕ). h.done ++ standing slots.slots t) s ∙ append-nil h.done)) h.image
+      subst (λ (t : List InstanceState). ComeOf (IsForkWith (levels_in plan focus) x e) plan focus Out history x since until (members slots.slots) t out) (sym (h.split ∙ ap (λ (t : List ℕ). h.done ++ standing slots.slots t) s ∙ append-nil h.done)) h.image
 
   -- ---- the same, where it is added to a list
 
-  pub adds_swept_none : (all : List ℕ) (old : List InstanceState) (start : ℕ) → AddsSwept plan focus history x since until slots e all all old old start start
+  pub adds_swept_none : (all : List ℕ) (old : List InstanceState) (start : ℕ) → AddsSwept plan focus Out history x since until slots e all all old old start start
   adds_swept_none all old start = record {
     more = [];
     grown = sym (append-nil old);
@@ -270,14 +278,14 @@ module _ (plan : Plan) (focus : Bool) (history : HistoryState) (x : Entry Sym) (
   }
 
   pub adds_swept_more : (all : List ℕ) (p : ℕ) (rest left : List ℕ) (i : InstanceState) (old out new : List InstanceState) (start now next : ℕ) → rest ≡ p ∷ left → AllByRecursion (λ q. p < q) left → Ascends left → slot_at slots p ≡ Some i → (focus ≡ false → next ≤ now + 1)
-      → Adds plan focus until (AreForksAt plan focus history x since until i e) out new → AddsSwept plan focus history x since until slots e all rest old out start now → AddsSwept plan focus history x since until slots e all left old new start next
+      → Adds plan focus until (AreForksBut plan focus Out history x since until i e) out new → AddsSwept plan focus Out history x since until slots e all rest old out start now → AddsSwept plan focus Out history x since until slots e all left old new start next
   adds_swept_more all p rest left i old out new start now next s above ascends here step adds h = record {
     more = h.more ++ adds.more;
     grown = adds.grown ∙ ap (λ (t : List InstanceState). t ++ adds.more) h.grown ∙ append_assoc old h.more adds.more;
     swept = swept_more all p rest left i h.more (h.more ++ adds.more) start now next s above ascends here step (record { more = adds.more; grown = refl; of = adds.of; able = adds.able; are = adds.are }) h.swept;
   }
 
-  pub adds_swept_whole : (all rest : List ℕ) (old new : List InstanceState) (start now : ℕ) → rest ≡ [] → AddsSwept plan focus history x since until slots e all rest old new start now → Adds plan focus until (AreForksOfPlaces plan focus history x since until slots e all) old new
+  pub adds_swept_whole : (all rest : List ℕ) (old new : List InstanceState) (start now : ℕ) → rest ≡ [] → AddsSwept plan focus Out history x since until slots e all rest old new start now → Adds plan focus until (AreForksOfPlaces plan focus Out history x since until slots e all) old new
   adds_swept_whole all rest old new start now s h = record { more = h.more; grown = h.grown; of = h.swept.of; able = h.swept.able; are = swept_whole all rest h.more start now s h.swept }
 
   -- ---- from the candidates to all
@@ -291,12 +299,12 @@ module _ (plan : Plan) (focus : Bool) (history : HistoryState) (x : Entry Sym) (
       by (v ∷ vs) (suc k) m = by vs k (omega arith)
 
   module _ (proper : IsProper plan) (all : AllOf plan (members slots.slots)) (inside : e < length plan.chronicle.events) (hook : Hook) (hooked : IsHookAt plan e hook) where
-    module _ (pool entries : List (Entry Sym)) (i : InstanceState) (j : IsIn i (members slots.slots)) (y : Partial Sym) (f : IsForkWith (levels_in plan focus) x e (IsOpenAt plan focus pool entries until) i.partial y) where
+    module _ (pool entries : List (Entry Sym)) (i : InstanceState) (j : IsIn i (members slots.slots)) (y : Partial Sym) (f : IsForkWith (levels_in plan focus) x e (IsOpenBut plan focus Out pool entries until) i.partial y) where
       of_one : IsOf plan i
       of_one = in_from_each (IsOf plan) (members slots.slots) all i j
 
       can_one : CanBe plan (put i.partial e x)
-      can_one = beginnings_can_be plan (levels_in plan focus) pool entries until (put i.partial e x) y (f.1).part (f.1).len f.2
+      can_one = beginnings_can_be plan (levels_in plan focus) pool entries until (put i.partial e x) y (f.1).part (f.1).len (f.2).0
 
       name_one : hook.name ≡ x.name
       name_one = let v = event_there inside in fits_hook plan proper i of_one e x inside (f.0).unbound can_one hook hooked v.0 v.1
@@ -318,50 +326,62 @@ module _ (plan : Plan) (focus : Bool) (history : HistoryState) (x : Entry Sym) (
           let t : IsBoundBy (chronicle plan) (v.0).pattern (replicate (length plan.chronicle.variables) None) x None = of_some (slice_get (chronicle plan).events e) v.0 _ v.1 taken in
           t can_one.look (none_looser (length plan.chronicle.variables) can_one.look) (can_said v.0 v.1) can_one.allowed
 
-      found_one : (symbols : List (Option Sym)) → IsTaken plan e x (Some symbols) → (index : IndexState) (places : List ℕ) → AreLinkedAt plan focus hook slots index e x.date → AreCandidatesOf slots index (picked_arguments hook x.args) e x.date symbols places → IsIn i (standing slots.slots places)
-      found_one symbols taken index places linked candidates =
+      found_one : (symbols : List (Option Sym)) → IsTaken plan e x (Some symbols) → (index : IndexState) (skips : Bool) (places : List ℕ) → (skips ≡ true → IsHeldBack (levels_in plan focus) hook i.partial → Out y) → AreLinkedAt plan focus hook slots index e x.date → AreSought slots index hook skips x.args e x.date symbols places → IsIn i (standing slots.slots places)
+      found_one symbols taken index skips places out linked sought =
           let v = event_there inside in
           let m = member_at slots.slots i j in
           let w = inside_window plan proper i of_one e x inside (f.0).unbound can_one in
           let a = agrees_one symbols taken in
           let part = fits_part plan proper i of_one e x inside (f.0).unbound can_one hook hooked v.0 v.1 in
-          standing_in slots.slots places m.0 i (candidates (picked_symbols hook (look_of i.binding)) part m.0 (linked m.0 i m.1 f.0 w.not_soon) i m.1 w a) m.1
+          elim sought [
+            | inl all ↦ standing_in slots.slots places m.0 i (all m.0 i m.1) m.1
+            | inr some ↦
+                let free : IsHeldBack (levels_in plan focus) hook i.partial → ⊥ = (λ back. elim some.1 [
+                  | inl skip ↦ (f.2).1 (out skip back)
+                  | inr none ↦ unnamed hook.before back.0 none back.1
+                ]) in
+                let next : IsNext (levels_in plan focus) hook i.partial e = record { awaited = f.0; free = free } in
+                standing_in slots.slots places m.0 i (some.0 (picked_symbols hook (look_of i.binding)) part m.0 (linked m.0 i m.1 next w.not_soon) i m.1 w a) m.1
+          ]
 
     -- where none comes of any
-    none_come : ((pool entries : List (Entry Sym)) (i : InstanceState) → IsIn i (members slots.slots) → (y : Partial Sym) → IsForkWith (levels_in plan focus) x e (IsOpenAt plan focus pool entries until) i.partial y → ⊥) → AreForksOfEvent plan focus history x since until slots e []
+    none_come : ((pool entries : List (Entry Sym)) (i : InstanceState) → IsIn i (members slots.slots) → (y : Partial Sym) → IsForkWith (levels_in plan focus) x e (IsOpenBut plan focus Out pool entries until) i.partial y → ⊥) → AreForksOfEvent plan focus Out history x since until slots e []
     none_come never = λ pool entries now later over ready. (
       record {
         distinct = tt;
         sound = λ y k. absurd k;
         complete = λ a y k f.
             let r = in_map_back (λ (s : InstanceState). s.partial) (members slots.slots) a k in
-            absurd (never pool entries r.0 r.1 y (subst (λ (z : Partial Sym). IsForkWith (levels_in plan focus) x e (IsOpenAt plan focus pool entries until) z y) r.2 f));
+            absurd (never pool entries r.0 r.1 y (subst (λ (z : Partial Sym). IsForkWith (levels_in plan focus) x e (IsOpenBut plan focus Out pool entries until) z y) r.2 f));
       },
       tt,
     )
 
     -- where the name is another
-    pub none_named : (hook.name ≡ x.name → ⊥) → AreForksOfEvent plan focus history x since until slots e []
+    pub none_named : (hook.name ≡ x.name → ⊥) → AreForksOfEvent plan focus Out history x since until slots e []
     none_named other = none_come (λ pool entries i j y f. other (name_one pool entries i j y f))
 
     -- where the event's pattern refuses x
-    pub none_taken : IsTaken plan e x None → AreForksOfEvent plan focus history x since until slots e []
+    pub none_taken : IsTaken plan e x None → AreForksOfEvent plan focus Out history x since until slots e []
     none_taken taken = none_come (λ pool entries i j y f. never_refused pool entries i j y f taken)
 
     -- where nothing is held
-    pub none_held : length (members slots.slots) ≡ 0 → AreForksOfEvent plan focus history x since until slots e []
+    pub none_held : length (members slots.slots) ≡ 0 → AreForksOfEvent plan focus Out history x since until slots e []
     none_held empty = none_come (λ pool entries i j y f. in_none (members slots.slots) i empty j)
 
-    -- the candidates are enough
-    pub all_found : (symbols : List (Option Sym)) → IsTaken plan e x (Some symbols) → (index : IndexState) (places : List ℕ) (out : List InstanceState) → AreLinkedAt plan focus hook slots index e x.date → AreCandidatesOf slots index (picked_arguments hook x.args) e x.date symbols places
-        → AreForksOfPlaces plan focus history x since until slots e places out → AreForksOfEvent plan focus history x since until slots e out
-    all_found symbols taken index places out linked candidates h = λ pool entries now later over ready.
+    -- those that were noted are enough, where what comes of one that is held back is left out if such are skipped
+    pub all_found : (symbols : List (Option Sym)) → IsTaken plan e x (Some symbols) → (index : IndexState) (skips : Bool) (places : List ℕ) (out : List InstanceState)
+        → ((a y : Partial Sym) → IsAwaited (levels_in plan focus) a e → GrowsTo (levels_in plan focus) (levels_in plan focus e) (put a e x) y → skips ≡ true → IsHeldBack (levels_in plan focus) hook a → Out y)
+        → AreLinkedAt plan focus hook slots index e x.date → AreSought slots index hook skips x.args e x.date symbols places
+        → AreForksOfPlaces plan focus Out history x since until slots e places out → AreForksOfEvent plan focus Out history x since until slots e out
+    all_found symbols taken index skips places out held linked sought h = λ pool entries now later over ready.
         let k = h pool entries now later over ready in (
-          widen (IsForkWith (levels_in plan focus) x e (IsOpenAt plan focus pool entries until)) (parts (standing slots.slots places)) (parts (members slots.slots)) (parts out)
+          widen (IsForkWith (levels_in plan focus) x e (IsOpenBut plan focus Out pool entries until)) (parts (standing slots.slots places)) (parts (members slots.slots)) (parts out)
               (λ a j. let r = in_map_back (λ (s : InstanceState). s.partial) (standing slots.slots places) a j in subst (λ (z : Partial Sym). IsIn z (parts (members slots.slots))) (sym r.2) (in_map (λ (s : InstanceState). s.partial) (members slots.slots) r.0 (standing_back slots.slots places r.0 r.1)))
               (λ a y j f. let r = in_map_back (λ (s : InstanceState). s.partial) (members slots.slots) a j in
               subst (λ (z : Partial Sym). IsIn z (parts (standing slots.slots places))) (sym r.2) (in_map (λ (s : InstanceState). s.partial) (standing slots.slots places) r.0
-              (found_one pool entries r.0 r.1 y (subst (λ (z : Partial Sym). IsForkWith (levels_in plan focus) x e (IsOpenAt plan focus pool entries until) z y) r.2 f) symbols taken index places linked candidates)))
+              (let g = subst (λ (z : Partial Sym). IsForkWith (levels_in plan focus) x e (IsOpenBut plan focus Out pool entries until) z y) r.2 f in
+              found_one pool entries r.0 r.1 y g symbols taken index skips places (held (r.0).partial y g.0 g.1) linked sought)))
               k.0,
           k.1,
         )
@@ -369,39 +389,39 @@ module _ (plan : Plan) (focus : Bool) (history : HistoryState) (x : Entry Sym) (
 -- ---- all events
 
 -- what came of the events below n
-pub record AreGathered (plan : Plan) (focus : Bool) (history : HistoryState) (x : Entry Sym) (since until : ℕ) (slots : SlotsState) (n : ℕ) (out : List InstanceState) : Type 0 where
+pub record AreGathered (plan : Plan) (focus : Bool) (Out : Partial Sym → Type 0) (history : HistoryState) (x : Entry Sym) (since until : ℕ) (slots : SlotsState) (n : ℕ) (out : List InstanceState) : Type 0 where
   pub of : AllOf plan out
   pub able : AllByRecursion (IsAble plan focus until) out
-  pub image : ComeOf (IsForkBelow (levels_in plan focus) x n) plan focus history x since until (members slots.slots) (members slots.slots) out
+  pub image : ComeOf (IsForkBelow (levels_in plan focus) x n) plan focus Out history x since until (members slots.slots) (members slots.slots) out
 
-module _ (plan : Plan) (focus : Bool) (history : HistoryState) (x : Entry Sym) (since until : ℕ) (slots : SlotsState) where
+module _ (plan : Plan) (focus : Bool) (Out : Partial Sym → Type 0) (history : HistoryState) (x : Entry Sym) (since until : ℕ) (slots : SlotsState) where
   member_long : AllOf plan (members slots.slots) → (a : Partial Sym) → IsIn a (parts (members slots.slots)) → length a ≡ length plan.chronicle.events
   member_long all a j = let r = in_map_back (λ (s : InstanceState). s.partial) (members slots.slots) a j in ap length r.2 ∙ (in_from_each (IsOf plan) (members slots.slots) all r.0 r.1).len
 
-  pub gathered_none : (out : List InstanceState) → out ≡ [] → AreGathered plan focus history x since until slots 0 out
+  pub gathered_none : (out : List InstanceState) → out ≡ [] → AreGathered plan focus Out history x since until slots 0 out
   gathered_none out none = rw none (record {
     of = tt;
     able = tt;
     image = λ pool entries now later over ready. (record { distinct = tt; sound = λ y k. absurd k; complete = λ a y k f. absurd (let l = f.1 in omega arith) }, tt);
   })
 
-  pub gathered_more : (n : ℕ) → (out more new : List InstanceState) → new ≡ out ++ more → AllOf plan more → AllByRecursion (IsAble plan focus until) more → AreForksOfEvent plan focus history x since until slots n more → AreGathered plan focus history x since until slots n out → AreGathered plan focus history x since until slots (n + 1) new
+  pub gathered_more : (n : ℕ) → (out more new : List InstanceState) → new ≡ out ++ more → AllOf plan more → AllByRecursion (IsAble plan focus until) more → AreForksOfEvent plan focus Out history x since until slots n more → AreGathered plan focus Out history x since until slots n out → AreGathered plan focus Out history x since until slots (n + 1) new
   gathered_more n out more new is of able image h = rw is (record {
     of = all_append (IsOf plan) out more h.of of;
     able = all_append (IsAble plan focus until) out more h.able able;
     image = λ pool entries now later over ready.
         let a = h.image pool entries now later over ready in
         let b = image pool entries now later over ready in (
-          subst (λ (t : List (Partial Sym)). IsImage (IsForkBelow (levels_in plan focus) x (n + 1) (IsOpenAt plan focus pool entries until)) (parts (members slots.slots)) t) (sym (map-append (λ (s : InstanceState). s.partial) out more))
-              (below_more (levels_in plan focus) (IsOpenAt plan focus pool entries until) (λ b o. o.closed) (λ b o. o.partial.distinct) x (parts (members slots.slots)) (parts out) (parts more) n a.0 b.0),
+          subst (λ (t : List (Partial Sym)). IsImage (IsForkBelow (levels_in plan focus) x (n + 1) (IsOpenBut plan focus Out pool entries until)) (parts (members slots.slots)) t) (sym (map-append (λ (s : InstanceState). s.partial) out more))
+              (below_more (levels_in plan focus) (IsOpenBut plan focus Out pool entries until) (λ b o. (o.0).closed) (λ b o. (o.0).partial.distinct) x (parts (members slots.slots)) (parts out) (parts more) n a.0 b.0),
           all_append (IsOver plan focus pool entries until) out more a.1 b.1,
         );
   })
 
-  pub gathered_all : AllOf plan (members slots.slots) → (n : ℕ) (out : List InstanceState) → n ≡ length plan.chronicle.events → AreGathered plan focus history x since until slots n out → AreForksOfAll plan focus history x since until (members slots.slots) out
+  pub gathered_all : AllOf plan (members slots.slots) → (n : ℕ) (out : List InstanceState) → n ≡ length plan.chronicle.events → AreGathered plan focus Out history x since until slots n out → AreForksOfAll plan focus Out history x since until (members slots.slots) out
   gathered_all all n out s h = λ pool entries now later over ready.
       let a = h.image pool entries now later over ready in
-      (below_all (levels_in plan focus) (IsOpenAt plan focus pool entries until) (λ b o. o.closed) (λ b o. o.partial.distinct) x (parts (members slots.slots)) (parts out) n (λ z j. member_long all z j ∙ sym s) a.0, a.1)
+      (below_all (levels_in plan focus) (IsOpenBut plan focus Out pool entries until) (λ b o. (o.0).closed) (λ b o. (o.0).partial.distinct) x (parts (members slots.slots)) (parts out) n (λ z j. member_long all z j ∙ sym s) a.0, a.1)
 
 -- ---- what they cost
 

@@ -10,6 +10,7 @@ pub mod Progress
 pub mod Prompted
 pub mod Prompting
 pub mod Overs
+pub mod Overtaken
 pub mod Awaiting
 pub mod Kept
 pub mod Members

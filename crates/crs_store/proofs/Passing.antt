@@ -1,7 +1,6 @@
 -- What a store stands for where it passes over an entry that its chronicle doesn't look for.
-use Rattle.std.proofs.Common.{Bool, ◌≡◌, ℕ, ◌<◌, ◌≤◌, List, [], ◌∷◌, ◌++◌, length, map, refl, sym, subst, ◌∙◌, inl, inr, ◌⊎◌, arith, true, false, true≢false}
-use Rattle.std.specs.Prelude.{ℤ, Some, slice_get, IsTrue, ◌↔◌, ◌==◌, Result, OnOk}
-use Rattle.std.specs.List.{AllZip, list_any}
+use Rattle.std.proofs.Common.{Bool, ◌≡◌, ℕ, ◌<◌, ◌≤◌, List, [], ◌∷◌, ◌++◌, length, map, refl, sym, subst, ◌∙◌, inl, inr, arith}
+use Rattle.std.specs.Prelude.{ℤ, Some, slice_get, Result, OnOk}
 use Rattle.std.proofs.lemmas.Result.{on_ok_weaker}
 use Rattle.crs_base.specs.declared.symbols.Sym.{Sym}
 use Rattle.crs_base.specs.Words.{IsIn, Ordered}
@@ -18,61 +17,22 @@ use Rattle.crs_model.specs.Plans.{chronicle}
 use Rattle.crs_model.specs.Scans.{GrowsTo, GoesOnByLevel}
 use Rattle.crs_model.specs.Steps.{IsFresh}
 use Rattle.crs_model.specs.HasProgress.{Hits, Spares}
-use Rattle.crs_model.proofs.AllowedSays.{among_says}
 use Rattle.crs_model.proofs.Opened.{in_place}
 use Rattle.crs_model.proofs.Options.{of_some, some_if}
 use Rattle.crs_model.proofs.Parts.{at_within, put_same}
 use Rattle.crs_instance.specs.Instances.{InstanceState, IsOf}
 use Rattle.crs_instance.specs.Followed.{Follows}
-use Rattle.crs_store.specs.declared.waiting.hooks.Hook.{Hook}
 use Rattle.crs_store.specs.Dues.{IsUntouched}
-use Rattle.crs_store.specs.Hooks.{name_of, IsHookOfEvent, IsHookOfWindow, AreHooks, LooksFor}
+use Rattle.crs_store.specs.Hooks.{name_of, LooksFor}
 use Rattle.crs_store.specs.PlanLevels.{levels_in}
 use Rattle.crs_store.specs.Stores.{StoreState, IsStore, StandsAhead, parts, levels_of, IsOfferedAt, IsOfferedUntil}
 use Rattle.crs_store.specs.Windows.{IsOver, IsOpenAt}
 use Rattle.crs_store.proofs.Hopeless.{item_at}
+use Rattle.crs_store.proofs.Overtaken.{goes_but}
 use Rattle.crs_store.proofs.Overs.{open_able}
 use Rattle.crs_store.proofs.Ahead.{offered_ahead}
 use Rattle.crs_store.proofs.Standing.{over_of, given_ahead, closed_ahead}
 use Rattle.crs_store.proofs.Unmoved.{untouched_follows}
-
--- ---- the names of hooks
-
-names_any : (hs : List Hook) (s : Sym) → list_any (λ h. h.name.0 == s.0) hs ≡ list_any (λ y. y.0 == s.0) (map (λ h. h.name) hs)
-names_any [] s = refl
-names_any (h ∷ hs) s = rw (names_any hs s) refl
-
-pub names_say : (hs : List Hook) (s : Sym) (b : Bool) → b ≡ list_any (λ h. h.name.0 == s.0) hs → IsTrue b ↔ IsIn s (map (λ h. h.name) hs)
-names_say hs s b e = rw (e, names_any hs s) (among_says (map (λ h. h.name) hs) s)
-
-module _ {A : Type 0} (name : A → Sym) (Is : A → Hook → Type 0) (named : (v : A) (h : Hook) → Is v h → h.name ≡ name v) where
-  same_names : (vs : List A) (hs : List Hook) → AllZip Is vs hs → map (λ h. h.name) hs ≡ map name vs
-  same_names [] [] z = refl
-  same_names [] (h ∷ hs) z = absurd z
-  same_names (v ∷ vs) [] z = absurd z
-  same_names (v ∷ vs) (h ∷ hs) z = rw (named v h z.0, same_names vs hs z.1) refl
-
-pub looked_for : (plan : Plan) (events windows : List Hook) (s : Sym) → AreHooks plan events windows →
-    (IsIn s (map (λ h. h.name) events) ⊎ IsIn s (map (λ h. h.name) windows)) ↔ LooksFor (chronicle plan) s
-looked_for plan events windows s are =
-    rw (
-      same_names (λ v. v.pattern.name) IsHookOfEvent (λ v h k. k.named) (chronicle plan).events events are.of_events,
-      same_names (λ w. name_of w.body) IsHookOfWindow (λ w h k. k.named) (chronicle plan).windows windows are.of_windows,
-    ) (λ k. k, λ k. k)
-
--- where an event's hook has the name
-pub looks_first : (plan : Plan) (events windows these : List Hook) (s : Sym) (b : Bool) → these ≡ events → (IsTrue b ↔ IsIn s (map (λ h. h.name) these)) → b ≡ true → AreHooks plan events windows → IsTrue b ↔ LooksFor (chronicle plan) s
-looks_first plan events windows these s b e says is are = (λ t. (looked_for plan events windows s are).0 (inl (subst (λ (hs : List Hook). IsIn s (map (λ h. h.name) hs)) e (says.0 t))), λ l. is)
-
--- where none has it
-pub looks_later : (plan : Plan) (events windows these those : List Hook) (s : Sym) (b c : Bool) → these ≡ events → those ≡ windows → (IsTrue b ↔ IsIn s (map (λ h. h.name) these)) → (IsTrue c ↔ IsIn s (map (λ h. h.name) those)) → b ≡ false → AreHooks plan events windows → IsTrue c ↔ LooksFor (chronicle plan) s
-looks_later plan events windows these those s b c e f says too not are = (
-  λ t. (looked_for plan events windows s are).0 (inr (subst (λ (hs : List Hook). IsIn s (map (λ h. h.name) hs)) f (too.0 t))),
-  λ l. elim ((looked_for plan events windows s are).1 l) [
-    | inl i ↦ absurd (true≢false (sym (says.1 (subst (λ (hs : List Hook). IsIn s (map (λ h. h.name) hs)) (sym e) i)) ∙ not))
-    | inr i ↦ too.1 (subst (λ (hs : List Hook). IsIn s (map (λ h. h.name) hs)) (sym f) i)
-  ],
-)
 
 -- ---- an entry of another name
 
@@ -133,17 +93,17 @@ passed_over s is x other was settled later d g h stands fresh dated =
     let is_over : IsOver plan focus now now d r.0 = record { given = λ e y k. in_append_left settled (x ∷ []) y (was_over.given e y k); closed = was_over.closed; follows = follows r.0 r.1 } in
     subst (IsOpenAt plan focus now now d) (sym r.2) ((open_able plan focus now now d r.0 of is_over).1 ((open_able plan focus settled settled d r.0 of was_over).0 (subst (IsOpenAt plan focus settled settled d) r.2 (one.each a j).0)))) in
     record {
-      stands = offered_ahead (chronicle plan) (levels_of s) settled settled was later d d g h (omega arith) x dated fresh (parts s.held) (parts s.held) one (same_image plan x other focus now now d (parts s.held) one.distinct fine);
+      stands = offered_ahead (chronicle plan) (levels_of s) settled settled was later d d g h (omega arith) x dated fresh (parts s.held) (parts s.held) one (λ a. ⊥) (λ a k w o. o) (goes_but (levels_of s) (IsOpenAt plan focus now now d) (λ a. ⊥) x (parts s.held) (parts s.held) (λ a o. o) (same_image plan x other focus now now d (parts s.held) one.distinct fine));
       follows = each_from_in (Follows plan now d) s.held follows;
       judged = stands.judged;
     }
 
 -- so it was offered the entry
-pub offered_other : (seen old : StoreState) (history : HistoryState) (x : Entry Sym) (until : ℕ) (ahead : List (Entry Sym)) (beyond : ℕ) → x.date ≤ until → seen ≡ old → IsStore seen → (LooksFor (chronicle seen.plan) x.name → ⊥) → IsOfferedUntil old history x until ahead beyond old
-offered_other seen old history x until ahead beyond up view is other =
-    subst (λ (o : StoreState). IsOfferedUntil o history x until ahead beyond o) view
-    (λ was settled later d g h stands coming kept far few fresh dated. (d, omega arith, omega arith, λ looked. absurd (other looked), passed_over seen is x other was settled later d g h stands fresh dated))
+pub offered_other : (seen old : StoreState) (history : HistoryState) (x : Entry Sym) (until : ℕ) (ahead : List (Entry Sym)) (beyond : ℕ) (behind : Bool) → x.date ≤ until → seen ≡ old → IsStore seen → (LooksFor (chronicle seen.plan) x.name → ⊥) → IsOfferedUntil old history x until ahead beyond behind old
+offered_other seen old history x until ahead beyond behind up view is other =
+    subst (λ (o : StoreState). IsOfferedUntil o history x until ahead beyond behind o) view
+    (λ was settled later d g h stands coming after kept far few fresh dated. (d, omega arith, omega arith, λ looked. absurd (other looked), passed_over seen is x other was settled later d g h stands fresh dated))
 
 -- what was judged at `until` was offered the entry
-pub offered_so : {E : Type 0} (r : Result Unit E) (old new : StoreState) (history : HistoryState) (x : Entry Sym) (until : ℕ) (ahead : List (Entry Sym)) (beyond : ℕ) → x.date ≤ until → OnOk r (IsOfferedAt old history x until ahead beyond new) → OnOk r (IsOfferedUntil old history x until ahead beyond new)
-offered_so r old new history x until ahead beyond up = on_ok_weaker r (λ k was settled later d g h stands coming kept far few fresh dated. (until, omega arith, omega arith, λ looked. refl, k was settled later d g h stands coming kept far few fresh dated))
+pub offered_so : {E : Type 0} (r : Result Unit E) (old new : StoreState) (history : HistoryState) (x : Entry Sym) (until : ℕ) (ahead : List (Entry Sym)) (beyond : ℕ) (behind : Bool) → x.date ≤ until → OnOk r (IsOfferedAt old history x until ahead beyond behind new) → OnOk r (IsOfferedUntil old history x until ahead beyond behind new)
+offered_so r old new history x until ahead beyond behind up = on_ok_weaker r (λ k was settled later d g h stands coming after kept far few fresh dated. (until, omega arith, omega arith, λ looked. refl, k was settled later d g h stands coming after kept far few fresh dated))

@@ -32,6 +32,7 @@ use Rattle.crs_store.specs.Sweeps.{IsReady, IsFree, IsNow, TakesPrompt, TakesPro
 use Rattle.crs_store.proofs.Ahead.{some_stand, itself}
 use Rattle.crs_store.proofs.Joined.{parts_sub}
 use Rattle.crs_store.proofs.Leaving.{leaves_image, leaves_each}
+use Rattle.crs_store.proofs.Overtaken.{forks_all}
 use Rattle.crs_store.proofs.Overs.{open_able, floor_early}
 use Rattle.crs_store.proofs.Prompted.{came_to_pool, was_settled}
 use Rattle.crs_store.proofs.Standing.{zip_all, parts_same, zip_of, over_of, follows_of, same_levels, wanted_stays, coming_of}
@@ -50,8 +51,8 @@ not_read b f t = cc
 
 -- ---- an entry comes to the pool
 
-pub taken_prompt : (plan : Plan) (focus : Bool) → IsProper plan → focus ≡ false → (history : HistoryState) (x : Entry Sym) (g : ℕ) (held born : List InstanceState) → AllOf plan held → AllByRecursion (IsAble plan focus g) held → AreForksOfAll plan focus history x g g held born → TakesPrompt plan focus history x g held (held ++ born)
-taken_prompt plan focus proper flat history x g held born all able forks pool entries early read inside over ready =
+pub taken_prompt : (plan : Plan) (focus : Bool) (Out : Partial Sym → Type 0) → ((a : Partial Sym) → Out a → ⊥) → IsProper plan → focus ≡ false → (history : HistoryState) (x : Entry Sym) (g : ℕ) (held born : List InstanceState) → AllOf plan held → AllByRecursion (IsAble plan focus g) held → AreForksOfAll plan focus Out history x g g held born → TakesPrompt plan focus history x g held (held ++ born)
+taken_prompt plan focus Out never proper flat history x g held born all able forks pool entries early read inside over ready =
     let level = levels_in plan focus in
     let big : List (Entry Sym) = pool ++ x ∷ [] in
     let Fine = IsOpenAt plan focus big entries g in
@@ -68,7 +69,7 @@ taken_prompt plan focus proper flat history x g held born all able forks pool en
     subst (λ (t : Partial Sym). Fine t) (sym m.2) ((open_able plan focus big entries g m.0 (in_from_each (IsOf plan) held all m.0 m.1) (in_from_each (IsOver plan focus big entries g) held over_big m.0 m.1)).1 (in_from_each (IsAble plan focus g) held able m.0 m.1))) in
     let stays : IsImage (GoesOn Fine) (parts held) (parts held) = all_stay Fine (parts held) ready.1 fine in
     let made = forks big entries now (omega arith) over_big ready in
-    let im = both_by_level level Fine (λ b o. o.closed) (λ b o. o.partial.distinct) x (parts held) (parts held) (parts born) (λ a i. in_from_each (IsFree x) (parts held) ready.0 a i) stays made.0 in (
+    let im = both_by_level level Fine (λ b o. o.closed) (λ b o. o.partial.distinct) x (parts held) (parts held) (parts born) (λ a i. in_from_each (IsFree x) (parts held) ready.0 a i) stays (forks_all level Fine Out x (parts held) (parts born) never made.0) in (
       subst (λ (t : List (Partial Sym)). IsImage (GoesOnByLevel level Fine x) (parts held) t) (sym (map-append (λ (i : InstanceState). i.partial) held born)) im,
       all_append (IsOver plan focus big entries g) held born over_big made.1,
     )

@@ -50,7 +50,7 @@ pub done_known : (plan : Plan) (focus : Bool) (events windows : List Hook) (inde
 done_known plan focus events windows index pairs ripe handle h i of able done there = record {
   of = of;
   able = able;
-  linked = λ e w can. absurd (all_some_of i.partial done.0 e w.within w.unbound);
+  linked = λ e w can. absurd (all_some_of i.partial done.0 e w.awaited.within w.awaited.unbound);
   armed = λ k. some_if (slice_get (chronicle plan).windows k) _ (λ w is from to stretch bound wants near far. let q = of_some (slice_get (chronicle plan).windows k) w _ is (done_ended plan focus i h done k) from to stretch bound in absurd (omega (arith, ints)));
   due = λ t due l m. absurd (done_undue plan focus i h done t due l);
   done = λ d. there;

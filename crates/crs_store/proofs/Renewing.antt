@@ -93,7 +93,7 @@ module _ (plan : Plan) (focus : Bool) (proper : IsProper plan) (events windows :
   stays_known undue due = record {
     of = known.of;
     able = undue_able plan focus i d h undue later proper known.of known.able;
-    linked = λ e w can. keeps (key_of e (hook_at events e) (look_of i.binding)) (known.linked e w (starts_linked plan focus i d h undue e w can));
+    linked = λ e w can. keeps (key_of e (hook_at events e) (look_of i.binding)) (known.linked e w (starts_linked plan focus i d h undue e w.awaited can));
     armed = armed_later undue;
     due = dues_later plan focus i handle d pairs due h later;
     done = λ done. ripe_kept handle.place (known.done (undue_undone plan focus i d h undue later done));

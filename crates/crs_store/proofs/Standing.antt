@@ -1,6 +1,6 @@
 -- What a store stands for after a call.
 use Rattle.std.proofs.Common.{◌≡◌, ℕ, suc, ◌<◌, ◌≤◌, List, [], ◌∷◌, ◌++◌, length, refl, sym, ap, subst, ◌∙◌, inl, inr, ◌⊎◌, arith, append-nil}
-use Rattle.std.specs.Prelude.{Option, Some, None, IfSome, IsSomeAnd, replicate, slice_get, Bool, Result, OnOk}
+use Rattle.std.specs.Prelude.{Option, Some, None, IfSome, IsSomeAnd, replicate, slice_get, Bool, false, Result, OnOk}
 use Rattle.std.specs.List.{AllByRecursion, AllZip}
 use Rattle.std.proofs.lemmas.Result.{on_ok_weaker}
 use Rattle.std.proofs.lemmas.List.{ext_get_or, length-replicate, length-map}
@@ -24,12 +24,15 @@ use Rattle.crs_instance.specs.Followed.{Follows}
 use Rattle.crs_instance.proofs.GoesOn.{root_goes_on}
 use Rattle.crs_instance.proofs.BindAnswers.{get-replicate}
 use Rattle.crs_store.specs.Ahead.{MayBecome, IsWanted, AreAhead, MayGo}
+use Rattle.crs_store.specs.declared.waiting.hooks.Hook.{Hook}
+use Rattle.crs_store.specs.Orders.{AreOrdered, IsOvertaken}
 use Rattle.crs_store.specs.Stores.{parts, AllOf, StoreState, IsStore, Stands, StandsAhead, StandsComing, IsSameStore, levels_of, IsOffered, IsOfferedAt}
 use Rattle.crs_store.specs.PlanLevels.{levels_in}
 use Rattle.crs_store.specs.Windows.{IsAble, IsOver, IsOpenAt, IsSameInstance}
 use Rattle.crs_store.specs.Sweeps.{IsFree, IsReady, TakesIn, TakesInSome}
 use Rattle.crs_store.proofs.Ahead.{stands_ahead, ahead_stands, some_stand, offered_ahead}
 use Rattle.crs_store.proofs.Hopeless.{hopeless_unwanted}
+use Rattle.crs_store.proofs.Overtaken.{overtaken_unwanted}
 use Rattle.crs_store.proofs.Joined.{parts_sub}
 use Rattle.crs_store.proofs.Overs.{open_able, floor_early}
 use Rattle.crs_store.proofs.Progress.{still_of}
@@ -121,8 +124,9 @@ wanted_stays plan proper focus pool entries later ahead beyond h made some comin
       | inr o ↦ absurd (hopeless_unwanted plan proper focus pool entries later ahead beyond h m.0 coming o (subst (MayBecome (chronicle plan) (levels_in plan focus) pool entries later h) m.2 w))
     ])
 
-store_offered : (old new : StoreState) (history : HistoryState) (x : Entry Sym) (until : ℕ) (ahead : List (Entry Sym)) (beyond : ℕ) → x.date ≤ until → IsStore old → IsSameStore old new → new.date ≡ until → TakesInSome old.plan old.focus history x until old.date ahead beyond old.held new.held → IsOfferedAt old history x until ahead beyond new
-store_offered old new history x until ahead beyond up is same judged takes was settled later d g h stands coming kept far few fresh dated =
+store_offered : (old new : StoreState) (hooks : List Hook) → AreOrdered old.plan old.focus old.ranks hooks → (history : HistoryState) (x : Entry Sym) (until : ℕ) (ahead : List (Entry Sym)) (beyond : ℕ) (behind : Bool) → x.date ≤ until → IsStore old → IsSameStore old new → new.date ≡ until → TakesInSome old.plan old.focus (IsOvertaken old.plan old.focus hooks behind x) history x until old.date ahead beyond old.held new.held
+    → IsOfferedAt old history x until ahead beyond behind new
+store_offered old new hooks order history x until ahead beyond behind up is same judged takes was settled later d g h stands coming after kept far few fresh dated =
     let c = chronicle old.plan in
     let level = levels_of old in
     let now : List (Entry Sym) = settled ++ x ∷ [] in
@@ -130,9 +134,11 @@ store_offered old new history x until ahead beyond up is same judged takes was s
     let far_d = far_later old.plan.reach g d history.floor one.marked far in
     let over : AllByRecursion (IsOver old.plan old.focus settled settled d) old.held = over_of old.plan old.focus settled settled d old.held (given_ahead c level (parts old.held) was settled settled (x ∷ later) d g h one) (closed_ahead c level (parts old.held) was settled settled (x ∷ later) d g h one) stands.follows in
     let made : List InstanceState = takes.0 in
-    let taken_in = subst (λ (k : ℕ). TakesIn old.plan old.focus history x until k old.held made) stands.judged takes.1 in
+    let Out = IsOvertaken old.plan old.focus hooks behind x in
+    let taken_in = subst (λ (k : ℕ). TakesIn old.plan old.focus Out history x until k old.held made) stands.judged takes.1 in
     let r = taken_in settled dated up (record { kept = kept; few = few; far = far_d }) (floor_early old.plan is.proper d history.floor far_d) over (ready c level (parts old.held) was settled settled (x ∷ later) d g h x one fresh) in
-    let all = offered_ahead c level settled settled was later d until g h (omega arith) x dated fresh (parts old.held) (parts made) one r.0 in
+    let unwanted : (a : Partial Sym) → IsOpen c level now now until a → IsWanted c level now now later h a → Out a → ⊥ = (λ a k w o. overtaken_unwanted old.plan is.proper old.focus old.ranks hooks order behind x (now ++ later) (now ++ later) later h after a (k.partial.len ∙ length-map old.plan.chronicle.events event_of) o w) in
+    let all = offered_ahead c level settled settled was later d until g h (omega arith) x dated fresh (parts old.held) (parts made) one Out unwanted r.0 in
     let some = some_stand c level (IsWanted c level now now later h) (parts made) (parts new.held) was now now until g all (takes.2.apart all.distinct) (parts_sub made new.held takes.2.back) (wanted_stays old.plan is.proper old.focus (now ++ later) (now ++ later) later ahead beyond h made new.held coming takes.2.each) in
     record {
       stands = same_levels old new same (λ c levels. StandsFor c levels (IsWanted c levels now now later h) (parts new.held) was now now until g) some;
@@ -140,15 +146,16 @@ store_offered old new history x until ahead beyond up is same judged takes was s
       judged = judged;
     }
 
-pub offered_from : (seen old new : StoreState) (history : HistoryState) (x : Entry Sym) (until : ℕ) (ahead : List (Entry Sym)) (beyond : ℕ) → x.date ≤ until → (p : Plan) → seen ≡ old → IsStore seen → p ≡ seen.plan → IsSameStore seen new → new.date ≡ until → TakesInSome p seen.focus history x until seen.date ahead beyond seen.held new.held → IsOfferedAt old history x until ahead beyond new
-offered_from seen old new history x until ahead beyond up p view is sp same judged takes =
-    subst (λ (o : StoreState). IsOfferedAt o history x until ahead beyond new) view
-    (store_offered seen new history x until ahead beyond up is same judged (subst (λ (t : Plan). TakesInSome t seen.focus history x until seen.date ahead beyond seen.held new.held) sp takes))
+pub offered_from : (seen old new : StoreState) (hooks : List Hook) → AreOrdered seen.plan seen.focus seen.ranks hooks → (history : HistoryState) (x : Entry Sym) (until : ℕ) (ahead : List (Entry Sym)) (beyond : ℕ) (behind : Bool) → x.date ≤ until → (p : Plan) → seen ≡ old → IsStore seen → p ≡ seen.plan → IsSameStore seen new → new.date ≡ until
+    → TakesInSome p seen.focus (IsOvertaken p seen.focus hooks behind x) history x until seen.date ahead beyond seen.held new.held → IsOfferedAt old history x until ahead beyond behind new
+offered_from seen old new hooks order history x until ahead beyond behind up p view is sp same judged takes =
+    subst (λ (o : StoreState). IsOfferedAt o history x until ahead beyond behind new) view
+    (store_offered seen new hooks order history x until ahead beyond behind up is same judged (subst (λ (t : Plan). TakesInSome t seen.focus (IsOvertaken t seen.focus hooks behind x) history x until seen.date ahead beyond seen.held new.held) sp takes))
 
 -- what is judged at its date, with nothing ahead, is exact
-pub offered_alone : {E : Type 0} (r : Result Unit E) (old new : StoreState) (history : HistoryState) (x : Entry Sym) → OnOk r (IsOfferedAt old history x x.date [] x.date new) → OnOk r (IsOffered old history x new)
+pub offered_alone : {E : Type 0} (r : Result Unit E) (old new : StoreState) (history : HistoryState) (x : Entry Sym) → OnOk r (IsOfferedAt old history x x.date [] x.date false new) → OnOk r (IsOffered old history x new)
 offered_alone r old new history x = on_ok_weaker r (λ h was settled d g stands kept far few fresh later. exact_now new was (settled ++ x ∷ []) (settled ++ x ∷ []) x.date g
-    (h was settled [] d g x.date (ahead_of old was settled settled (x ∷ []) d g x.date stands) (record { each = λ y i. absurd i; within = omega arith }) kept far few fresh later))
+    (h was settled [] d g x.date (ahead_of old was settled settled (x ∷ []) d g x.date stands) (record { each = λ y i. absurd i; within = omega arith }) (λ b. absurd (cc)) kept far few fresh later))
 
 -- ---- the root alone
 

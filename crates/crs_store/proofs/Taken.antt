@@ -28,14 +28,15 @@ use Rattle.crs_store.specs.Forkings.{AreForksOfAll}
 use Rattle.crs_store.specs.Joins.{AreApart, Joins, Renews}
 use Rattle.crs_store.specs.PlanLevels.{levels_in}
 use Rattle.crs_store.specs.Stores.{parts, AllOf}
-use Rattle.crs_store.specs.Windows.{IsAble, IsOver, IsOpenAt, IsFollowed, IsPassed}
+use Rattle.crs_store.specs.Windows.{IsAble, IsOver, IsOpenAt, IsOpenBut, IsFollowed, IsPassed}
 use Rattle.crs_store.specs.Sweeps.{IsReady, IsFree, IsNow, TakesIn}
 use Rattle.crs_store.proofs.Gathered.{widen}
 use Rattle.crs_store.proofs.Leaving.{leaves_image, leaves_each}
+use Rattle.crs_store.proofs.Overtaken.{stays_but}
 use Rattle.crs_store.proofs.Overs.{open_able, floor_early}
 use Rattle.crs_store.proofs.Standing.{zip_all, parts_same, zip_of}
 
-module _ (plan : Plan) (focus : Bool) (x : Entry Sym) (until : ℕ) (later : x.date ≤ until) (entries : List (Entry Sym)) where
+module _ (plan : Plan) (focus : Bool) (Out : Partial Sym → Type 0) (x : Entry Sym) (until : ℕ) (later : x.date ≤ until) (entries : List (Entry Sym)) where
   -- what is open at the date is so at that of x
   open_now : (a : Partial Sym) → ((e : ℕ) (y : Entry Sym) → at a e ≡ Some y → IsIn y entries) → IsOpenAt plan focus entries entries until a → IsOpenAt plan focus entries entries x.date a
   open_now a given k =
@@ -46,10 +47,10 @@ module _ (plan : Plan) (focus : Bool) (x : Entry Sym) (until : ℕ) (later : x.d
       never o y n s = cc
 
   -- what a fork comes of is so too
-  parent_open : (a b : Partial Sym) → ((e : ℕ) (y : Entry Sym) → at a e ≡ Some y → IsIn y entries) → IsLevelClosed (levels_in plan focus) a → IsForkByLevel (levels_in plan focus) (IsOpenAt plan focus entries entries until) x a b → IsOpenAt plan focus entries entries x.date a
+  parent_open : (a b : Partial Sym) → ((e : ℕ) (y : Entry Sym) → at a e ≡ Some y → IsIn y entries) → IsLevelClosed (levels_in plan focus) a → IsForkByLevel (levels_in plan focus) (IsOpenBut plan focus Out entries entries until) x a b → IsOpenAt plan focus entries entries x.date a
   parent_open a b given closed f =
       open_back (chronicle plan) (levels_in plan focus) x.date until later a b part same gone entries entries entries [] (λ y i. absurd i) given closed
-      (subst (λ (es : List (Entry Sym)). IsOpen (chronicle plan) (levels_in plan focus) entries es until b) (sym (append-nil entries)) (f.1).2)
+      (subst (λ (es : List (Entry Sym)). IsOpen (chronicle plan) (levels_in plan focus) entries es until b) (sym (append-nil entries)) ((f.1).2).0)
     where
       e : ℕ
       e = f.0
@@ -89,13 +90,14 @@ narrowed From Able mid kept out left able im = widen From (parts kept) (parts mi
     (λ a b j f. let m = in_map_back (λ (t : InstanceState). t.partial) mid a j in subst (λ (t : Partial Sym). IsIn t (parts kept)) (sym m.2) (in_map (λ (t : InstanceState). t.partial) kept m.0 (in_sifted Able mid kept m.0 left m.1 (able m.0 m.1 b (subst (λ (t : Partial Sym). From t b) m.2 f)))))
     im
 
-module _ (plan : Plan) (focus : Bool) (proper : IsProper plan) (history : HistoryState) (x : Entry Sym) (until since : ℕ) (held kept more stay new : List InstanceState) (all : AllOf plan held) (renews : Renews (IsFollowed plan history x since) (IsAble plan focus x.date) held kept) (forks : AreForksOfAll plan focus history x x.date until kept more)
+module _ (plan : Plan) (focus : Bool) (Out : Partial Sym → Type 0) (proper : IsProper plan) (history : HistoryState) (x : Entry Sym) (until since : ℕ) (held kept more stay new : List InstanceState) (all : AllOf plan held) (renews : Renews (IsFollowed plan history x since) (IsAble plan focus x.date) held kept) (never : (a : Partial Sym) → IsFree x a → Out a → ⊥) (forks : AreForksOfAll plan focus Out history x x.date until kept more)
     (passes : Renews (IsPassed plan history x.date until) (IsAble plan focus until) kept stay) (joins : Joins stay more new) where
-  pub taken_anew : TakesIn plan focus history x until since held new
+  pub taken_anew : TakesIn plan focus Out history x until since held new
   taken_anew settled up later read low over ready =
       let entries : List (Entry Sym) = settled ++ x ∷ [] in
       let level = levels_in plan focus in
-      let Fine = IsOpenAt plan focus entries entries until in
+      let Open = IsOpenAt plan focus entries entries until in
+      let Fine = IsOpenBut plan focus Out entries entries until in
       let mid : List InstanceState = renews.0 in
       let followed = renews.1 in
       let left = renews.2 in
@@ -127,19 +129,20 @@ module _ (plan : Plan) (focus : Bool) (proper : IsProper plan) (history : Histor
       }) kept aft passed over_kept in
       let of_aft : AllOf plan aft = zip_of plan (IsPassed plan history x.date until) (λ a b r. r.same) kept aft passed of_kept in
       let left_aft = passes.2 in
-      let stays_kept : IsImage (GoesOn Fine) (parts kept) (parts stay) = subst (λ (t : List (Partial Sym)). IsImage (GoesOn Fine) t (parts stay)) same_aft
-      (leaves_image (IsAble plan focus until) (λ i. IsOf plan i × IsOver plan focus entries entries until i) Fine
+      let stays_kept : IsImage (GoesOn Open) (parts kept) (parts stay) = subst (λ (t : List (Partial Sym)). IsImage (GoesOn Open) t (parts stay)) same_aft
+      (leaves_image (IsAble plan focus until) (λ i. IsOf plan i × IsOver plan focus entries entries until i) Open
       (λ i q p. (open_able plan focus entries entries until i q.0 q.1).1 p) (λ i q f. (open_able plan focus entries entries until i q.0 q.1).0 f) aft stay (all_both (IsOf plan) (IsOver plan focus entries entries until) aft of_aft over_aft)
       (subst (Ordered (λ a b. a ≡ b → ⊥)) (sym same_aft) ready_kept.1) left_aft) in
       let over_stay : AllByRecursion (IsOver plan focus entries entries until) stay = leaves_each (IsAble plan focus until) (IsOver plan focus entries entries until) aft stay over_aft left_aft in
       let able_from : (i : InstanceState) → IsIn i mid → IsOpenAt plan focus entries entries x.date i.partial → IsAble plan focus x.date i = (λ i j o. (open_able plan focus entries entries x.date i (in_from_each (IsOf plan) mid of_mid i j) (in_from_each (IsOver plan focus entries entries x.date) mid over_mid i j)).0 o) in
-      let stays : IsImage (GoesOn Fine) (parts mid) (parts stay) = narrowed (GoesOn Fine) (IsAble plan focus x.date) mid kept (parts stay) left (λ i j b g.
-      able_from i j (open_now plan focus x until later entries i.partial (in_from_each (IsOver plan focus entries entries x.date) mid over_mid i j).given (subst (λ (t : Partial Sym). Fine t) g.0 g.1))) stays_kept in
+      let stays_mid : IsImage (GoesOn Open) (parts mid) (parts stay) = narrowed (GoesOn Open) (IsAble plan focus x.date) mid kept (parts stay) left (λ i j b g.
+      able_from i j (open_now plan focus Out x until later entries i.partial (in_from_each (IsOver plan focus entries entries x.date) mid over_mid i j).given (subst (λ (t : Partial Sym). Open t) g.0 g.1))) stays_kept in
+      let stays : IsImage (GoesOn Fine) (parts mid) (parts stay) = stays_but Open Out (parts mid) (parts stay) (λ a i. never a (in_from_each (IsFree x) (parts mid) ready_mid.0 a i)) stays_mid in
       let made = forks entries entries now later over_kept ready_kept in
       let born : IsImage (IsForkByLevel level Fine x) (parts mid) (parts more) = narrowed (IsForkByLevel level Fine x) (IsAble plan focus x.date) mid kept (parts more) left (λ i j b g.
       let one = in_from_each (IsOver plan focus entries entries x.date) mid over_mid i j in
-      able_from i j (parent_open plan focus x until later entries i.partial b one.given one.closed g)) made.0 in
-      let im = both_by_level level Fine (λ b o. o.closed) (λ b o. o.partial.distinct) x (parts mid) (parts stay) (parts more) (λ a i. in_from_each (IsFree x) (parts mid) ready_mid.0 a i) stays born in
+      able_from i j (parent_open plan focus Out x until later entries i.partial b one.given one.closed g)) made.0 in
+      let im = both_by_level level Fine (λ b o. (o.0).closed) (λ b o. (o.0).partial.distinct) x (parts mid) (parts stay) (parts more) (λ a i. in_from_each (IsFree x) (parts mid) ready_mid.0 a i) stays born in
       let whole : AreApart (stay ++ more) = subst (λ (t : List (Partial Sym)). Ordered (λ a b. a ≡ b → ⊥) t) (sym (map-append (λ (i : InstanceState). i.partial) stay more)) im.distinct in (
         subst (λ (t : List (Partial Sym)). IsImage (GoesOnByLevel level Fine x) t (parts new)) same (record {
           distinct = joins.apart whole;

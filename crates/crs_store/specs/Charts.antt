@@ -4,6 +4,7 @@ use Rattle.crs_model.specs.declared.plan.Plan.{Plan}
 use Rattle.crs_model.specs.Plans.{IsProper}
 use Rattle.crs_store.specs.declared.waiting.hooks.Hooks.{Hooks}
 use Rattle.crs_store.specs.Hooks.{AreHooks}
+use Rattle.crs_store.specs.Orders.{AreOrdered}
 
 -- a chart, as contracts see it
 pub record ChartState : Type 0 where
@@ -11,7 +12,8 @@ pub record ChartState : Type 0 where
   pub hooks : Hooks
   pub focus : Bool
 
--- the plan is proper, and the hooks are its own
+-- the plan is proper, and the hooks are its own, in the order of the ranks
 pub record IsChart (c : ChartState) : Type 0 where
   pub proper : IsProper c.plan
   pub hooks : AreHooks c.plan c.hooks.events.items c.hooks.windows.items
+  pub order : AreOrdered c.plan c.focus c.hooks.ranks.value.items c.hooks.events.items

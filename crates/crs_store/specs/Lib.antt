@@ -20,5 +20,6 @@ pub mod Forkings
 pub mod Scannings
 pub mod Scans
 pub mod Moments
+pub mod Orders
 pub mod PlaceWalks
 pub mod Linkings

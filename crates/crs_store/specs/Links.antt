@@ -11,7 +11,7 @@ use Rattle.crs_instance.specs.Instances.{InstanceState, window_at, progress_at}
 use Rattle.crs_model.specs.Bindings.{look_of}
 use Rattle.crs_model.specs.HasProgress.{IsEnough}
 use Rattle.crs_model.specs.Models.{Window}
-use Rattle.crs_model.specs.Partial.{IsAwaited}
+use Rattle.crs_model.specs.Partial.{Partial, IsAwaited}
 use Rattle.crs_model.specs.Plans.{chronicle}
 use Rattle.crs_model.specs.Verdicts.{IsStretch, BodyIsBound}
 use Rattle.crs_model.specs.declared.plan.Plan.{Plan}
@@ -23,7 +23,7 @@ use Rattle.crs_store.specs.Slots.{SlotsState, slot_at, handle_at}
 
 -- the hook of this number
 abbrev pub hook_at : List Hook → ℕ → Hook
-hook_at hooks n = slice_index_or hooks n (record { name = record { 0 = 0 }; first = None; second = None; third = None })
+hook_at hooks n = slice_index_or hooks n (record { name = record { 0 = 0 }; first = None; second = None; third = None; before = None })
 
 -- the event can come by the date
 abbrev pub CanStart : InstanceState → ℕ → ℕ → Type 0
@@ -33,10 +33,19 @@ CanStart i e d = IfSome (window_at i.windows e).least (λ m. m ≤ℤ pos d)
 abbrev pub linked_by : Plan → ℕ → ℕ
 linked_by plan d = if plan.chronicle.prompt then 2 ^ 42 else d
 
--- the handle waits for each awaited event that can come by the date
+-- an event that comes before the hook's is awaited
+abbrev pub IsHeldBack : (ℕ → ℕ) → Hook → Partial Sym → Type 0
+IsHeldBack level hook a = (f : ℕ) × (hook.before ≡ Some f) × IsAwaited level a f
+
+-- the event is awaited, and the one that the hook says comes before it isn't
+pub record IsNext (level : ℕ → ℕ) (hook : Hook) (a : Partial Sym) (e : ℕ) : Type 0 where
+  pub awaited : IsAwaited level a e
+  pub free : IsHeldBack level hook a → ⊥
+
+-- the handle waits for each next event that can come by the date
 abbrev pub IsLinked : Plan → Bool → List Hook → IndexState → Handle → ℕ → InstanceState → Type 0
 IsLinked plan focus hooks index handle d i =
-    (e : ℕ) → IsAwaited (levels_in plan focus) i.partial e → CanStart i e d → Waits index (key_of e (hook_at hooks e) (look_of i.binding)) handle
+    (e : ℕ) → IsNext (levels_in plan focus) (hook_at hooks e) i.partial e → CanStart i e d → Waits index (key_of e (hook_at hooks e) (look_of i.binding)) handle
 
 -- the date is at most one after the other
 abbrev pub IsNear : ℤ → ℕ → Type 0
@@ -71,10 +80,10 @@ HasTouched plan hooks slots index x n places = (k : ℕ) → k < n → HasTouche
 abbrev pub Grows : IndexState → IndexState → Type 0
 Grows old new = (k : Key) (h : Handle) → Waits old k h → Waits new k h
 
--- the handle waits for each awaited event that can come by h and, where there is an earlier date, couldn't by that
+-- the handle waits for each next event that can come by h and, where there is an earlier date, couldn't by that
 abbrev pub IsLinkedAnew : Plan → Bool → List Hook → IndexState → Handle → Option ℕ → ℕ → InstanceState → Type 0
 IsLinkedAnew plan focus hooks index handle since h i =
-    (e : ℕ) → IsAwaited (levels_in plan focus) i.partial e → CanStart i e h → IfSome since (λ d. CanStart i e d → ⊥) → Waits index (key_of e (hook_at hooks e) (look_of i.binding)) handle
+    (e : ℕ) → IsNext (levels_in plan focus) (hook_at hooks e) i.partial e → CanStart i e h → IfSome since (λ d. CanStart i e d → ⊥) → Waits index (key_of e (hook_at hooks e) (look_of i.binding)) handle
 
 -- the handle waits for what may touch a window whose count isn't enough, that doesn't end by h and begins by the date after it and, where there is an earlier date, not by the one after that
 abbrev pub IsArmedAnew : Plan → List Hook → IndexState → Handle → Option ℕ → ℕ → InstanceState → Type 0

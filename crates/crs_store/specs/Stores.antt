@@ -14,6 +14,7 @@ use Rattle.crs_instance.specs.Instances.{InstanceState, IsOf}
 use Rattle.crs_instance.specs.Followed.{Follows}
 use Rattle.crs_store.specs.Ahead.{MayBecome, IsWanted, AreAhead}
 use Rattle.crs_store.specs.Hooks.{LooksFor}
+use Rattle.crs_store.specs.Orders.{AreBehind}
 use Rattle.crs_store.specs.PlanLevels.{levels_in}
 
 -- a store, as contracts see it
@@ -21,6 +22,7 @@ pub record StoreState : Type 0 where
   pub plan : Plan
   pub number : ℕ
   pub focus : Bool
+  pub ranks : List ℕ
   pub held : List InstanceState
   pub date : ℕ
   pub stopped : Bool
@@ -49,11 +51,12 @@ pub record Stands (s : StoreState) (was pool entries : List (Entry Sym)) (d g : 
   pub follows : AllByRecursion (Follows s.plan entries d) s.held
   pub judged : s.date ≡ d
 
--- the plan, the number and the focus stay
+-- the plan, the number, the focus and the ranks stay
 pub record IsSameStore (old new : StoreState) : Type 0 where
   pub plan : new.plan ≡ old.plan
   pub number : new.number ≡ old.number
   pub focus : new.focus ≡ old.focus
+  pub ranks : new.ranks ≡ old.ranks
 
 -- The same where the later entries come next, up to h: what can't be recognised with them may be left out.
 pub record StandsAhead (s : StoreState) (was pool entries later : List (Entry Sym)) (d g h : ℕ) : Type 0 where
@@ -74,19 +77,24 @@ IsOffered old history x new =
     HistoryStandsFor (settled ++ x ∷ []) history → IsFarBack old.plan.reach g history.floor → length (settled ++ x ∷ []) < 2 ^ 32 → IsFresh settled x → d ≤ x.date →
     Stands new was (settled ++ x ∷ []) (settled ++ x ∷ []) x.date g
 
--- the same, judged at a date, where x and then the later entries come next, of which the store is told which are ahead of all that are dated at or after a date
-abbrev pub IsOfferedAt : StoreState → HistoryState → Entry Sym → ℕ → List (Entry Sym) → ℕ → StoreState → Type 0
-IsOfferedAt old history x n ahead beyond new =
-    (was settled later : List (Entry Sym)) (d g h : ℕ) → StandsAhead old was settled settled (x ∷ later) d g h → AreAhead ahead beyond later h →
+-- the same, judged at a date, where x and then the later entries come next, of which the store is told which are ahead of all that are dated at or after a date, and whether they are behind x by the ranks of their names
+abbrev pub IsOfferedAt : StoreState → HistoryState → Entry Sym → ℕ → List (Entry Sym) → ℕ → Bool → StoreState → Type 0
+IsOfferedAt old history x n ahead beyond behind new =
+    (was settled later : List (Entry Sym)) (d g h : ℕ) → StandsAhead old was settled settled (x ∷ later) d g h → AreAhead ahead beyond later h → (behind ≡ true → AreBehind old.ranks x later h) →
     HistoryStandsFor (settled ++ x ∷ []) history → IsFarBack old.plan.reach g history.floor → length (settled ++ x ∷ []) < 2 ^ 32 → IsFresh settled x → d ≤ x.date →
     StandsAhead new was (settled ++ x ∷ []) (settled ++ x ∷ []) later n g h
 
 -- the same, judged at a date that isn't before d nor after `until`, and at `until` where the chronicle looks for entries of the name of x
-abbrev pub IsOfferedUntil : StoreState → HistoryState → Entry Sym → ℕ → List (Entry Sym) → ℕ → StoreState → Type 0
-IsOfferedUntil old history x until ahead beyond new =
-    (was settled later : List (Entry Sym)) (d g h : ℕ) → StandsAhead old was settled settled (x ∷ later) d g h → AreAhead ahead beyond later h →
+abbrev pub IsOfferedUntil : StoreState → HistoryState → Entry Sym → ℕ → List (Entry Sym) → ℕ → Bool → StoreState → Type 0
+IsOfferedUntil old history x until ahead beyond behind new =
+    (was settled later : List (Entry Sym)) (d g h : ℕ) → StandsAhead old was settled settled (x ∷ later) d g h → AreAhead ahead beyond later h → (behind ≡ true → AreBehind old.ranks x later h) →
     HistoryStandsFor (settled ++ x ∷ []) history → IsFarBack old.plan.reach g history.floor → length (settled ++ x ∷ []) < 2 ^ 32 → IsFresh settled x → d ≤ x.date →
     (n : ℕ) × (d ≤ n) × (n ≤ until) × (LooksFor (chronicle old.plan) x.name → n ≡ until) × StandsAhead new was (settled ++ x ∷ []) (settled ++ x ∷ []) later n g h
+
+-- where the chronicle doesn't look for entries of the name of x, the store was offered x as it is
+abbrev pub PassesOver : StoreState → Type 0
+PassesOver s =
+    (history : HistoryState) (x : Entry Sym) (until : ℕ) (ahead : List (Entry Sym)) (beyond : ℕ) (behind : Bool) → x.date ≤ until → (LooksFor (chronicle s.plan) x.name → ⊥) → IsOfferedUntil s history x until ahead beyond behind s
 
 -- after x came to the pool of a prompt chronicle, whose arrival number is new there, and whose date isn't before g; the history stands for what is settled, and x isn't among it
 abbrev pub IsOfferedPrompt : StoreState → HistoryState → Entry Sym → StoreState → Type 0

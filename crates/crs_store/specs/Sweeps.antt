@@ -15,7 +15,7 @@ use Rattle.crs_store.specs.Ahead.{MayGo}
 use Rattle.crs_store.specs.Joins.{IsPartOf}
 use Rattle.crs_store.specs.PlanLevels.{levels_in}
 use Rattle.crs_store.specs.Stores.{parts}
-use Rattle.crs_store.specs.Windows.{IsRead, IsOver, IsOpenAt}
+use Rattle.crs_store.specs.Windows.{IsRead, IsOver, IsOpenAt, IsOpenBut}
 use Rattle.crs_store.specs.JudgedWindows.{IsMetTo}
 
 -- no event has x
@@ -34,18 +34,18 @@ pub record IsNow (plan : Plan) (focus : Bool) (history : HistoryState) (x : Entr
   pub inside : (e : Entry Sym) → IsIn e entries → IsIn e pool
   pub whole : focus ≡ true → pool ≡ entries
 
--- what comes of the instances where x is settled after what was settled, and all is judged at a date
-abbrev pub TakesIn : Plan → Bool → HistoryState → Entry Sym → ℕ → ℕ → List InstanceState → List InstanceState → Type 0
-TakesIn plan focus history x until since held new =
+-- what comes of the instances where x is settled after what was settled, but for what is left out, and all is judged at a date
+abbrev pub TakesIn : Plan → Bool → (Partial Sym → Type 0) → HistoryState → Entry Sym → ℕ → ℕ → List InstanceState → List InstanceState → Type 0
+TakesIn plan focus Out history x until since held new =
     (settled : List (Entry Sym)) → since ≤ x.date → x.date ≤ until → IsRead plan history (settled ++ x ∷ []) since → history.floor ≤ℤ pos since
     → AllByRecursion (IsOver plan focus settled settled since) held → IsReady x (parts held)
-    → IsImage (GoesOnByLevel (levels_in plan focus) (IsOpenAt plan focus (settled ++ x ∷ []) (settled ++ x ∷ []) until) x) (parts held) (parts new)
+    → IsImage (GoesOnByLevel (levels_in plan focus) (IsOpenBut plan focus Out (settled ++ x ∷ []) (settled ++ x ∷ []) until) x) (parts held) (parts new)
     × AllByRecursion (IsOver plan focus (settled ++ x ∷ []) (settled ++ x ∷ []) until) new
 
 -- the same, but that some may be left out
-abbrev pub TakesInSome : Plan → Bool → HistoryState → Entry Sym → ℕ → ℕ → List (Entry Sym) → ℕ → List InstanceState → List InstanceState → Type 0
-TakesInSome plan focus history x until since ahead beyond held new =
-    (made : List InstanceState) × TakesIn plan focus history x until since held made × IsPartOf (MayGo plan focus ahead beyond) made new
+abbrev pub TakesInSome : Plan → Bool → (Partial Sym → Type 0) → HistoryState → Entry Sym → ℕ → ℕ → List (Entry Sym) → ℕ → List InstanceState → List InstanceState → Type 0
+TakesInSome plan focus Out history x until since ahead beyond held new =
+    (made : List InstanceState) × TakesIn plan focus Out history x until since held made × IsPartOf (MayGo plan focus ahead beyond) made new
 
 -- what comes of the instances of a prompt chronicle where x comes to the pool, and all stays judged at a date
 abbrev pub TakesPrompt : Plan → Bool → HistoryState → Entry Sym → ℕ → List InstanceState → List InstanceState → Type 0

@@ -94,3 +94,7 @@ pub record IsOver (plan : Plan) (focus : Bool) (pool entries : List (Entry Sym))
 
 abbrev pub IsOpenAt : Plan → Bool → List (Entry Sym) → List (Entry Sym) → ℕ → Partial Sym → Type 0
 IsOpenAt plan focus pool entries n a = IsOpen (chronicle plan) (levels_in plan focus) pool entries n a
+
+-- open, and not left out
+abbrev pub IsOpenBut : Plan → Bool → (Partial Sym → Type 0) → List (Entry Sym) → List (Entry Sym) → ℕ → Partial Sym → Type 0
+IsOpenBut plan focus Out pool entries n a = IsOpenAt plan focus pool entries n a × (Out a → ⊥)

@@ -12,5 +12,7 @@ mod scanning;
 mod store;
 mod waiting;
 
+pub use moment::Coming;
 pub use refused::StoreRefused;
 pub use store::Store;
+pub use waiting::befores::rank_of;

@@ -1,5 +1,9 @@
-//! An entry that comes to the instances, the moments at which a store takes one in, and the horizon
-//! to which it moves on.
+//! An entry that comes to the instances, what a store is told of those after it, the moments at which it
+//! takes one in, and the horizon to which it moves on.
+ghost use Rattle.std.specs.Prelude.{◌≡◌};
+ghost use Rattle.crs_store.specs.Moments.{IsArrival};
+
+use crate::chart::Chart;
 use crate::waiting::hooks::Hooks;
 use crs_base::Entry;
 use crs_history::History;
@@ -8,11 +12,14 @@ use std::alloc::Global;
 use std::rc::Rc;
 
 /// An entry to which an event may be bound, the date at which all was judged last, and the one at
-/// which what comes of it is judged.
+/// which what comes of it is judged. Where `skips` is true, all that comes later is behind it, so that
+/// what awaits an event that comes before its own can't be recognised.
 #[derive(Drop)]
 pub(crate) struct Arrival<'a> {
     pub(crate) alloc: Global,
     pub(crate) plan: &'a Plan,
+    pub(crate) hooks: &'a Hooks,
+    pub(crate) skips: bool,
     pub(crate) focus: bool,
     pub(crate) history: &'a History,
     pub(crate) entry: &'a Rc<Entry>,
@@ -20,8 +27,37 @@ pub(crate) struct Arrival<'a> {
     pub(crate) until: u64,
 }
 
+impl<'a> Arrival<'a> {
+    /// What hangs on the plan alone.
+    pub(crate) fn chart(&self) -> Chart<'a>
+        requires { IsArrival self.now }
+        ensures { result ≡ record { plan = self.now.plan.now; hooks = self.now.hooks.now; focus = self.now.focus } }
+    {
+        Chart {
+            plan: self.plan,
+            hooks: self.hooks,
+            focus: self.focus,
+        }
+    }
+}
+
+/// The entries that come after one, as far as a store is told. Dates are ticks of the log's clock, and
+/// none is after 2^42.
+#[derive(Drop)]
+pub struct Coming<'a> {
+    /// None is dated before it.
+    pub until: u64,
+    /// Those that come next, before all that are dated at or after `beyond`.
+    pub ahead: &'a [Rc<Entry>],
+    pub beyond: u64,
+    /// Whether each has a later date than the one before them, or the same and no lesser a rank, and the
+    /// next mark's horizon is after that date.
+    pub behind: bool,
+}
+
 /// The entry, which is the last of the history, the date at which all was judged before, and the one
-/// at which it is to be judged; the entries that come next, before all that are dated from `beyond` on.
+/// at which it is to be judged; the entries that come next, before all that are dated from `beyond` on,
+/// and whether all that comes later is behind it by date and rank.
 #[derive(Drop)]
 pub(crate) struct Moment<'a> {
     pub(crate) alloc: Global,
@@ -34,6 +70,7 @@ pub(crate) struct Moment<'a> {
     pub(crate) until: u64,
     pub(crate) ahead: &'a [Rc<Entry>],
     pub(crate) beyond: u64,
+    pub(crate) behind: bool,
 }
 
 /// The entry of a prompt chronicle, which isn't settled yet, and the date at which all is judged and

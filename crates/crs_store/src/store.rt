@@ -5,11 +5,12 @@ ghost use Rattle.crs_history.specs.Histories.{EndsWith};
 ghost use Rattle.crs_model.specs.Plans.{IsProper, chronicle};
 ghost use Rattle.crs_model.specs.Levels.{reads_levels};
 ghost use Rattle.crs_instance.specs.Instances.{InstanceState, IsOf};
-ghost use Rattle.crs_store.specs.Stores.{Stands, IsStore, IsSameStore, IsOffered, IsOfferedAt, IsOfferedUntil, IsOfferedPrompt, IsOfferedPromptAhead, IsSettledWith, IsSettledComing};
+ghost use Rattle.crs_store.specs.Stores.{Stands, IsStore, IsSameStore, IsOffered, IsOfferedAt, IsOfferedUntil, PassesOver, IsOfferedPrompt, IsOfferedPromptAhead, IsSettledWith, IsSettledComing};
 ghost use Rattle.crs_store.specs.Sweeps.{TakesInSome, TakesPromptSome};
 ghost use Rattle.crs_store.specs.Answers.{IsAdvanced, MovesOn};
 ghost use Rattle.crs_store.specs.Hooks.{AreHooks};
-ghost use Rattle.crs_store.specs.Moments.{IsMoment, IsPromptMoment, IsHorizon};
+ghost use Rattle.crs_store.specs.Orders.{AreOrdered, IsOvertaken};
+ghost use Rattle.crs_store.specs.Moments.{IsComingFrom, IsMoment, IsPromptMoment, IsHorizon};
 ghost use Rattle.crs_store.specs.Slots.{members};
 ghost use Rattle.crs_store.specs.Tidy.{IsTidyHolding};
 ghost use Rattle.crs_store.specs.declared.refused.StoreRefused.TheVariants.{Stopped, Memory};
@@ -17,7 +18,7 @@ ghost use Rattle.crs_store.specs.declared.refused.StoreRefused.TheVariants.{Stop
 use crate::chart::Chart;
 use crate::holding::{Holding, follow, hold, hold_all, no_holding, pass};
 use crate::living::judging::Judging;
-use crate::moment::{Arrival, Horizon, Moment, PromptMoment};
+use crate::moment::{Arrival, Coming, Horizon, Moment, PromptMoment};
 use crate::order::put_in_order;
 use crate::places::ripening::take_ripe;
 use crate::refused::StoreRefused;
@@ -51,15 +52,16 @@ pub struct Store {
 impl Model for Store {
     ghost use Rattle.std.specs.Prelude.{◌≡◌, false};
     ghost use Rattle.crs_store.specs.Hooks.{AreHooks};
+    ghost use Rattle.crs_store.specs.Orders.{AreOrdered};
     ghost use Rattle.crs_store.specs.Slots.{members};
     ghost use Rattle.crs_store.specs.Stores.{StoreState, IsStore};
     ghost use Rattle.crs_store.specs.Tidy.{IsTidyHolding};
 
     ghost Value = { StoreState };
 
-    ghost view = { λ s. record { plan = s.plan.value; number = s.number; focus = s.focus; held = members s.holding.slots.slots; date = s.date; stopped = s.stopped } };
+    ghost view = { λ s. record { plan = s.plan.value; number = s.number; focus = s.focus; ranks = s.hooks.ranks.value.items; held = members s.holding.slots.slots; date = s.date; stopped = s.stopped } };
 
-    ghost invariant = { λ s. IsStore (record { plan = s.plan.value; number = s.number; focus = s.focus; held = members s.holding.slots.slots; date = s.date; stopped = s.stopped }) × AreHooks s.plan.value s.hooks.events.items s.hooks.windows.items × (s.stopped ≡ false → IsTidyHolding s.plan.value s.focus s.hooks s.holding s.date) };
+    ghost invariant = { λ s. IsStore (record { plan = s.plan.value; number = s.number; focus = s.focus; ranks = s.hooks.ranks.value.items; held = members s.holding.slots.slots; date = s.date; stopped = s.stopped }) × AreHooks s.plan.value s.hooks.events.items s.hooks.windows.items × AreOrdered s.plan.value s.focus s.hooks.ranks.value.items s.hooks.events.items × (s.stopped ≡ false → IsTidyHolding s.plan.value s.focus s.hooks s.holding s.date) };
 }
 
 /// Takes in the entry, and judges all at the date `until`: adds what comes of the instances by it, and
@@ -75,7 +77,7 @@ fn take_in<L: Ledger>(
     requires moment { IsMoment moment.now }
     requires tidy { IsTidyHolding moment.now.plan.now moment.now.focus moment.now.hooks.now holding.old moment.now.since }
     ensures tidy { OnOk result (IsTidyHolding moment.now.plan.now moment.now.focus moment.now.hooks.now holding.new moment.now.until) }
-    ensures taken { OnOk result (TakesInSome moment.now.plan.now moment.now.focus moment.now.history.now (entry_of moment.now.entry.now.value) moment.now.until moment.now.since (map (λ r. entry_of r.value) moment.now.ahead.now) moment.now.beyond (members holding.old.slots.slots) (members holding.new.slots.slots)) }
+    ensures taken { OnOk result (TakesInSome moment.now.plan.now moment.now.focus (IsOvertaken moment.now.plan.now moment.now.focus moment.now.hooks.now.events.items moment.now.behind (entry_of moment.now.entry.now.value)) moment.now.history.now (entry_of moment.now.entry.now.value) moment.now.until moment.now.since (map (λ r. entry_of r.value) moment.now.ahead.now) moment.now.beyond (members holding.old.slots.slots) (members holding.new.slots.slots)) }
     ensures cost { moment.now.focus ≡ false → steps.new ≤ steps.old + 2 * length moment.now.plan.now.chronicle.events * length (members holding.old.slots.slots) }
 {
     let chart = Chart {
@@ -94,6 +96,8 @@ fn take_in<L: Ledger>(
     let arrival = Arrival {
         alloc: moment.alloc,
         plan: moment.plan,
+        hooks: moment.hooks,
+        skips: moment.behind,
         focus: moment.focus,
         history: moment.history,
         entry: moment.entry,
@@ -102,7 +106,6 @@ fn take_in<L: Ledger>(
     };
     forks(
         &arrival,
-        moment.hooks.events.as_slice(),
         &holding.slots,
         &mut holding.waiting,
         steps,
@@ -141,6 +144,8 @@ fn take_prompt<L: Ledger>(
     let arrival = Arrival {
         alloc: moment.alloc,
         plan: moment.plan,
+        hooks: moment.hooks,
+        skips: false,
         focus: moment.focus,
         history: moment.history,
         entry: moment.entry,
@@ -149,7 +154,6 @@ fn take_prompt<L: Ledger>(
     };
     forks(
         &arrival,
-        moment.hooks.events.as_slice(),
         &holding.slots,
         &mut holding.waiting,
         steps,
@@ -200,6 +204,13 @@ fn move_on(
     Ok(List::from_vec(found))
 }
 
+/// Whether levels are read: those of a prompt chronicle aren't.
+fn reads_levels(plan: &Plan, focus: bool) -> bool
+    ensures { result ≡ reads_levels (chronicle plan.now) focus }
+{
+    focus && !plan.chronicle.prompt
+}
+
 /// What is held at first: the root alone.
 fn first_holding(
     alloc: Global,
@@ -209,6 +220,7 @@ fn first_holding(
 ) -> Result<Holding, AllocError>
     requires proper { IsProper plan.now }
     requires hooks { AreHooks plan.now hooks.now.events.items hooks.now.windows.items }
+    requires order { AreOrdered plan.now focus hooks.now.ranks.value.items hooks.now.events.items }
     ensures tidy { IfOk result (λ holding. IsTidyHolding plan.now focus hooks.now holding 0) }
     ensures root { IfOk result (λ holding. (i : InstanceState) × (members holding.slots.slots ≡ i ∷ []) × IsOf plan.now i × (i.partial ≡ replicate (length plan.now.chronicle.events) None)) }
 {
@@ -227,11 +239,60 @@ impl Store {
         ensures plan { IfOk result (λ s. s.plan ≡ plan.value) }
         ensures number { IfOk result (λ s. s.number ≡ number) }
         ensures focus { IfOk result (λ s. s.focus ≡ reads_levels (chronicle plan.value) focus) }
+        ensures ranks { IfOk result (λ s. s.ranks ≡ []) }
         ensures running { IfOk result (λ s. s.stopped ≡ false) }
         ensures stands { IfOk result (λ s. Stands s [] [] [] 0 0) }
     {
-        let focus = focus && !plan.chronicle.prompt;
-        let hooks = Hooks::of(alloc, &plan)?;
+        let ranks = Rc::new(alloc, Vec::new(alloc))?;
+        let levels = reads_levels(&plan, focus);
+        let hooks = Hooks::of(alloc, &plan, levels, ranks, false)?;
+        Store::with_hooks(alloc, plan, number, levels, hooks)
+    }
+
+    /// The same, where entries come by their dates and, at one date, by the ranks of their names: a
+    /// name's rank stands at the place of its number, and is 0 where there is none. What the ranks say
+    /// decides no answer. An instance then waits for an event only once the one that comes before it is
+    /// bound, so that less stands in the index; where `offer_until` isn't told that an entry comes in
+    /// that order, all instances are looked at.
+    pub fn with_ranks(
+        alloc: Global,
+        plan: Rc<Plan>,
+        number: u32,
+        focus: bool,
+        ranks: Rc<Vec<u32>>,
+    ) -> Result<Store, AllocError>
+        requires proper { IsProper plan.value }
+        ensures plan { IfOk result (λ s. s.plan ≡ plan.value) }
+        ensures number { IfOk result (λ s. s.number ≡ number) }
+        ensures focus { IfOk result (λ s. s.focus ≡ reads_levels (chronicle plan.value) focus) }
+        ensures ranks { IfOk result (λ s. s.ranks ≡ ranks.value.items) }
+        ensures running { IfOk result (λ s. s.stopped ≡ false) }
+        ensures stands { IfOk result (λ s. Stands s [] [] [] 0 0) }
+    {
+        let levels = reads_levels(&plan, focus);
+        let hooks = Hooks::of(alloc, &plan, levels, ranks, true)?;
+        Store::with_hooks(alloc, plan, number, levels, hooks)
+    }
+
+    /// A store with these hooks, which reads levels or not.
+    fn with_hooks(
+        alloc: Global,
+        plan: Rc<Plan>,
+        number: u32,
+        focus: bool,
+        hooks: Hooks,
+    ) -> Result<Store, AllocError>
+        requires proper { IsProper plan.value }
+        requires hooks { AreHooks plan.value hooks.events.items hooks.windows.items }
+        requires order { AreOrdered plan.value focus hooks.ranks.value.items hooks.events.items }
+        requires flat { plan.value.chronicle.prompt ≡ true → focus ≡ false }
+        ensures plan { IfOk result (λ s. s.plan ≡ plan.value) }
+        ensures number { IfOk result (λ s. s.number ≡ number) }
+        ensures focus { IfOk result (λ s. s.focus ≡ focus) }
+        ensures ranks { IfOk result (λ s. s.ranks ≡ hooks.ranks.value.items) }
+        ensures running { IfOk result (λ s. s.stopped ≡ false) }
+        ensures stands { IfOk result (λ s. Stands s [] [] [] 0 0) }
+    {
         let holding = first_holding(alloc, &plan, focus, &hooks)?;
         Ok(Store {
             plan,
@@ -264,60 +325,52 @@ impl Store {
         ensures stands { OnOk result (IsOffered self.old history.now (entry_of entry.now.value) self.new) }
         ensures cost { self.old.focus ≡ false → steps.new ≤ steps.old + 2 * length self.old.plan.chronicle.events * length self.old.held }
     {
-        self.take(history, entry, entry.date, &[], entry.date, steps)
+        let coming = Coming {
+            until: entry.date,
+            ahead: &[],
+            beyond: entry.date,
+            behind: false,
+        };
+        self.take(history, entry, &coming, steps)
     }
 
-    /// Takes in an entry as `offer` does, and judges all that is held at the date `until`, which no
-    /// later entry is before. Where it is told of the entries that come next, `ahead`, before all that
-    /// are dated at or after `beyond`, it may leave out what they can't complete. It passes over an
-    /// entry for which the chronicle doesn't look. Neither `until` nor `beyond` is after 2^42.
+    /// Takes in an entry as `offer` does, and judges all that is held at the date until which nothing
+    /// comes. What those that come can't complete it may leave out. An entry for which the chronicle
+    /// doesn't look may as well be passed over (`pass_over`).
     pub fn offer_until<L: Ledger>(
         &mut self,
         history: &History,
         entry: &Rc<Entry>,
-        until: u64,
-        ahead: &[Rc<Entry>],
-        beyond: u64,
+        coming: &Coming<'_>,
         steps: &mut Steps<L>,
     ) -> Result<(), StoreRefused>
         requires last { self.old.stopped ≡ false → EndsWith (entry_of entry.now.value) history.now.entries }
         requires date { entry.now.value.date < 2 ^ 40 }
-        requires later { entry.now.value.date ≤ until }
-        requires small { until ≤ 2 ^ 42 }
-        requires near { beyond ≤ 2 ^ 42 }
+        requires coming { IsComingFrom entry.now.value.date coming.now }
         ensures stopped { (result ≡ Err Stopped) ↔ IsTrue self.old.stopped }
         ensures raised { IsTrue self.new.stopped ↔ (IsTrue self.old.stopped ⊎ (result ≡ Err Memory)) }
         ensures same { IsSameStore self.old self.new }
-        ensures stands { OnOk result (IsOfferedUntil self.old history.now (entry_of entry.now.value) until (map (λ r. entry_of r.value) ahead.now) beyond self.new) }
+        ensures stands { OnOk result (IsOfferedUntil self.old history.now (entry_of entry.now.value) coming.now.until (map (λ r. entry_of r.value) coming.now.ahead.now) coming.now.beyond coming.now.behind self.new) }
         ensures cost { self.old.focus ≡ false → steps.new ≤ steps.old + 2 * length self.old.plan.chronicle.events * length self.old.held }
     {
-        if !self.stopped && !self.hooks.look_for(entry.name) {
-            return Ok(());
-        }
-        self.take(history, entry, until, ahead, beyond, steps)
+        self.take(history, entry, coming, steps)
     }
 
-    /// Takes in an entry of any name, and judges all that is held at the date `until`. It stands apart,
-    /// so that `offer_until` passes over an entry at little cost.
-    #[inline(never)]
+    /// Takes in an entry of any name, and judges all that is held at the date until which nothing comes.
     fn take<L: Ledger>(
         &mut self,
         history: &History,
         entry: &Rc<Entry>,
-        until: u64,
-        ahead: &[Rc<Entry>],
-        beyond: u64,
+        coming: &Coming<'_>,
         steps: &mut Steps<L>,
     ) -> Result<(), StoreRefused>
         requires last { self.old.stopped ≡ false → EndsWith (entry_of entry.now.value) history.now.entries }
         requires date { entry.now.value.date < 2 ^ 40 }
-        requires later { entry.now.value.date ≤ until }
-        requires small { until ≤ 2 ^ 42 }
-        requires near { beyond ≤ 2 ^ 42 }
+        requires coming { IsComingFrom entry.now.value.date coming.now }
         ensures stopped { (result ≡ Err Stopped) ↔ IsTrue self.old.stopped }
         ensures raised { IsTrue self.new.stopped ↔ (IsTrue self.old.stopped ⊎ (result ≡ Err Memory)) }
         ensures same { IsSameStore self.old self.new }
-        ensures stands { OnOk result (IsOfferedAt self.old history.now (entry_of entry.now.value) until (map (λ r. entry_of r.value) ahead.now) beyond self.new) }
+        ensures stands { OnOk result (IsOfferedAt self.old history.now (entry_of entry.now.value) coming.now.until (map (λ r. entry_of r.value) coming.now.ahead.now) coming.now.beyond coming.now.behind self.new) }
         ensures cost { self.old.focus ≡ false → steps.new ≤ steps.old + 2 * length self.old.plan.chronicle.events * length self.old.held }
     {
         if self.stopped {
@@ -334,9 +387,10 @@ impl Store {
             history,
             entry,
             since: self.date,
-            until,
-            ahead,
-            beyond,
+            until: coming.until,
+            ahead: coming.ahead,
+            beyond: coming.beyond,
+            behind: coming.behind,
         };
         match take_in(
             &moment,
@@ -346,7 +400,7 @@ impl Store {
             &mut self.born,
         ) {
             Ok(()) => {
-                self.date = until;
+                self.date = coming.until;
                 Ok(())
             }
             Err(_) => {
@@ -355,6 +409,15 @@ impl Store {
                 Err(StoreRefused::Memory)
             }
         }
+    }
+
+    /// Does nothing, at no cost. What it ensures is that nothing need be done at an entry for which the
+    /// chronicle doesn't look: the store stands for it too, as it is.
+    #[inline(always)]
+    pub fn pass_over(&self)
+        ensures { PassesOver self.now }
+    {
+        let _ = &self.plan;
     }
 
     /// Whether the chronicle is prompt.

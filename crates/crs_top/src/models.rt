@@ -9,6 +9,7 @@ use crate::listing::read_text;
 use crate::merged::MergedSession;
 use crs_base::Symbols;
 use crs_compile::compile;
+use crs_engine::ranks_of;
 use crs_feeds::Feeds;
 use crs_layers::Layers;
 use crs_model::{ModelRefused, ModelWord, Plans, first_emit_line};
@@ -85,7 +86,13 @@ pub fn prepare(
     ensures refused { IfErr result (IsRunFaultyText cite limits.symbols text.now) }
 {
     let (plans, symbols) = read_run_plans(alloc, text, cite, limits.symbols, seed)?;
-    let layers = Layers::new(alloc, plans, focus, limits.entries)?;
+    let ranks = ranks_of(
+        alloc,
+        plans.names.as_slice(),
+        plans.derived.as_slice(),
+        &symbols,
+    )?;
+    let layers = Layers::with_ranks(alloc, plans, focus, limits.entries, ranks)?;
     let peak = layers.kept();
     Ok(Session {
         layers,

@@ -122,6 +122,13 @@ impl Slots {
         self.count
     }
 
+    /// How many places there are.
+    pub(crate) fn places(&self) -> usize
+        ensures { result ≡ length self.now.slots }
+    {
+        self.slots.len()
+    }
+
     /// The serial numbers of all places.
     pub(crate) fn serials(&self) -> &[u32]
         ensures all { result.now ≡ self.now.serials }

@@ -1,16 +1,16 @@
 //! The forks of the instances that may come of an entry.
 ghost use Rattle.std.specs.Prelude.{◌≡◌, ◌+◌, ◌*◌, ◌<◌, ◌≤◌, ◌^◌, length, None, false, OnOk};
-ghost use Rattle.std.specs.List.{AllZip, AllByRecursion};
+ghost use Rattle.std.specs.List.{AllByRecursion};
 ghost use Rattle.std.specs.List.Sorted.{IsStrictlySortedBy};
 ghost use Rattle.std.specs.Ordering.{nat_cmp};
 ghost use Rattle.crs_base.specs.Seen.{entry_of};
 ghost use Rattle.crs_base.specs.Words.{IsIn};
 ghost use Rattle.crs_instance.specs.Instances.{IsOf};
-ghost use Rattle.crs_model.specs.Plans.{chronicle};
-ghost use Rattle.crs_store.specs.Forkings.{HaveWindow, IsNoted, AreCandidates, AreCandidatesOf, KeepsStanding, IsHookAt, AreLinkedAt, AreForksOfPlaces, AreForksOfEvent, AreForksOfAll};
-ghost use Rattle.crs_store.specs.Hooks.{IsHookOfEvent, KeepsFresh, picked_arguments};
-ghost use Rattle.crs_store.specs.Links.{AreLinked};
+ghost use Rattle.crs_store.specs.Forkings.{HaveWindow, IsNoted, AreCandidates, AreCandidatesOf, KeepsStanding, IsHookAt, AreLinkedAt, HasAll, AreSought, AreForksBut, AreForksOfPlaces, AreForksOfEvent, AreForksOfAll};
+ghost use Rattle.crs_store.specs.Hooks.{KeepsFresh, picked_arguments};
+ghost use Rattle.crs_store.specs.Links.{hook_at, AreLinked};
 ghost use Rattle.crs_store.specs.Moments.{IsArrival};
+ghost use Rattle.crs_store.specs.Orders.{IsOvertaken};
 ghost use Rattle.crs_store.specs.Slots.{members};
 ghost use Rattle.crs_store.specs.Stores.{AllOf};
 ghost use Rattle.crs_store.specs.Scannings.{Adds, AreForksAt};
@@ -22,6 +22,7 @@ use crate::places::slots::Slots;
 use crate::places::{note, sort_places};
 use crate::scanning::agreeing::{agree, symbols_taken};
 use crate::scanning::deciding::{Scan, decide};
+use crate::waiting::befores::is_held_back;
 use crate::waiting::hooks::{
     Hook, Symbols, argument_in, is_lone, key_of_first, key_of_symbols, part, parts,
     symbols_of_entry,
@@ -34,11 +35,34 @@ use crs_model::{Binding, Plan};
 use std::alloc::AllocError;
 use std::sync::ledger::Ledger;
 
+/// Adds what comes of the instance where the event is bound to the entry, unless an event that comes
+/// before it is unbound, and such are skipped.
+fn push_forks<L: Ledger>(
+    arrival: &Arrival<'_>,
+    instance: &Instance,
+    event: u8,
+    steps: &mut Steps<L>,
+    out: &mut Vec<Instance>,
+) -> Result<(), AllocError>
+    requires arrival { IsArrival arrival.now }
+    requires of { IsOf arrival.now.plan.now instance.now }
+    requires event { event < length arrival.now.plan.now.chronicle.events }
+    ensures forks { OnOk result (Adds arrival.now.plan.now arrival.now.focus arrival.now.until (AreForksBut arrival.now.plan.now arrival.now.focus (IsOvertaken arrival.now.plan.now arrival.now.focus arrival.now.hooks.now.events.items arrival.now.skips (entry_of arrival.now.entry.now.value)) arrival.now.history.now (entry_of arrival.now.entry.now.value) arrival.now.since arrival.now.until instance.now event) out.old.items out.new.items) }
+    ensures cost { arrival.now.focus ≡ false → steps.new ≤ steps.old + 1 }
+{
+    let chart = arrival.chart();
+    let hook = chart.event_hook(event);
+    if arrival.skips && is_held_back(hook, instance) {
+        return Ok(());
+    }
+    push_open_forks(arrival, instance, event, steps, out)
+}
+
 /// Adds what comes of the instance where the event is bound to the entry: a copy with the event bound
 /// too, or, where that completes a level, what is made of it by the entries that are there. Each of
 /// them can be and can go on at the date `until`, and no window of theirs is lost then.
 /// It takes memory only where the event's pattern fits the entry.
-fn push_forks<L: Ledger>(
+fn push_open_forks<L: Ledger>(
     arrival: &Arrival<'_>,
     instance: &Instance,
     event: u8,
@@ -209,7 +233,7 @@ fn forks_at<L: Ledger>(
     requires of { AllOf arrival.now.plan.now (members slots.now.slots) }
     requires event { event < length arrival.now.plan.now.chronicle.events }
     requires ordered { IsStrictlySortedBy nat_cmp places.now }
-    ensures forks { OnOk result (Adds arrival.now.plan.now arrival.now.focus arrival.now.until (AreForksOfPlaces arrival.now.plan.now arrival.now.focus arrival.now.history.now (entry_of arrival.now.entry.now.value) arrival.now.since arrival.now.until slots.now event places.now) out.old.items out.new.items) }
+    ensures forks { OnOk result (Adds arrival.now.plan.now arrival.now.focus arrival.now.until (AreForksOfPlaces arrival.now.plan.now arrival.now.focus (IsOvertaken arrival.now.plan.now arrival.now.focus arrival.now.hooks.now.events.items arrival.now.skips (entry_of arrival.now.entry.now.value)) arrival.now.history.now (entry_of arrival.now.entry.now.value) arrival.now.since arrival.now.until slots.now event places.now) out.old.items out.new.items) }
     ensures cost { arrival.now.focus ≡ false → steps.new ≤ steps.old + length (members slots.now.slots) }
 {
     for place in places {
@@ -230,11 +254,48 @@ fn compared(plan: &Plan) -> u8
     if count < 2 { 0 } else { count }
 }
 
+/// Notes the places of all that are held.
+fn note_all(slots: &Slots, places: &mut Vec<u32>) -> Result<(), AllocError>
+    ensures { OnOk result (HasAll slots.now places.new.items) }
+{
+    for place in 0..slots.places() {
+        let Ok(place) = u32::try_from(place) else {
+            return Err(AllocError);
+        };
+        note(places, place)?;
+    }
+    Ok(())
+}
+
 /// An event, and what it looks for.
 #[derive(Clone, Copy, Drop)]
 struct Sought<'a> {
     event: u8,
     hook: &'a Hook,
+}
+
+/// Notes the places of those of which something may come by the entry at the event. Where others than
+/// those that wait for it may be among them, all are noted: no entry that comes in the order of ranks,
+/// as all entries of a log do, costs that.
+fn note_sought(
+    arrival: &Arrival<'_>,
+    sought: Sought<'_>,
+    slots: &Slots,
+    waiting: &mut Index,
+    wanted: &Wanted,
+    places: &mut Vec<u32>,
+) -> Result<(), AllocError>
+    requires windows { HaveWindow slots.now wanted.now.event }
+    requires date { wanted.now.date < 2 ^ 40 }
+    ensures fresh { KeepsFresh slots.now.serials waiting.old waiting.new }
+    ensures standing { KeepsStanding slots.now waiting.old waiting.new }
+    ensures noted { OnOk result (AreSought slots.now waiting.old sought.entry.hook.now arrival.now.skips (entry_of arrival.now.entry.now.value).args wanted.now.event wanted.now.date wanted.now.symbols places.new.items) }
+{
+    places.clear();
+    if !arrival.skips && sought.hook.before.is_some() {
+        return note_all(slots, places);
+    }
+    note_candidates(waiting, slots, sought.hook, arrival.entry, wanted, places)
 }
 
 /// Adds the forks of all instances at the event, for which such a hook looks; the entry has its name. The
@@ -253,10 +314,11 @@ fn forks_of_event<L: Ledger>(
     requires of { AllOf arrival.now.plan.now (members slots.now.slots) }
     requires event { sought.event < length arrival.now.plan.now.chronicle.events }
     requires hook { IsHookAt arrival.now.plan.now sought.event sought.hook.now }
+    requires same { sought.hook.now ≡ hook_at arrival.now.hooks.now.events.items sought.event }
     requires linked { AreLinkedAt arrival.now.plan.now arrival.now.focus sought.hook.now slots.now waiting.old sought.event arrival.now.entry.now.value.date }
     ensures fresh { KeepsFresh slots.now.serials waiting.old waiting.new }
     ensures standing { KeepsStanding slots.now waiting.old waiting.new }
-    ensures forks { OnOk result (Adds arrival.now.plan.now arrival.now.focus arrival.now.until (AreForksOfEvent arrival.now.plan.now arrival.now.focus arrival.now.history.now (entry_of arrival.now.entry.now.value) arrival.now.since arrival.now.until slots.now sought.entry.event) out.old.items out.new.items) }
+    ensures forks { OnOk result (Adds arrival.now.plan.now arrival.now.focus arrival.now.until (AreForksOfEvent arrival.now.plan.now arrival.now.focus (IsOvertaken arrival.now.plan.now arrival.now.focus arrival.now.hooks.now.events.items arrival.now.skips (entry_of arrival.now.entry.now.value)) arrival.now.history.now (entry_of arrival.now.entry.now.value) arrival.now.since arrival.now.until slots.now sought.entry.event) out.old.items out.new.items) }
     ensures cost { arrival.now.focus ≡ false → steps.new ≤ steps.old + 2 * length (members slots.now.slots) }
 {
     if slots.len() == 0 {
@@ -271,8 +333,7 @@ fn forks_of_event<L: Ledger>(
         symbols,
         variables: compared(arrival.plan),
     };
-    places.clear();
-    note_candidates(waiting, slots, sought.hook, arrival.entry, &wanted, places)?;
+    note_sought(arrival, sought, slots, waiting, &wanted, places)?;
     sort_places(places);
     let places = places.as_slice();
     forks_at(arrival, slots, places, sought.event, steps, out)
@@ -283,7 +344,6 @@ fn forks_of_event<L: Ledger>(
 #[inline(always)]
 pub(crate) fn forks<L: Ledger>(
     arrival: &Arrival<'_>,
-    hooks: &[Hook],
     slots: &Slots,
     waiting: &mut Index,
     steps: &mut Steps<L>,
@@ -291,19 +351,19 @@ pub(crate) fn forks<L: Ledger>(
     out: &mut Vec<Instance>,
 ) -> Result<(), AllocError>
     requires arrival { IsArrival arrival.now }
-    requires hooks { AllZip IsHookOfEvent (chronicle arrival.now.plan.now).events hooks.now }
     requires of { AllOf arrival.now.plan.now (members slots.now.slots) }
-    requires linked { AreLinked arrival.now.plan.now arrival.now.focus hooks.now slots.now waiting.old arrival.now.entry.now.value.date }
+    requires linked { AreLinked arrival.now.plan.now arrival.now.focus arrival.now.hooks.now.events.items slots.now waiting.old arrival.now.entry.now.value.date }
     ensures fresh { KeepsFresh slots.now.serials waiting.old waiting.new }
     ensures standing { KeepsStanding slots.now waiting.old waiting.new }
     ensures of { OnOk result (AllOf arrival.now.plan.now out.new.items) }
     ensures able { OnOk result (AllByRecursion (IsAble arrival.now.plan.now arrival.now.focus arrival.now.until) out.new.items) }
-    ensures image { OnOk result (AreForksOfAll arrival.now.plan.now arrival.now.focus arrival.now.history.now (entry_of arrival.now.entry.now.value) arrival.now.since arrival.now.until (members slots.now.slots) out.new.items) }
+    ensures image { OnOk result (AreForksOfAll arrival.now.plan.now arrival.now.focus (IsOvertaken arrival.now.plan.now arrival.now.focus arrival.now.hooks.now.events.items arrival.now.skips (entry_of arrival.now.entry.now.value)) arrival.now.history.now (entry_of arrival.now.entry.now.value) arrival.now.since arrival.now.until (members slots.now.slots) out.new.items) }
     ensures cost { arrival.now.focus ≡ false → steps.new ≤ steps.old + length arrival.now.plan.now.chronicle.events * (2 * length (members slots.now.slots)) }
 {
     out.clear();
+    let chart = arrival.chart();
     for event in 0..arrival.plan.chronicle.events.len() as u8 {
-        let hook = &hooks[event as usize];
+        let hook = chart.event_hook(event);
         if hook.name != arrival.entry.name {
             continue;
         }

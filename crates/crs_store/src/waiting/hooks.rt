@@ -1,17 +1,19 @@
 //! Under which keys instances wait for entries.
-ghost use Rattle.std.specs.Prelude.{◌≡◌, ◌<◌, ◌^◌, ◌↔◌, ◌==◌, None, true, cond, map, IsTrue, IfOk};
-ghost use Rattle.std.specs.List.{AllZip, list_any};
-ghost use Rattle.crs_model.specs.declared.plan.Plan.{Plan as Planned};
+ghost use Rattle.std.specs.Prelude.{◌≡◌, ◌<◌, ◌^◌, ◌==◌, None, true, cond, map, length, slice_get, IfOk, IfSome};
+ghost use Rattle.std.specs.List.{AllZip};
 ghost use Rattle.crs_model.specs.Bindings.{look_of};
 ghost use Rattle.crs_model.specs.Models.{Var};
-ghost use Rattle.crs_model.specs.Plans.{chronicle};
-ghost use Rattle.crs_model.specs.SeenModels.{term_of, body_of, event_of, window_of};
-ghost use Rattle.crs_store.specs.Hooks.{name_of, terms_of, Picks, IsHookOf, IsHookOfEvent, IsHookOfWindow, AreHooks, LooksFor, key_with, key_of, picked_symbol, picked_argument, picked_symbols, picked_arguments, IsPart, IsAmong, part_of};
+ghost use Rattle.crs_model.specs.Plans.{chronicle, IsProper};
+ghost use Rattle.crs_model.specs.SeenModels.{term_of, body_of, window_of};
+ghost use Rattle.crs_store.specs.Hooks.{name_of, terms_of, Picks, IsHookOf, IsHookOfEvent, IsHookOfWindow, AreHooks, key_with, key_of, picked_symbol, picked_argument, picked_symbols, picked_arguments, IsPart, IsAmong, part_of};
+ghost use Rattle.crs_store.specs.Orders.{AreOrdered};
 
+use crate::waiting::befores::before_of;
 use crs_base::{Entry, Sym};
 use crs_index::Key;
 use crs_model::{Binding, Body, EventDef, Plan, Term, Window};
 use std::alloc::{AllocError, Global};
+use std::rc::Rc;
 
 /// A variable of a pattern, and the place of the argument that it stands for.
 #[derive(Clone, Copy, Drop)]
@@ -20,13 +22,15 @@ pub(crate) struct Pick {
     pub(crate) argument: u8,
 }
 
-/// What is looked for: entries of a name, of which up to three arguments are variables' symbols.
+/// What is looked for: entries of a name, of which up to three arguments are variables' symbols. Of an
+/// event also another one that comes before it: it isn't waited for before that is bound.
 #[derive(Clone, Copy, Drop)]
 pub(crate) struct Hook {
     pub(crate) name: Sym,
     pub(crate) first: Option<Pick>,
     pub(crate) second: Option<Pick>,
     pub(crate) third: Option<Pick>,
+    pub(crate) before: Option<u8>,
 }
 
 /// The symbols of the variables that a hook picks, as far as they are known.
@@ -65,8 +69,14 @@ fn pass_over(passed: &mut Vec<u8>, pick: Option<Pick>) -> Result<(), AllocError>
 /// A hook that picks the first three variables among the terms that aren't passed over: instances that
 /// join by two wait under both, so that an entry meets those alone that have both of its symbols. By the
 /// first variable alone, a log whose entries all share that took time by its square.
-fn hook_with(name: Sym, terms: &[Term], mut passed: Vec<u8>) -> Result<Hook, AllocError>
-    ensures { IfOk result (λ h. IsHookOf name (map term_of terms.now) h) }
+fn hook_with(
+    name: Sym,
+    terms: &[Term],
+    mut passed: Vec<u8>,
+    before: Option<u8>,
+) -> Result<Hook, AllocError>
+    ensures hook { IfOk result (λ h. IsHookOf name (map term_of terms.now) h) }
+    ensures before { IfOk result (λ h. h.before ≡ before) }
 {
     let first = pick_of(terms, passed.as_slice());
     pass_over(&mut passed, first)?;
@@ -78,6 +88,7 @@ fn hook_with(name: Sym, terms: &[Term], mut passed: Vec<u8>) -> Result<Hook, All
         first,
         second,
         third,
+        before,
     })
 }
 
@@ -86,9 +97,11 @@ fn hook_of(alloc: Global, body: &Body) -> Result<Hook, AllocError>
 {
     let none = Vec::new(alloc);
     match body {
-        Body::NoEvent(pattern) => hook_with(pattern.name, pattern.terms.as_slice(), none),
-        Body::Occurs { pattern, .. } => hook_with(pattern.name, pattern.terms.as_slice(), none),
-        Body::Hold { name, terms, .. } => hook_with(*name, terms.as_slice(), none),
+        Body::NoEvent(pattern) => hook_with(pattern.name, pattern.terms.as_slice(), none, None),
+        Body::Occurs { pattern, .. } => {
+            hook_with(pattern.name, pattern.terms.as_slice(), none, None)
+        }
+        Body::Hold { name, terms, .. } => hook_with(*name, terms.as_slice(), none, None),
     }
 }
 
@@ -133,25 +146,35 @@ fn lone_variables(
     Ok(lone)
 }
 
-fn event_hook(
-    alloc: Global,
-    events: &[EventDef],
-    event: usize,
-    def: &EventDef,
-) -> Result<Hook, AllocError>
-    ensures { IfOk result (λ h. IsHookOfEvent (event_of def.now) h) }
+fn event_hook(alloc: Global, plan: &Plan, event: u8, before: Option<u8>) -> Result<Hook, AllocError>
+    requires event { event < length plan.now.chronicle.events }
+    ensures hook { IfOk result (λ h. IfSome (slice_get (chronicle plan.now).events event) (λ v. IsHookOfEvent v h)) }
+    ensures before { IfOk result (λ h. h.before ≡ before) }
 {
+    let events = plan.chronicle.events.as_slice();
+    let def = &events[event as usize];
     let terms = def.pattern.terms.as_slice();
-    let lone = lone_variables(alloc, events, event, terms)?;
-    hook_with(def.pattern.name, terms, lone)
+    let lone = lone_variables(alloc, events, event as usize, terms)?;
+    hook_with(def.pattern.name, terms, lone, before)
 }
 
-fn event_hooks(alloc: Global, events: &[EventDef]) -> Result<Vec<Hook>, AllocError>
-    ensures { IfOk result (λ v. AllZip IsHookOfEvent (map event_of events.now) v.items) }
+/// The hooks of the events. Where the order is told in which entries of one date come, each names an
+/// event that comes before its own, if there is one.
+fn event_hooks(
+    alloc: Global,
+    plan: &Plan,
+    focus: bool,
+    ranks: &[u32],
+    told: bool,
+) -> Result<Vec<Hook>, AllocError>
+    requires proper { IsProper plan.now }
+    ensures hooks { IfOk result (λ v. AllZip IsHookOfEvent (chronicle plan.now).events v.items) }
+    ensures order { IfOk result (λ v. AreOrdered plan.now focus ranks.now v.items) }
 {
     let mut hooks = Vec::new(alloc);
-    for event in events {
-        let hook = event_hook(alloc, events, hooks.len(), event)?;
+    for event in 0..plan.chronicle.events.len() as u8 {
+        let before = before_of(plan, focus, ranks, told, event);
+        let hook = event_hook(alloc, plan, event, before)?;
         hooks.push(hook)?;
     }
     Ok(hooks)
@@ -168,34 +191,36 @@ fn window_hooks(alloc: Global, windows: &[Window]) -> Result<Vec<Hook>, AllocErr
     Ok(hooks)
 }
 
-/// Whether one of the hooks looks for entries of the name.
-fn is_among(hooks: &[Hook], name: Sym) -> bool
-    ensures { result ≡ list_any (λ h. h.name.0 == name.0) hooks.now }
-{
-    hooks.iter().any(|hook| hook.name.0 == name.0)
-}
-
-/// What the events and the windows of a chronicle look for.
+/// What the events and the windows of a chronicle look for, and by the number of a name its rank among
+/// the names of entries of one date.
 #[derive(Drop)]
 pub(crate) struct Hooks {
     pub(crate) events: Vec<Hook>,
     pub(crate) windows: Vec<Hook>,
+    pub(crate) ranks: Rc<Vec<u32>>,
 }
 
 impl Hooks {
-    pub(crate) fn of(alloc: Global, plan: &Plan) -> Result<Hooks, AllocError>
-        ensures { IfOk result (λ h. AreHooks plan.now h.events.items h.windows.items) }
+    /// Where `told` is false the ranks tell nothing.
+    pub(crate) fn of(
+        alloc: Global,
+        plan: &Plan,
+        focus: bool,
+        ranks: Rc<Vec<u32>>,
+        told: bool,
+    ) -> Result<Hooks, AllocError>
+        requires proper { IsProper plan.now }
+        ensures hooks { IfOk result (λ h. AreHooks plan.now h.events.items h.windows.items) }
+        ensures order { IfOk result (λ h. AreOrdered plan.now focus ranks.value.items h.events.items) }
+        ensures ranks { IfOk result (λ h. h.ranks.value.items ≡ ranks.value.items) }
     {
-        let events = event_hooks(alloc, plan.chronicle.events.as_slice())?;
+        let events = event_hooks(alloc, plan, focus, ranks.as_slice(), told)?;
         let windows = window_hooks(alloc, plan.chronicle.windows.as_slice())?;
-        Ok(Hooks { events, windows })
-    }
-
-    /// Whether an event or a window looks for entries of the name.
-    pub(crate) fn look_for(&self, name: Sym) -> bool
-        ensures { (plan : Planned) → AreHooks plan self.now.events.items self.now.windows.items → IsTrue result ↔ LooksFor (chronicle plan) name }
-    {
-        is_among(self.events.as_slice(), name) || is_among(self.windows.as_slice(), name)
+        Ok(Hooks {
+            events,
+            windows,
+            ranks,
+        })
     }
 }
 

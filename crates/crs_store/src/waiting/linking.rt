@@ -9,6 +9,7 @@ ghost use Rattle.crs_store.specs.Linkings.{StartsBetween, NearsBetween, IsLinked
 
 use crate::chart::Chart;
 use crate::living::levels::is_awaited;
+use crate::waiting::befores::is_held_back;
 use crate::waiting::hooks::key_of_binding;
 use crs_agenda::Handle;
 use crs_index::{Index, Key};
@@ -47,8 +48,7 @@ fn starts_between(window: DateWindow, since: Option<u64>, h: u64) -> bool
     }
 }
 
-/// Has the handle wait for the event, where it is awaited and can come by `h`, and couldn't by
-/// `since`.
+/// Has the handle wait for the event, where it is next and can come by `h`, and couldn't by `since`.
 fn link_event(
     waiting: &mut Index,
     chart: &Chart<'_>,
@@ -63,17 +63,22 @@ fn link_event(
     ensures grown { Grows waiting.old waiting.new }
     ensures linked { OnOk result (IsLinkedAt chart.now.plan chart.now.focus (hook_at chart.now.hooks.events.items event) waiting.new handle since h instance.now event) }
 {
-    if !is_awaited(chart.plan(), chart.focus(), instance, event) {
+    let plan = chart.plan();
+    let hook = chart.event_hook(event);
+    if is_held_back(hook, instance) {
+        return Ok(());
+    }
+    if !is_awaited(plan, chart.focus(), instance, event) {
         return Ok(());
     }
     if !starts_between(instance.date_window(event), since, h) {
         return Ok(());
     }
-    let key = key_of_binding(event as u32, chart.event_hook(event), instance.binding());
+    let key = key_of_binding(event as u32, hook, instance.binding());
     wait(waiting, key, handle)
 }
 
-/// Has the handle wait for each awaited event that can come by `h` and, where there is a date
+/// Has the handle wait for each next event that can come by `h` and, where there is a date
 /// `since`, couldn't by that. After a refusal it may wait for some of them.
 pub(crate) fn link_events(
     waiting: &mut Index,
@@ -181,7 +186,7 @@ pub(crate) fn arm_windows(
     Ok(())
 }
 
-/// Has the handle wait for each awaited event that can come by then and couldn't by `since`, and for
+/// Has the handle wait for each next event that can come by then and couldn't by `since`, and for
 /// what may touch a window that begins by the date after `h` and didn't by the one after `since`.
 /// After a refusal it may wait for some of it.
 pub(crate) fn find_anew(

@@ -9,12 +9,12 @@ use Rattle.crs_engine.proofs.moving.hold.Goals as goal
 
 pub returns-then-not-wanted-clause-ok : goal.returns-then-not-wanted-clause-ok
 returns-then-not-wanted-clause-ok c =
-    let same : c.in_ok-shared.shared.value ≡ c.args.entry = (c.in_ok-shared.ensures {u = tt}).ok in
+    let same : c.in_ok-shared.shared.value ≡ c.args.entry = c.in_ok-shared.ensures {u = tt} in
     subst (λ (e : CodeEntry). IsNewKey (entry_of e) c.args.buffer.now → OnOk c.put.result (c.put.new.self ≡ put_in_order (entry_of e) c.args.buffer.now)) same c.put.ensures.ok
 
 pub returns-clause-ok : goal.returns-clause-ok
 returns-clause-ok c =
-    let same : c.in_ok-shared.shared.value ≡ c.args.entry = (c.in_ok-shared.ensures {u = tt}).ok in
+    let same : c.in_ok-shared.shared.value ≡ c.args.entry = c.in_ok-shared.ensures {u = tt} in
     subst (λ (e : CodeEntry). IsNewKey (entry_of e) c.args.buffer.now → c.put-3.new.self ≡ put_in_order (entry_of e) c.args.buffer.now) same (c.in-Ok.ensures {u = tt}).ok
 
 pub returns-in_default-clause-fresh_err : goal.returns-in_default-clause-fresh_err

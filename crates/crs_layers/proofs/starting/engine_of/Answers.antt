@@ -7,16 +7,16 @@ use Rattle.crs_layers.specs.LayerPlans.{picked}
 use Rattle.crs_layers.proofs.Beginning.{picked_each, picked_few, each_value, value_each}
 use Rattle.crs_layers.proofs.starting.engine_of.Goals as goal
 
-pub new-requires-3-clause-proper : goal.new-requires-3-clause-proper
-new-requires-3-clause-proper c =
+pub with_ranks-requires-clause-proper : goal.with_ranks-requires-clause-proper
+with_ranks-requires-clause-proper c =
     let plans : List Plan = map (λ r. r.value) c.args.plans.now in
     let own : map (λ r. r.value) c.pick.new.own ≡ picked c.args.stratum plans c.args.strata.now =
     c.in_ok-pick.ensures {u = tt} ∙ ap (λ rs. map (λ r. r.value) rs ++ picked c.args.stratum plans c.args.strata.now) c.new-own.ensures in
     each_value IsProper c.pick.new.own (subst (AllByRecursion IsProper) (sym own)
     (picked_each IsProper c.args.stratum plans c.args.strata.now (value_each IsProper c.args.plans.now c.requires.proper)))
 
-pub new-requires-3-clause-few : goal.new-requires-3-clause-few
-new-requires-3-clause-few c =
+pub with_ranks-requires-clause-few : goal.with_ranks-requires-clause-few
+with_ranks-requires-clause-few c =
     let plans : List Plan = map (λ r. r.value) c.args.plans.now in
     let own : map (λ r. r.value) c.pick.new.own ≡ picked c.args.stratum plans c.args.strata.now =
     c.in_ok-pick.ensures {u = tt} ∙ ap (λ rs. map (λ r. r.value) rs ++ picked c.args.stratum plans c.args.strata.now) c.new-own.ensures in
@@ -27,5 +27,5 @@ new-requires-3-clause-few c =
     let f = c.requires.few in
     omega (arith, a, b, d, e, f)
 
-pub new-requires-3-clause-reach : goal.new-requires-3-clause-reach
-new-requires-3-clause-reach c = rw c.as_slice.ensures at c.reach_of_all-reach.ensures
+pub with_ranks-requires-clause-reach : goal.with_ranks-requires-clause-reach
+with_ranks-requires-clause-reach c = rw c.as_slice.ensures at c.reach_of_all-reach.ensures

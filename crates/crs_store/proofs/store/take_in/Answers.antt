@@ -1,11 +1,10 @@
-use Rattle.std.proofs.Common.{◌∙◌, ◌++◌, List, length, map, sym, ap, subst, inl, arith}
+use Rattle.std.proofs.Common.{◌∙◌, ◌++◌, length, map, sym, ap, subst, inl, arith}
 use Rattle.crs_base.specs.declared.entry.Entry.{Entry as CodeEntry}
 use Rattle.crs_base.specs.Seen.{entry_of}
 use Rattle.crs_store.specs.Ahead.{MayGo}
 use Rattle.crs_store.specs.Forkings.{AreForksOfAll}
 use Rattle.crs_store.specs.Joins.{Renews}
-use Rattle.crs_store.specs.Links.{AreLinked}
-use Rattle.crs_store.specs.declared.waiting.hooks.Hook.{Hook}
+use Rattle.crs_store.specs.Orders.{IsOvertaken}
 use Rattle.crs_store.specs.Slots.{members}
 use Rattle.crs_store.specs.Tidy.{IsTidy}
 use Rattle.crs_store.specs.Windows.{IsAble, IsFollowed, IsPassed}
@@ -13,6 +12,7 @@ use Rattle.crs_store.proofs.Assembled.{tidy_all, tidy_standing, tidy_linked, few
 use Rattle.crs_store.proofs.Linked.{within_linked}
 use Rattle.crs_store.proofs.Joined.{joins_both, part_of}
 use Rattle.crs_store.proofs.Taken.{taken_anew}
+use Rattle.crs_store.proofs.Overtaken.{free_stays}
 use Rattle.crs_store.proofs.store.take_in.Goals as goal
 
 pub forks-requires-clause-of : goal.forks-requires-clause-of
@@ -21,9 +21,8 @@ forks-requires-clause-of g c = tidy_all c.args.moment.now.plan.now c.args.moment
 pub forks-requires-clause-linked : goal.forks-requires-clause-linked
 forks-requires-clause-linked g c =
     let tidy = (c.in_ok-follow.ensures {u = tt}).tidy in
-    subst (λ (hs : List Hook). AreLinked c.args.moment.now.plan.now c.args.moment.now.focus hs c.follow.new.holding.slots c.follow.new.holding.waiting c.args.moment.now.entry.now.value.date) (sym c.as_slice.ensures.value)
-    (tidy_linked c.args.moment.now.plan.now c.args.moment.now.focus c.args.moment.now.hooks.now c.follow.new.holding c.deref.result.now.date tidy c.args.moment.now.entry.now.value.date
-    (within_linked c.args.moment.now.plan.now c.deref.result.now.date c.args.moment.now.entry.now.value.date c.requires.moment.date (inl (let e = ap (λ (x : CodeEntry). x.date) c.deref.ensures in omega (arith, e)))))
+    tidy_linked c.args.moment.now.plan.now c.args.moment.now.focus c.args.moment.now.hooks.now c.follow.new.holding c.deref.result.now.date tidy c.args.moment.now.entry.now.value.date
+    (within_linked c.args.moment.now.plan.now c.deref.result.now.date c.args.moment.now.entry.now.value.date c.requires.moment.date (inl (let e = ap (λ (x : CodeEntry). x.date) c.deref.ensures in omega (arith, e))))
 
 pub returns-in_err-forks-clause-cost : goal.returns-in_err-forks-clause-cost
 returns-in_err-forks-clause-cost g c = λ flat.
@@ -56,7 +55,7 @@ returns-clause-taken g c =
     let more = c.forks.new.out.items in
     let new = members c.hold_all.new.holding.slots.slots in (
       stay ++ more,
-      taken_anew plan focus c.requires.moment.proper history (entry_of x) c.args.moment.now.until c.args.moment.now.since held kept more stay (stay ++ more) (tidy_all plan focus c.args.moment.now.hooks.now c.args.holding.now c.args.moment.now.since c.requires.tidy) renews (subst (λ (e : CodeEntry). AreForksOfAll plan focus history (entry_of x) e.date c.args.moment.now.until kept more) c.deref-2.ensures ((c.in_ok-forks.ensures {u = tt}).image)) passes (joins_both stay more),
+      taken_anew plan focus (IsOvertaken plan focus c.args.moment.now.hooks.now.events.items c.args.moment.now.behind (entry_of x)) c.requires.moment.proper history (entry_of x) c.args.moment.now.until c.args.moment.now.since held kept more stay (stay ++ more) (tidy_all plan focus c.args.moment.now.hooks.now c.args.holding.now c.args.moment.now.since c.requires.tidy) renews (free_stays plan focus c.args.moment.now.hooks.now.events.items c.args.moment.now.behind (entry_of x)) (subst (λ (e : CodeEntry). AreForksOfAll plan focus (IsOvertaken plan focus c.args.moment.now.hooks.now.events.items c.args.moment.now.behind (entry_of x)) history (entry_of x) e.date c.args.moment.now.until kept more) c.deref-2.ensures ((c.in_ok-forks.ensures {u = tt}).image)) passes (joins_both stay more),
       part_of (MayGo plan focus (map (λ r. entry_of r.value) c.args.moment.now.ahead.now) c.args.moment.now.beyond) stay more new ((c.in_ok-hold_all.ensures {u = tt}).joins),
     )
 

@@ -1,10 +1,12 @@
-use Rattle.std.proofs.Common.{◌++◌, length, map}
+use Rattle.std.proofs.Common.{◌++◌, length, map, refl, false}
 use Rattle.crs_base.specs.Seen.{entry_of}
 use Rattle.crs_store.specs.Ahead.{MayGo}
+use Rattle.crs_store.specs.Orders.{IsOvertaken}
 use Rattle.crs_store.specs.Slots.{members}
 use Rattle.crs_store.proofs.Assembled.{flat_ticks, tidy_all, tidy_able, tidy_standing}
 use Rattle.crs_store.proofs.Joined.{part_of}
 use Rattle.crs_store.proofs.Prompting.{taken_prompt}
+use Rattle.crs_store.proofs.Overtaken.{none_skipped}
 use Rattle.crs_store.proofs.store.take_prompt.Goals as goal
 
 pub forks-requires-clause-of : goal.forks-requires-clause-of
@@ -21,7 +23,7 @@ returns-clause-taken g c =
     let born = c.forks.new.out.items in
     let new = members c.hold_all.new.holding.slots.slots in (
       held ++ born,
-      taken_prompt plan focus c.requires.moment.proper c.requires.moment.flat c.args.moment.now.history.now (entry_of c.args.moment.now.entry.now.value) c.args.moment.now.since held born (tidy_all plan focus c.args.moment.now.hooks.now c.args.holding.now c.args.moment.now.since c.requires.tidy)
+      taken_prompt plan focus (IsOvertaken plan focus c.args.moment.now.hooks.now.events.items false (entry_of c.args.moment.now.entry.now.value)) (none_skipped plan focus c.args.moment.now.hooks.now.events.items false (entry_of c.args.moment.now.entry.now.value) refl) c.requires.moment.proper c.requires.moment.flat c.args.moment.now.history.now (entry_of c.args.moment.now.entry.now.value) c.args.moment.now.since held born (tidy_all plan focus c.args.moment.now.hooks.now c.args.holding.now c.args.moment.now.since c.requires.tidy)
           (tidy_able plan focus c.args.moment.now.hooks.now c.args.holding.now c.args.moment.now.since c.requires.tidy) ((c.in_ok-forks.ensures {u = tt}).image),
       part_of (MayGo plan focus (map (λ r. entry_of r.value) c.args.moment.now.ahead.now) c.args.moment.now.beyond) held born new ((c.in_ok-hold_all.ensures {u = tt}).joins),
     )

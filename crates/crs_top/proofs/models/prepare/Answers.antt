@@ -9,8 +9,8 @@ returns-in_err-plans-clause-refused c =
     let p = err_from_is_err_and c.from_residual.result c.from_residual.ensures.1 in
     rw (p.1, p.2) c.in_err-plans.ensures.refused
 
-pub new-requires-clause-proper : goal.new-requires-clause-proper
-new-requires-clause-proper c = by_value IsProper c.in_ok-plans.plans.plans c.in_ok-plans.ensures.ok.0.proper
+pub with_ranks-requires-clause-proper : goal.with_ranks-requires-clause-proper
+with_ranks-requires-clause-proper c = by_value IsProper c.in_ok-plans.plans.plans c.in_ok-plans.ensures.ok.0.proper
 
 pub returns-clause-ok : goal.returns-clause-ok
 returns-clause-ok c =

@@ -1,26 +1,32 @@
-use Rattle.std.proofs.Common.{rules, ◌≡◌, ◌+◌, ◌*◌, ◌≤◌, [], length, sym, arith}
+use Rattle.std.proofs.Common.{rules, ◌≡◌, ◌+◌, ◌*◌, ◌≤◌, ◌∙◌, [], length, sym, ap, subst, arith}
 use Rattle.std.proofs.Math.Nat.{mul-le-mul_right}
 use Rattle.std.proofs.lemmas.List.{append-nil}
 use Rattle.crs_base.specs.Seen.{entry_of}
 use Rattle.crs_model.specs.Bindings.{look_of}
+use Rattle.crs_store.specs.declared.waiting.hooks.Hook.{Hook}
+use Rattle.crs_store.specs.Charts.{ChartState}
+use Rattle.crs_store.specs.Forkings.{IsHookAt, AreLinkedAt}
 use Rattle.crs_store.specs.Hooks.{key_of}
 use Rattle.crs_store.specs.Links.{hook_at}
+use Rattle.crs_store.specs.Orders.{IsOvertaken}
 use Rattle.crs_store.specs.Slots.{members}
-use Rattle.crs_store.proofs.Gathered.{hooks_long, hook_there, none_named, gathered_none, gathered_more, gathered_all, events_cost}
+use Rattle.crs_store.proofs.Gathered.{hook_there, none_named, gathered_none, gathered_more, gathered_all, events_cost}
 use Rattle.crs_store.proofs.scanning.candidates.forks.Goals as goal
 
-pub bounds-hooks-event : goal.bounds-hooks-event
-bounds-hooks-event g c = let h = hooks_long c.args.arrival.now.plan.now c.args.hooks.now c.requires.hooks in omega arith
-
 pub forks_of_event-requires-clause-hook : goal.forks_of_event-requires-clause-hook
-forks_of_event-requires-clause-hook g c = hook_there c.args.arrival.now.plan.now c.args.hooks.now c.loop-event.event c.requires.hooks
+forks_of_event-requires-clause-hook g c =
+    let is = c.event_hook-hook.ensures ∙ ap (λ (s : ChartState). hook_at s.hooks.events.items c.loop-event.event) c.chart-chart.ensures in
+    subst (IsHookAt c.args.arrival.now.plan.now c.loop-event.event) (sym is) (hook_there c.args.arrival.now.plan.now c.args.arrival.now.hooks.now.events.items c.loop-event.event c.requires.arrival.hooks.of_events)
+
+pub forks_of_event-requires-clause-same : goal.forks_of_event-requires-clause-same
+forks_of_event-requires-clause-same g c = c.event_hook-hook.ensures ∙ ap (λ (s : ChartState). hook_at s.hooks.events.items c.loop-event.event) c.chart-chart.ensures
 
 pub returns-in_err-forks_of_event-clause-standing : goal.returns-in_err-forks_of_event-clause-standing
 returns-in_err-forks_of_event-clause-standing g c = λ k p i s w. c.forks_of_event.ensures.standing k p i s (c.loop-event.invariant.standing k p i s w)
 
 pub loop-event-init : goal.loop-event-init
 loop-event-init g c = record {
-  gathered = gathered_none c.args.arrival.now.plan.now c.args.arrival.now.focus c.args.arrival.now.history.now (entry_of c.args.arrival.now.entry.now.value) c.args.arrival.now.since c.args.arrival.now.until c.args.slots.now c.clear.new.self.items (search rules);
+  gathered = gathered_none c.args.arrival.now.plan.now c.args.arrival.now.focus (IsOvertaken c.args.arrival.now.plan.now c.args.arrival.now.focus c.args.arrival.now.hooks.now.events.items c.args.arrival.now.skips (entry_of c.args.arrival.now.entry.now.value)) c.args.arrival.now.history.now (entry_of c.args.arrival.now.entry.now.value) c.args.arrival.now.since c.args.arrival.now.until c.args.slots.now c.clear.new.self.items (search rules);
   fresh = λ k h f w. w;
   standing = λ k p i s w. w;
   cost = λ flat. omega arith;
@@ -29,7 +35,7 @@ loop-event-init g c = record {
 pub loop-event-preserved : goal.loop-event-preserved
 loop-event-preserved g c = record {
   gathered = let adds = (c.in_ok-forks_of_event.ensures {u = tt}).forks in
-      gathered_more c.args.arrival.now.plan.now c.args.arrival.now.focus c.args.arrival.now.history.now (entry_of c.args.arrival.now.entry.now.value) c.args.arrival.now.since c.args.arrival.now.until c.args.slots.now c.loop-event.event c.loop-event.out.items adds.more c.forks_of_event.new.out.items adds.grown adds.of adds.able adds.are c.loop-event.invariant.gathered;
+      gathered_more c.args.arrival.now.plan.now c.args.arrival.now.focus (IsOvertaken c.args.arrival.now.plan.now c.args.arrival.now.focus c.args.arrival.now.hooks.now.events.items c.args.arrival.now.skips (entry_of c.args.arrival.now.entry.now.value)) c.args.arrival.now.history.now (entry_of c.args.arrival.now.entry.now.value) c.args.arrival.now.since c.args.arrival.now.until c.args.slots.now c.loop-event.event c.loop-event.out.items adds.more c.forks_of_event.new.out.items adds.grown adds.of adds.able adds.are c.loop-event.invariant.gathered;
   fresh = λ k h f w. c.forks_of_event.ensures.fresh k h f (c.loop-event.invariant.fresh k h f w);
   standing = λ k p i s w. c.forks_of_event.ensures.standing k p i s (c.loop-event.invariant.standing k p i s w);
   cost = events_cost c.args.arrival.now.focus c.args.steps.now c.loop-event.steps c.forks_of_event.new.steps c.loop-event.event (2 * length (members c.args.slots.now.slots)) c.loop-event.invariant.cost c.forks_of_event.ensures.cost;
@@ -38,10 +44,10 @@ loop-event-preserved g c = record {
 pub loop-event-preserved-then-ne : goal.loop-event-preserved-then-ne
 loop-event-preserved-then-ne g c =
     let x = entry_of c.args.arrival.now.entry.now.value in
-    let other : (hook_at c.args.hooks.now c.loop-event.event).name ≡ x.name → ⊥ = search rules in
+    let other : (hook_at c.args.arrival.now.hooks.now.events.items c.loop-event.event).name ≡ x.name → ⊥ = search rules in
     record {
-      gathered = gathered_more c.args.arrival.now.plan.now c.args.arrival.now.focus c.args.arrival.now.history.now x c.args.arrival.now.since c.args.arrival.now.until c.args.slots.now c.loop-event.event c.loop-event.out.items [] c.loop-event.out.items (sym (append-nil c.loop-event.out.items)) tt tt
-          (none_named c.args.arrival.now.plan.now c.args.arrival.now.focus c.args.arrival.now.history.now x c.args.arrival.now.since c.args.arrival.now.until c.args.slots.now c.loop-event.event c.requires.arrival.proper c.requires.of (search rules) (hook_at c.args.hooks.now c.loop-event.event) (hook_there c.args.arrival.now.plan.now c.args.hooks.now c.loop-event.event c.requires.hooks) other) c.loop-event.invariant.gathered;
+      gathered = gathered_more c.args.arrival.now.plan.now c.args.arrival.now.focus (IsOvertaken c.args.arrival.now.plan.now c.args.arrival.now.focus c.args.arrival.now.hooks.now.events.items c.args.arrival.now.skips (entry_of c.args.arrival.now.entry.now.value)) c.args.arrival.now.history.now x c.args.arrival.now.since c.args.arrival.now.until c.args.slots.now c.loop-event.event c.loop-event.out.items [] c.loop-event.out.items (sym (append-nil c.loop-event.out.items)) tt tt
+          (none_named c.args.arrival.now.plan.now c.args.arrival.now.focus (IsOvertaken c.args.arrival.now.plan.now c.args.arrival.now.focus c.args.arrival.now.hooks.now.events.items c.args.arrival.now.skips (entry_of c.args.arrival.now.entry.now.value)) c.args.arrival.now.history.now x c.args.arrival.now.since c.args.arrival.now.until c.args.slots.now c.loop-event.event c.requires.arrival.proper c.requires.of (search rules) (hook_at c.args.arrival.now.hooks.now.events.items c.loop-event.event) (hook_there c.args.arrival.now.plan.now c.args.arrival.now.hooks.now.events.items c.loop-event.event c.requires.arrival.hooks.of_events) other) c.loop-event.invariant.gathered;
       fresh = c.loop-event.invariant.fresh;
       standing = c.loop-event.invariant.standing;
       cost = λ flat. let k = c.loop-event.invariant.cost flat in omega arith;
@@ -50,12 +56,15 @@ loop-event-preserved-then-ne g c =
 pub returns-clause-image : goal.returns-clause-image
 returns-clause-image g c =
     let e : c.loop-event.event ≡ length c.args.arrival.now.plan.now.chronicle.events = search rules in
-    gathered_all c.args.arrival.now.plan.now c.args.arrival.now.focus c.args.arrival.now.history.now (entry_of c.args.arrival.now.entry.now.value) c.args.arrival.now.since c.args.arrival.now.until c.args.slots.now c.requires.of c.loop-event.event c.loop-event.out.items e c.loop-event.invariant.gathered
+    gathered_all c.args.arrival.now.plan.now c.args.arrival.now.focus (IsOvertaken c.args.arrival.now.plan.now c.args.arrival.now.focus c.args.arrival.now.hooks.now.events.items c.args.arrival.now.skips (entry_of c.args.arrival.now.entry.now.value)) c.args.arrival.now.history.now (entry_of c.args.arrival.now.entry.now.value) c.args.arrival.now.since c.args.arrival.now.until c.args.slots.now c.requires.of c.loop-event.event c.loop-event.out.items e c.loop-event.invariant.gathered
 
 pub forks_of_event-requires-clause-linked : goal.forks_of_event-requires-clause-linked
-forks_of_event-requires-clause-linked g c = λ p i is awaited can.
+forks_of_event-requires-clause-linked g c =
     let e = c.loop-event.event in
-    c.loop-event.invariant.standing (key_of e (hook_at c.args.hooks.now e) (look_of i.binding)) p i is (c.requires.linked p i is e awaited can)
+    let hooks = c.args.arrival.now.hooks.now.events.items in
+    let is = c.event_hook-hook.ensures ∙ ap (λ (s : ChartState). hook_at s.hooks.events.items e) c.chart-chart.ensures in
+    subst (λ (h : Hook). AreLinkedAt c.args.arrival.now.plan.now c.args.arrival.now.focus h c.args.slots.now c.loop-event.waiting e c.args.arrival.now.entry.now.value.date) (sym is)
+    (λ p i at_p next can. c.loop-event.invariant.standing (key_of e (hook_at hooks e) (look_of i.binding)) p i at_p (c.requires.linked p i at_p e next can))
 
 pub returns-in_err-forks_of_event-clause-cost : goal.returns-in_err-forks_of_event-clause-cost
 returns-in_err-forks_of_event-clause-cost g c = λ flat.

@@ -4,6 +4,7 @@ use Rattle.std.proofs.lemmas.List.{drop_more, drop_all}
 use Rattle.crs_base.proofs.Words.{in_from_each}
 use Rattle.crs_base.specs.Seen.{entry_of}
 use Rattle.crs_instance.specs.Instances.{IsOf}
+use Rattle.crs_store.specs.Orders.{IsOvertaken}
 use Rattle.crs_store.specs.Slots.{members, slot_at}
 use Rattle.crs_store.proofs.Gathered.{ascends_from, swept_skip, swept_next, swept_within, adds_swept_none, adds_swept_more, adds_swept_whole}
 use Rattle.crs_store.proofs.Members.{at_member}
@@ -22,7 +23,7 @@ returns-in_err-push_forks-clause-cost g c =
     let here : slot_at c.args.slots.now p ≡ Some c.in-Some.instance.now = search rules in
     let more = drop_more c.args.places.now n 0 (search rules) in
     let a = ascends_from c.args.places.now n c.requires.ordered p (drop (n + 1) c.args.places.now) more in
-    swept_next c.args.arrival.now.plan.now c.args.arrival.now.focus c.args.arrival.now.history.now (entry_of c.args.arrival.now.entry.now.value) c.args.arrival.now.since c.args.arrival.now.until c.args.slots.now c.args.event c.args.places.now p (drop n c.args.places.now) (drop (n + 1) c.args.places.now) c.in-Some.instance.now c.loop-place.invariant.more c.args.steps.now c.loop-place.steps c.push_forks.new.steps
+    swept_next c.args.arrival.now.plan.now c.args.arrival.now.focus (IsOvertaken c.args.arrival.now.plan.now c.args.arrival.now.focus c.args.arrival.now.hooks.now.events.items c.args.arrival.now.skips (entry_of c.args.arrival.now.entry.now.value)) c.args.arrival.now.history.now (entry_of c.args.arrival.now.entry.now.value) c.args.arrival.now.since c.args.arrival.now.until c.args.slots.now c.args.event c.args.places.now p (drop n c.args.places.now) (drop (n + 1) c.args.places.now) c.in-Some.instance.now c.loop-place.invariant.more c.args.steps.now c.loop-place.steps c.push_forks.new.steps
     more a.0 a.1 here c.push_forks.ensures.cost c.loop-place.invariant.swept
 
 pub loop-place-preserved : goal.loop-place-preserved
@@ -32,7 +33,7 @@ loop-place-preserved g c =
     let here : slot_at c.args.slots.now p ≡ Some c.in-Some.instance.now = search rules in
     let more = drop_more c.args.places.now n 0 (search rules) in
     let a = ascends_from c.args.places.now n c.requires.ordered p (drop (n + 1) c.args.places.now) more in
-    adds_swept_more c.args.arrival.now.plan.now c.args.arrival.now.focus c.args.arrival.now.history.now (entry_of c.args.arrival.now.entry.now.value) c.args.arrival.now.since c.args.arrival.now.until c.args.slots.now c.args.event c.args.places.now p (drop n c.args.places.now) (drop (n + 1) c.args.places.now) c.in-Some.instance.now c.args.out.now.items c.loop-place.out.items c.push_forks.new.out.items c.args.steps.now c.loop-place.steps c.push_forks.new.steps
+    adds_swept_more c.args.arrival.now.plan.now c.args.arrival.now.focus (IsOvertaken c.args.arrival.now.plan.now c.args.arrival.now.focus c.args.arrival.now.hooks.now.events.items c.args.arrival.now.skips (entry_of c.args.arrival.now.entry.now.value)) c.args.arrival.now.history.now (entry_of c.args.arrival.now.entry.now.value) c.args.arrival.now.since c.args.arrival.now.until c.args.slots.now c.args.event c.args.places.now p (drop n c.args.places.now) (drop (n + 1) c.args.places.now) c.in-Some.instance.now c.args.out.now.items c.loop-place.out.items c.push_forks.new.out.items c.args.steps.now c.loop-place.steps c.push_forks.new.steps
     more a.0 a.1 here c.push_forks.ensures.cost ((c.in_ok-push_forks.ensures {u = tt}).forks) c.loop-place.invariant
 
 pub loop-place-preserved-in_default : goal.loop-place-preserved-in_default
@@ -45,19 +46,19 @@ loop-place-preserved-in_default g c =
     record {
       more = c.loop-place.invariant.more;
       grown = c.loop-place.invariant.grown;
-      swept = swept_skip c.args.arrival.now.plan.now c.args.arrival.now.focus c.args.arrival.now.history.now (entry_of c.args.arrival.now.entry.now.value) c.args.arrival.now.since c.args.arrival.now.until c.args.slots.now c.args.event c.args.places.now p (drop n c.args.places.now) (drop (n + 1) c.args.places.now) c.loop-place.invariant.more c.args.steps.now c.loop-place.steps
+      swept = swept_skip c.args.arrival.now.plan.now c.args.arrival.now.focus (IsOvertaken c.args.arrival.now.plan.now c.args.arrival.now.focus c.args.arrival.now.hooks.now.events.items c.args.arrival.now.skips (entry_of c.args.arrival.now.entry.now.value)) c.args.arrival.now.history.now (entry_of c.args.arrival.now.entry.now.value) c.args.arrival.now.since c.args.arrival.now.until c.args.slots.now c.args.event c.args.places.now p (drop n c.args.places.now) (drop (n + 1) c.args.places.now) c.loop-place.invariant.more c.args.steps.now c.loop-place.steps
           more a.0 none c.loop-place.invariant.swept;
     }
 
 pub returns-clause-forks : goal.returns-clause-forks
 returns-clause-forks g c =
-    adds_swept_whole c.args.arrival.now.plan.now c.args.arrival.now.focus c.args.arrival.now.history.now (entry_of c.args.arrival.now.entry.now.value) c.args.arrival.now.since c.args.arrival.now.until c.args.slots.now c.args.event c.args.places.now (drop c.loop-place.place-index c.args.places.now) c.args.out.now.items c.loop-place.out.items c.args.steps.now c.loop-place.steps
+    adds_swept_whole c.args.arrival.now.plan.now c.args.arrival.now.focus (IsOvertaken c.args.arrival.now.plan.now c.args.arrival.now.focus c.args.arrival.now.hooks.now.events.items c.args.arrival.now.skips (entry_of c.args.arrival.now.entry.now.value)) c.args.arrival.now.history.now (entry_of c.args.arrival.now.entry.now.value) c.args.arrival.now.since c.args.arrival.now.until c.args.slots.now c.args.event c.args.places.now (drop c.loop-place.place-index c.args.places.now) c.args.out.now.items c.loop-place.out.items c.args.steps.now c.loop-place.steps
     (drop_all c.loop-place.place-index c.args.places.now (search rules)) c.loop-place.invariant
 
 pub loop-place-init : goal.loop-place-init
-loop-place-init g c = adds_swept_none c.args.arrival.now.plan.now c.args.arrival.now.focus c.args.arrival.now.history.now (entry_of c.args.arrival.now.entry.now.value) c.args.arrival.now.since c.args.arrival.now.until c.args.slots.now c.args.event c.args.places.now c.args.out.now.items c.args.steps.now
+loop-place-init g c = adds_swept_none c.args.arrival.now.plan.now c.args.arrival.now.focus (IsOvertaken c.args.arrival.now.plan.now c.args.arrival.now.focus c.args.arrival.now.hooks.now.events.items c.args.arrival.now.skips (entry_of c.args.arrival.now.entry.now.value)) c.args.arrival.now.history.now (entry_of c.args.arrival.now.entry.now.value) c.args.arrival.now.since c.args.arrival.now.until c.args.slots.now c.args.event c.args.places.now c.args.out.now.items c.args.steps.now
 
 pub returns-clause-cost : goal.returns-clause-cost
 returns-clause-cost g c =
-    swept_within c.args.arrival.now.plan.now c.args.arrival.now.focus c.args.arrival.now.history.now (entry_of c.args.arrival.now.entry.now.value) c.args.arrival.now.since c.args.arrival.now.until c.args.slots.now c.args.event c.args.places.now (drop c.loop-place.place-index c.args.places.now) c.loop-place.invariant.more c.args.steps.now c.loop-place.steps
+    swept_within c.args.arrival.now.plan.now c.args.arrival.now.focus (IsOvertaken c.args.arrival.now.plan.now c.args.arrival.now.focus c.args.arrival.now.hooks.now.events.items c.args.arrival.now.skips (entry_of c.args.arrival.now.entry.now.value)) c.args.arrival.now.history.now (entry_of c.args.arrival.now.entry.now.value) c.args.arrival.now.since c.args.arrival.now.until c.args.slots.now c.args.event c.args.places.now (drop c.loop-place.place-index c.args.places.now) c.loop-place.invariant.more c.args.steps.now c.loop-place.steps
     (rw (drop_all c.loop-place.place-index c.args.places.now (search rules)) tt) c.loop-place.invariant.swept

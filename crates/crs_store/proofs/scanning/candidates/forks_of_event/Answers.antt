@@ -5,22 +5,23 @@ use Rattle.crs_base.specs.Seen.{entry_of}
 use Rattle.crs_base.specs.declared.entry.Entry.{Entry as CodeEntry}
 use Rattle.crs_base.specs.declared.symbols.Sym.{Sym}
 use Rattle.crs_base.specs.Words.{IsIn}
-use Rattle.crs_store.specs.Hooks.{picked_arguments}
 use Rattle.crs_store.specs.Agreeing.{IsTaken}
-use Rattle.crs_store.specs.Forkings.{AreCandidatesOf, AreForksOfPlaces, AreForksOfEvent}
+use Rattle.crs_store.specs.Orders.{IsOvertaken}
+use Rattle.crs_store.specs.Forkings.{AreSought, AreForksOfPlaces, AreForksOfEvent}
 use Rattle.crs_store.proofs.Scanned.{adds_as, adds_none}
-use Rattle.crs_store.proofs.Gathered.{have_window, all_found, none_held, none_taken}
+use Rattle.crs_store.proofs.Gathered.{have_window, sought_kept, all_found, none_held, none_taken}
+use Rattle.crs_store.proofs.Overtaken.{held_back}
 use Rattle.crs_store.proofs.scanning.candidates.forks_of_event.Goals as goal
 
-pub note_candidates-requires-clause-windows : goal.note_candidates-requires-clause-windows
-note_candidates-requires-clause-windows g c = have_window c.args.arrival.now.plan.now c.requires.arrival.proper c.args.slots.now c.requires.of c.args.sought.event c.requires.event
+pub note_sought-requires-clause-windows : goal.note_sought-requires-clause-windows
+note_sought-requires-clause-windows g c = have_window c.args.arrival.now.plan.now c.requires.arrival.proper c.args.slots.now c.requires.of c.args.sought.event c.requires.event
 
 pub returns-then-len-eq0-clause-forks : goal.returns-then-len-eq0-clause-forks
 returns-then-len-eq0-clause-forks g c =
     let a = c.args.arrival.now in
     let x = entry_of a.entry.now.value in
-    adds_none a.plan.now a.focus a.until (AreForksOfEvent a.plan.now a.focus a.history.now x a.since a.until c.args.slots.now c.args.sought.event) c.args.out.now.items
-    (none_held a.plan.now a.focus a.history.now x a.since a.until c.args.slots.now c.args.sought.event c.requires.arrival.proper c.requires.of c.requires.event c.args.sought.hook.now c.requires.hook (sym c.len.ensures ∙ c.if-len-eq0.true))
+    adds_none a.plan.now a.focus a.until (AreForksOfEvent a.plan.now a.focus (IsOvertaken a.plan.now a.focus a.hooks.now.events.items a.skips x) a.history.now x a.since a.until c.args.slots.now c.args.sought.event) c.args.out.now.items
+    (none_held a.plan.now a.focus (IsOvertaken a.plan.now a.focus a.hooks.now.events.items a.skips x) a.history.now x a.since a.until c.args.slots.now c.args.sought.event c.requires.arrival.proper c.requires.of c.requires.event c.args.sought.hook.now c.requires.hook (sym c.len.ensures ∙ c.if-len-eq0.true))
 
 pub returns-in_default-clause-forks : goal.returns-in_default-clause-forks
 returns-in_default-clause-forks g c =
@@ -28,20 +29,23 @@ returns-in_default-clause-forks g c =
     let x = entry_of a.entry.now.value in
     let taken : IsTaken a.plan.now c.args.sought.event x None = subst (λ (e : CodeEntry). IsTaken a.plan.now c.args.sought.event (entry_of e) None) c.deref.ensures
     (subst (λ (o : Option (List (Option Sym))). IsTaken a.plan.now c.args.sought.event (entry_of c.deref.result.now) o) c.in_default.is c.symbols_taken.ensures.taken) in
-    adds_none a.plan.now a.focus a.until (AreForksOfEvent a.plan.now a.focus a.history.now x a.since a.until c.args.slots.now c.args.sought.event) c.args.out.now.items
-    (none_taken a.plan.now a.focus a.history.now x a.since a.until c.args.slots.now c.args.sought.event c.requires.arrival.proper c.requires.of c.requires.event c.args.sought.hook.now c.requires.hook taken)
+    adds_none a.plan.now a.focus a.until (AreForksOfEvent a.plan.now a.focus (IsOvertaken a.plan.now a.focus a.hooks.now.events.items a.skips x) a.history.now x a.since a.until c.args.slots.now c.args.sought.event) c.args.out.now.items
+    (none_taken a.plan.now a.focus (IsOvertaken a.plan.now a.focus a.hooks.now.events.items a.skips x) a.history.now x a.since a.until c.args.slots.now c.args.sought.event c.requires.arrival.proper c.requires.of c.requires.event c.args.sought.hook.now c.requires.hook taken)
 
 pub returns-clause-forks : goal.returns-clause-forks
 returns-clause-forks g c =
     let x = entry_of c.args.arrival.now.entry.now.value in
-    let found = c.note_candidates.new.places.items in
-    let candidates : AreCandidatesOf c.args.slots.now c.args.waiting.now (picked_arguments c.args.sought.hook.now x.args) c.args.sought.event x.date c.in-Some.symbols found = search rules in
+    let skips = c.args.arrival.now.skips in
+    let hook = c.args.sought.hook.now in
+    let found = c.note_sought.new.places.items in
+    let sought : AreSought c.args.slots.now c.args.waiting.now hook skips x.args c.args.sought.event x.date c.in-Some.symbols found = search rules in
     let still : (p : ℕ) → IsIn p found → IsIn p c.as_slice-places.result.now = (λ p i. subst (λ (ps : List ℕ). IsIn p ps) (sym c.as_slice-places.ensures.value) (c.sort_places.ensures.kept p i)) in
     let places = c.as_slice-places.result.now in
     let taken : IsTaken c.args.arrival.now.plan.now c.args.sought.event x (Some c.in-Some.symbols) = subst (λ (e : CodeEntry). IsTaken c.args.arrival.now.plan.now c.args.sought.event (entry_of e) (Some c.in-Some.symbols)) c.deref.ensures
     (subst (λ (o : Option (List (Option Sym))). IsTaken c.args.arrival.now.plan.now c.args.sought.event (entry_of c.deref.result.now) o) c.in-Some.is c.symbols_taken.ensures.taken) in
     on_ok_weaker c.forks_at.result
-    (adds_as c.args.arrival.now.plan.now c.args.arrival.now.focus c.args.arrival.now.until (AreForksOfPlaces c.args.arrival.now.plan.now c.args.arrival.now.focus c.args.arrival.now.history.now x c.args.arrival.now.since c.args.arrival.now.until c.args.slots.now c.args.sought.event places) (AreForksOfEvent c.args.arrival.now.plan.now c.args.arrival.now.focus c.args.arrival.now.history.now x c.args.arrival.now.since c.args.arrival.now.until c.args.slots.now c.args.sought.event) c.args.out.now.items c.forks_at.new.out.items
-    (λ more d. all_found c.args.arrival.now.plan.now c.args.arrival.now.focus c.args.arrival.now.history.now x c.args.arrival.now.since c.args.arrival.now.until c.args.slots.now c.args.sought.event c.requires.arrival.proper c.requires.of c.requires.event c.args.sought.hook.now c.requires.hook c.in-Some.symbols taken c.args.waiting.now places more c.requires.linked
-    (λ part is p w i s inside agrees. still p (candidates part is p w i s inside agrees)) d))
+    (adds_as c.args.arrival.now.plan.now c.args.arrival.now.focus c.args.arrival.now.until (AreForksOfPlaces c.args.arrival.now.plan.now c.args.arrival.now.focus (IsOvertaken c.args.arrival.now.plan.now c.args.arrival.now.focus c.args.arrival.now.hooks.now.events.items c.args.arrival.now.skips x) c.args.arrival.now.history.now x c.args.arrival.now.since c.args.arrival.now.until c.args.slots.now c.args.sought.event places) (AreForksOfEvent c.args.arrival.now.plan.now c.args.arrival.now.focus (IsOvertaken c.args.arrival.now.plan.now c.args.arrival.now.focus c.args.arrival.now.hooks.now.events.items c.args.arrival.now.skips x) c.args.arrival.now.history.now x c.args.arrival.now.since c.args.arrival.now.until c.args.slots.now c.args.sought.event) c.args.out.now.items c.forks_at.new.out.items
+    (λ more d. all_found c.args.arrival.now.plan.now c.args.arrival.now.focus (IsOvertaken c.args.arrival.now.plan.now c.args.arrival.now.focus c.args.arrival.now.hooks.now.events.items c.args.arrival.now.skips x) c.args.arrival.now.history.now x c.args.arrival.now.since c.args.arrival.now.until c.args.slots.now c.args.sought.event c.requires.arrival.proper c.requires.of c.requires.event c.args.sought.hook.now c.requires.hook c.in-Some.symbols taken c.args.waiting.now skips places more
+    (held_back c.args.arrival.now.plan.now c.args.arrival.now.focus c.args.arrival.now.hooks.now.ranks.value.items c.args.arrival.now.hooks.now.events.items c.requires.arrival.order x skips c.args.sought.event hook c.requires.same)
+    c.requires.linked (sought_kept c.args.slots.now c.args.waiting.now hook skips x.args c.args.sought.event x.date c.in-Some.symbols found places still sought) d))
     c.forks_at.ensures.forks

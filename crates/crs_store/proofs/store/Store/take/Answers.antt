@@ -9,11 +9,11 @@ use Rattle.crs_store.proofs.store.Store.take.Goals as goal
 
 pub invariant_of-self : goal.invariant_of-self
 invariant_of-self g c =
-    tidy_at_mark c.self.inside.plan.value c.self.inside.hooks c.self.inside.number c.self.inside.focus c.self.inside.stopped (members c.self.inside.holding.slots.slots) c.self.inside.date c.self.invariant.0 c.self.invariant.1 c.take_in.new.holding c.args.until c.requires.small
-    (subst (λ (p : Plan). IsTidyHolding p c.self.inside.focus c.self.inside.hooks c.take_in.new.holding c.args.until) c.deref-2.ensures ((c.in-Ok.ensures {u = tt}).tidy))
+    tidy_at_mark c.self.inside.plan.value c.self.inside.hooks c.self.inside.number c.self.inside.focus c.self.inside.stopped (members c.self.inside.holding.slots.slots) c.self.inside.date c.self.invariant.0 c.self.invariant.1 c.self.invariant.2 c.take_in.new.holding c.args.coming.now.until c.requires.coming.small
+    (subst (λ (p : Plan). IsTidyHolding p c.self.inside.focus c.self.inside.hooks c.take_in.new.holding c.args.coming.now.until) c.deref-2.ensures ((c.in-Ok.ensures {u = tt}).tidy))
 
 pub returns-in-Ok-clause-stands : goal.returns-in-Ok-clause-stands
 returns-in-Ok-clause-stands g c =
-    offered_from (record { plan = c.self.inside.plan.value; number = c.self.inside.number; focus = c.self.inside.focus; held = members c.self.inside.holding.slots.slots; date = c.self.inside.date; stopped = c.self.inside.stopped }) c.args.self.now
-    (record { plan = c.self.inside.plan.value; number = c.self.inside.number; focus = c.self.inside.focus; held = members c.take_in.new.holding.slots.slots; date = c.args.until; stopped = c.self.inside.stopped }) c.args.history.now (entry_of c.args.entry.now.value) c.args.until (map (λ r. entry_of r.value) c.args.ahead.now) c.args.beyond c.requires.later c.deref-2.result.now
-    c.self.view_is c.self.invariant.0 c.deref-2.ensures (record { plan = refl; number = refl; focus = refl }) refl ((c.in-Ok.ensures {u = tt}).taken)
+    offered_from (record { plan = c.self.inside.plan.value; number = c.self.inside.number; focus = c.self.inside.focus; ranks = c.self.inside.hooks.ranks.value.items; held = members c.self.inside.holding.slots.slots; date = c.self.inside.date; stopped = c.self.inside.stopped }) c.args.self.now
+    (record { plan = c.self.inside.plan.value; number = c.self.inside.number; focus = c.self.inside.focus; ranks = c.self.inside.hooks.ranks.value.items; held = members c.take_in.new.holding.slots.slots; date = c.args.coming.now.until; stopped = c.self.inside.stopped }) c.self.inside.hooks.events.items c.self.invariant.2 c.args.history.now (entry_of c.args.entry.now.value) c.args.coming.now.until (map (λ r. entry_of r.value) c.args.coming.now.ahead.now) c.args.coming.now.beyond c.args.coming.now.behind c.requires.coming.later c.deref-2.result.now
+    c.self.view_is c.self.invariant.0 c.deref-2.ensures (record { plan = refl; number = refl; focus = refl; ranks = refl }) refl ((c.in-Ok.ensures {u = tt}).taken)

@@ -10,7 +10,7 @@ use Rattle.crs_layers.specs.Strata.{strata_count}
 use Rattle.crs_layers.specs.LayerPlans.{AreNewLayers}
 use Rattle.crs_layers.proofs.Beginning.{chronicles_of_values, lags_of_values, value_each, zipped_length, near_all}
 use Rattle.crs_layers.proofs.AtStart.{stands_new, layers_new}
-use Rattle.crs_layers.proofs.layers.Layers.new.Goals as goal
+use Rattle.crs_layers.proofs.layers.Layers.with_ranks.Goals as goal
 
 pub layers_of-requires-clause-numbers : goal.layers_of-requires-clause-numbers
 layers_of-requires-clause-numbers c =

@@ -1,0 +1,20 @@
+//! The entries that an engine holds.
+use crs_base::Entry;
+use crs_buffer::Buffer;
+use crs_history::History;
+use std::alloc::Global;
+use std::rc::Rc;
+
+/// The entries from where they wait to where they are forgotten.
+#[derive(Drop)]
+pub(crate) struct Entries {
+    /// Those that wait to be settled.
+    pub(crate) buffer: Buffer,
+    /// What is settled at a mark. It is filled anew at each one, and keeps its memory.
+    pub(crate) due: Vec<Rc<Entry>>,
+    /// Those that are settled and still needed.
+    pub(crate) history: History,
+    /// Those that left the history and that no one else owns: others take their places.
+    pub(crate) spare: Vec<Rc<Entry>>,
+    pub(crate) alloc: Global,
+}
