@@ -10,11 +10,12 @@ use std::rc::Rc;
 pub(crate) struct Entries {
     /// Those that wait to be settled.
     pub(crate) buffer: Buffer,
-    /// What is settled at a mark. It is filled anew at each one, and keeps its memory.
+    /// A piece of what a mark settles. It is filled anew with each one, and keeps its memory.
     pub(crate) due: Vec<Rc<Entry>>,
     /// Those that are settled and still needed.
     pub(crate) history: History,
     /// Those that left the history and that no one else owns: others take their places.
     pub(crate) spare: Vec<Rc<Entry>>,
+    /// Where memory for them and for answers comes from.
     pub(crate) alloc: Global,
 }

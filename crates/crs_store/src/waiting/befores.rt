@@ -82,9 +82,9 @@ fn is_nearer(plan: &Plan, found: Option<u8>, other: u8, event: u8) -> bool
 }
 
 /// An event that comes before the event, the nearest one, where entries come by their dates and, at one
-/// date, by the ranks of their names; none where that isn't told. Entries of a prompt chronicle come in any order. An instance that
-/// waits for the nearest alone waits for one event of a chain of eight in place of eight: it takes a
-/// sixth off the drill.
+/// date, by the ranks of their names; none where that isn't told. Entries of a prompt chronicle come in
+/// any order. An instance that waits for the nearest alone waits for one event of a chain of eight in
+/// place of eight: it takes a sixth off the drill.
 pub(crate) fn before_of(
     plan: &Plan,
     focus: bool,
