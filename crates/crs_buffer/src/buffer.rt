@@ -89,6 +89,7 @@ impl Buffer {
     }
 
     /// Takes out the entry of least key, where it is dated before `h`.
+    #[inline(always)]
     pub fn release_before(&mut self, h: u64) -> Option<Rc<Entry>>
         ensures first { option_map (λ r. entry_of r.value) result ≡ released self.old h }
         ensures rest { self.new ≡ left self.old h }

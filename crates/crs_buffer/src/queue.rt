@@ -16,6 +16,7 @@ use std::collections::{BTreeSet, VecDeque};
 const NEAR: usize = 16;
 
 /// Whether the entry comes before the one at a place of the queue.
+#[inline(always)]
 fn is_before(held: &Held, queue: &VecDeque<Held>, place: usize) -> bool
     requires { place < length queue.now.items }
     ensures { result ≡ true → (q : _) → slice_get queue.now.items place ≡ Some q → held_cmp held.now q ≡ Less }
@@ -28,6 +29,7 @@ fn is_before(held: &Held, queue: &VecDeque<Held>, place: usize) -> bool
 
 /// A place of the queue from which on all come after the entry: the first such, or one that is
 /// `NEAR` from the end.
+#[inline(always)]
 pub(crate) fn place_of(queue: &VecDeque<Held>, held: &Held) -> usize
     ensures within { result ≤ length queue.now.items }
     ensures after { ComesBefore held.now (drop result queue.now.items) }
@@ -46,6 +48,7 @@ pub(crate) fn place_of(queue: &VecDeque<Held>, held: &Held) -> usize
 
 /// The order of the entry to the one that comes before the place of the queue. Greater where there
 /// is none.
+#[inline(always)]
 pub(crate) fn compare_before(
     set: &BTreeSet<Held>,
     queue: &VecDeque<Held>,
@@ -71,6 +74,7 @@ pub(crate) fn compare_before(
 
 /// Puts the entry in at a place of the queue, where it comes behind all before that and before all
 /// behind it.
+#[inline(always)]
 pub(crate) fn put_at(
     set: &mut BTreeSet<Held>,
     queue: &mut VecDeque<Held>,

@@ -519,6 +519,7 @@ fn share(alloc: Global, spare: &mut Vec<Rc<Entry>>, entry: Entry) -> Result<Rc<E
 
 /// Puts the entry into the buffer, and where it is wanted among those accepted since the last mark.
 /// An error leaves both as they were. The entry takes the place of a spare one, where there is one.
+#[inline(always)]
 pub(crate) fn hold(
     alloc: Global,
     buffer: &mut Buffer,

@@ -71,6 +71,7 @@ fn push_change(
 }
 
 /// Takes the first entry out of the ring and of its lane.
+#[inline(always)]
 fn pop_first(ring: &mut VecDeque<Rc<Entry>>, keyed: &mut Keyed) -> Option<Rc<Entry>>
     ensures { (e : LogEntry Sym) (rest : Items (LogEntry Sym)) → entries_of ring.old.items ≡ e ∷ rest → (entries_of ring.new.items ≡ rest) × (AreKeyed (e ∷ rest) keyed.old → AreKeyed rest keyed.new) }
 {
@@ -80,6 +81,7 @@ fn pop_first(ring: &mut VecDeque<Rc<Entry>>, keyed: &mut Keyed) -> Option<Rc<Ent
 }
 
 /// Keeps what was forgotten, where there are fewer than that and memory suffices.
+#[inline(always)]
 fn keep(spare: &mut Vec<Rc<Entry>>, room: usize, forgotten: Option<Rc<Entry>>)
     ensures { vec_len spare.new ≤ max (vec_len spare.old) room }
 {

@@ -64,6 +64,7 @@ fn pattern_is_bound(pattern: &Pattern, binding: &Binding) -> bool
 }
 
 /// Whether what a window wants has no unbound variable.
+#[inline(always)]
 pub(crate) fn body_is_bound(body: &Body, binding: &Binding) -> bool
     ensures yes { result ≡ true → BodyIsBound (look_of binding.now) (body_of body.now) }
     ensures no { result ≡ false → BodyIsBound (look_of binding.now) (body_of body.now) → ⊥ }

@@ -88,9 +88,10 @@ fn no_progress(alloc: Global, count: usize) -> Result<Vec<Progress>, AllocError>
 }
 
 /// Whether the entry fits the pattern and the chronicle allows the binding with the pattern's
-/// variables, which is then written. No binding is handed back, since a fork that moves it once more
-/// takes some 20 instructions more.
-fn matched<L: Ledger>(
+/// variables, which is then written: what is left in it otherwise is not to be used. It takes one step.
+/// No binding is handed back, since a fork that moves it once more takes some 20 instructions more.
+#[inline(always)]
+pub fn matched<L: Ledger>(
     chronicle: &Chronicle,
     pattern: &Pattern,
     binding: &mut Binding,
@@ -386,6 +387,7 @@ impl Instance {
 
     /// The dates of the window of this number. None exactly where one of its anchors or variables is
     /// unbound.
+    #[inline(always)]
     pub fn stretch(&self, plan: &Plan, window: u8) -> Option<Stretch>
         requires proper { IsProper plan.now }
         requires window { window < length plan.now.chronicle.windows }

@@ -14,7 +14,7 @@ use Rattle.crs_engine.specs.declared.refused.Refused.TheVariants.{Stopped, Late}
 use Rattle.crs_layers.specs.Halts.{test_refusal}
 use Rattle.crs_base.specs.declared.symbols.Sym.{Sym}
 use Rattle.crs_base.specs.Entry.{Entry}
-use Rattle.crs_base.proofs.Alls.{all_put}
+use Rattle.crs_base.proofs.Alls.{all_left, all_right, all_put}
 use Rattle.crs_base.proofs.Words.{in_append}
 use Rattle.crs_model.specs.declared.plan.Plan.{Plan}
 use Rattle.crs_model.specs.Order.{put_in_order, in_key_order, dated_before}
@@ -44,6 +44,22 @@ same_then (l ∷ ls) (m ∷ ms) (n ∷ ns) p q = (record { numbers = q.0.numbers
 
 pub same_first : (ls : List Layer) (l m : Layer) (rest : List Layer) → ls ≡ l ∷ rest → IsSameLayer l m → AllZip IsSameLayer ls (m ∷ rest)
 same_first ls l m rest e h = subst (λ (ks : List Layer). AllZip IsSameLayer ks (m ∷ rest)) (sym e) (h, same_all rest)
+
+-- ---- the last one and the others
+
+pub ready_parts : (date : ℕ) (ls os : List Layer) (l : Layer) → ls ≡ os ++ l ∷ [] → AllByRecursion (IsReady date) ls → AllByRecursion (IsReady date) os × IsReady date l
+ready_parts date ls os l e h =
+    let k = subst (AllByRecursion (IsReady date)) e h in
+    (all_left (IsReady date) os (l ∷ []) k, (all_right (IsReady date) os (l ∷ []) k).0)
+
+pub zip_last : (R : Layer → Layer → Type 0) (ls os ns : List Layer) (l m : Layer) → ls ≡ os ++ l ∷ [] → AllZip R os ns → R l m → AllZip R ls (ns ++ m ∷ [])
+zip_last R ls os ns l m e z r = subst (λ (ks : List Layer). AllZip R ks (ns ++ m ∷ [])) (sym e) (by os ns z)
+  where
+    by : (os ns : List Layer) → AllZip R os ns → AllZip R (os ++ l ∷ []) (ns ++ m ∷ [])
+    by [] [] z = (r, tt)
+    by [] (n ∷ ns) z = absurd z
+    by (o ∷ os) [] z = absurd z
+    by (o ∷ os) (n ∷ ns) z = (z.0, by os ns z.1)
 
 pub same_near : (ls ms : List Layer) → AllZip IsSameLayer ls ms → AllByRecursion (λ l. l.behind ≤ 2 ^ 40) ls → AllByRecursion (λ l. l.behind ≤ 2 ^ 40) ms
 same_near [] [] z h = tt

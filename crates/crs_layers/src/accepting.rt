@@ -62,23 +62,37 @@ pub(crate) fn log_one(layer: &mut Layer, mut entry: Entry) -> Result<(), NoMemor
     }
 }
 
+/// Each stratum takes in a copy of the entry, which gets the next arrival number there.
+fn log_copies(alloc: Global, layers: &mut [Layer], entry: &Entry) -> Result<(), NoMemory>
+    requires ready { AllByRecursion (IsReady entry.now.date) layers.old }
+    requires date { entry.now.date < 2 ^ 40 }
+    ensures same { AllZip IsSameLayer layers.old layers.new }
+    ensures logged { OnOk result (AllZip (HasLogged (entry_of entry.now)) layers.old layers.new) }
+{
+    match layers.split_first_mut() {
+        None => Ok(()),
+        Some((first, rest)) => {
+            let copy = with_arrival(alloc, entry, 0)?;
+            log_one(first, copy)?;
+            log_copies(alloc, rest, entry)
+        }
+    }
+}
+
 /// Each stratum takes in an entry, which gets the next arrival number there. The last one takes the
-/// entry itself.
+/// entry itself: where there is one stratum, the entry goes from its line to where it is held at once.
+#[inline(always)]
 pub(crate) fn log_all(alloc: Global, layers: &mut [Layer], entry: Entry) -> Result<(), NoMemory>
     requires ready { AllByRecursion (IsReady entry.date) layers.old }
     requires date { entry.date < 2 ^ 40 }
     ensures same { AllZip IsSameLayer layers.old layers.new }
     ensures logged { OnOk result (AllZip (HasLogged (entry_of entry)) layers.old layers.new) }
 {
-    match layers.split_first_mut() {
+    match layers.split_last_mut() {
         None => Ok(()),
-        Some((first, rest)) => {
-            if rest.is_empty() {
-                return log_one(first, entry);
-            }
-            let copy = with_arrival(alloc, &entry, 0)?;
-            log_one(first, copy)?;
-            log_all(alloc, rest, entry)
+        Some((last, others)) => {
+            log_copies(alloc, others, &entry)?;
+            log_one(last, entry)
         }
     }
 }

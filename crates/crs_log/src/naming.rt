@@ -86,6 +86,7 @@ fn agrees(raw: &Raw, name: &Name) -> bool
 }
 
 /// What is known of an event whose name is this one.
+#[inline(always)]
 fn judge(
     line: &[u8],
     raw: &Raw,
@@ -108,6 +109,7 @@ fn judge(
 }
 
 /// The declared name of an event line, with the right arguments and value.
+#[inline(always)]
 pub fn known(
     line: &[u8],
     raw: &Raw,

@@ -192,24 +192,24 @@ fn take_ordered(
     session: &mut Session,
     number: u64,
     line: &[u8],
-    item: Item,
+    item: &Item,
     out: &mut Output,
 ) -> Result<(), AllocError>
     requires ready { IsReady session.old }
     requires open { session.old.ended ≡ false }
-    requires range { IsInRange item }
-    requires read { IsRead line.now item }
-    ensures { OnOk result (BringsAll session.old session.new number (λ f s. ordered_what (log_setting f) (full_in f s) s.log (what_seen line.now item)) out.old out.new) }
+    requires range { IsInRange item.now }
+    requires read { IsRead line.now item.now }
+    ensures { OnOk result (BringsAll session.old session.new number (λ f s. ordered_what (log_setting f) (full_in f s) s.log (what_seen line.now item.now)) out.old out.new) }
 {
     match item {
         Item::Blank => Ok(()),
         Item::Delay(delay) => {
-            session.layers.set_delay(delay);
+            session.layers.set_delay(*delay);
             Ok(())
         }
-        Item::Clock(t) => take_clock::<Brand>(Blank::new(1), session, number, t, out),
+        Item::Clock(t) => take_clock::<Brand>(Blank::new(1), session, number, *t, out),
         Item::Finish => take_end::<Brand>(Blank::new(1), session, number, out),
-        Item::Event(raw) => take_event(alloc, session, number, line, &raw, out),
+        Item::Event(raw) => take_event(alloc, session, number, line, raw, out),
     }
 }
 
@@ -219,15 +219,15 @@ fn take_item(
     session: &mut Session,
     number: u64,
     line: &[u8],
-    item: Item,
+    item: &Item,
     out: &mut Output,
 ) -> Result<(), AllocError>
     requires ready { IsReady session.old }
-    requires range { IsInRange item }
-    requires read { IsRead line.now item }
-    ensures { OnOk result (BringsAll session.old session.new number (λ f s. after_what (log_setting f) (full_in f s) s.log (what_seen line.now item)) out.old out.new) }
+    requires range { IsInRange item.now }
+    requires read { IsRead line.now item.now }
+    ensures { OnOk result (BringsAll session.old session.new number (λ f s. after_what (log_setting f) (full_in f s) s.log (what_seen line.now item.now)) out.old out.new) }
 {
-    if is_blank(&item) {
+    if is_blank(item) {
         return Ok(());
     }
     if session.ended {
@@ -251,7 +251,7 @@ pub fn take_line(
     match line {
         Line::Long { number } => refuse(session, number, Fault::Long, out),
         Line::Plain { number, bytes } => match read_item(alloc, bytes, tokens) {
-            Ok(item) => take_item(alloc, session, number, bytes, item, out),
+            Ok(item) => take_item(alloc, session, number, bytes, &item, out),
             Err(ItemRefused::Form) => refuse(session, number, Fault::Form, out),
             Err(ItemRefused::Memory) => Err(AllocError),
         },

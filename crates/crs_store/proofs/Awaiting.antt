@@ -63,6 +63,9 @@ whole_none level (Some y ∷ a) all zero l free = cc
 whole_none level (Some y ∷ a) all (suc e) l free = whole_none level a all e (omega arith) free
 whole_none level (None ∷ a) all e l free = cc
 
+pub whole_awaits_none : (level : ℕ → ℕ) (a : Partial Sym) → list_all (λ o. is_some o) a ≡ true → (e : ℕ) → IsAwaited level a e → ⊥
+whole_awaits_none level a all e awaited = whole_none level a all e awaited.within awaited.unbound
+
 none_whole : (level : ℕ → ℕ) (a : Partial Sym) → IsCurrentLevel level a None → list_all (λ o. is_some o) a ≡ true
 none_whole level [] none = refl
 none_whole level (Some y ∷ a) none = none_whole level a (λ e l free. none (suc e) (omega arith) free)

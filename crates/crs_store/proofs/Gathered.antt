@@ -1,5 +1,5 @@
 -- The forks of what stands in places.
-use Rattle.std.proofs.Common.{false, true, Bool, ◌≡◌, ℕ, zero, suc, ◌<◌, ◌≤◌, ◌+◌, ◌*◌, List, [], ◌∷◌, ◌++◌, length, take, get_or, refl, sym, ap, subst, ◌∙◌, inl, inr, arith, append_assoc, append-nil, length-append, drop}
+use Rattle.std.proofs.Common.{false, true, Bool, ◌≡◌, ℕ, zero, suc, ◌<◌, ◌≤◌, ◌+◌, ◌*◌, List, [], ◌∷◌, ◌++◌, length, take, get_or, refl, sym, ap, subst, ◌∙◌, ◌⊎◌, inl, inr, arith, append_assoc, append-nil, length-append, drop}
 use Rattle.std.proofs.Math.Nat.{mul-add}
 use Rattle.std.proofs.lemmas.Bool.Decides.{eqb_tells}
 use Rattle.std.proofs.lemmas.List.{length-map, map-append, take_more, take_all}
@@ -36,8 +36,8 @@ use Rattle.crs_model.specs.Bindings.{look_of, Looser}
 use Rattle.crs_model.specs.Matching.{Binding, PatternIs}
 use Rattle.crs_model.proofs.Options.{of_some}
 use Rattle.crs_store.specs.Agreeing.{Agree, IsTaken}
-use Rattle.crs_store.specs.Forkings.{HaveWindow, IsNoted, AreCandidates, KeepsStanding, IsHookAt, AreLinkedAt, AreSought, standing, ComeOf, IsForkWith, IsForkBelow, AreForksBut, AreForksOfPlaces, AreForksOfEvent, AreForksOfAll}
-use Rattle.crs_store.specs.Hooks.{IsHookOfEvent, KeepsFresh, picked_symbols}
+use Rattle.crs_store.specs.Forkings.{HaveWindow, NoneWait, IsNoted, AreCandidates, KeepsStanding, IsHookAt, AreLinkedAt, AreSought, standing, ComeOf, IsForkWith, IsForkBelow, AreForksBut, AreForksOfPlaces, AreForksOfEvent, AreForksOfAll}
+use Rattle.crs_store.specs.Hooks.{IsHookOfEvent, KeepsFresh, picked_symbols, picked_arguments}
 use Rattle.crs_store.specs.Links.{hook_at, IsHeldBack, IsNext}
 use Rattle.crs_store.specs.Slots.{SlotsState, slot_at, handle_at, members}
 use Rattle.crs_store.specs.Stores.{parts, AllOf}
@@ -368,6 +368,24 @@ module _ (plan : Plan) (focus : Bool) (Out : Partial Sym → Type 0) (history : 
     -- where nothing is held
     pub none_held : length (members slots.slots) ≡ 0 → AreForksOfEvent plan focus Out history x since until slots e []
     none_held empty = none_come (λ pool entries i j y f. in_none (members slots.slots) i empty j)
+
+    -- where none waits for such an entry, and what comes of one that is held back is left out
+    pub none_waits : (index : IndexState) (skips : Bool)
+        → ((a y : Partial Sym) → IsAwaited (levels_in plan focus) a e → GrowsTo (levels_in plan focus) (levels_in plan focus e) (put a e x) y → skips ≡ true → IsHeldBack (levels_in plan focus) hook a → Out y)
+        → AreLinkedAt plan focus hook slots index e x.date → NoneWait index (picked_arguments hook x.args) e → (skips ≡ true) ⊎ (hook.before ≡ None) → AreForksOfEvent plan focus Out history x since until slots e []
+    none_waits index skips held linked none free = none_come (λ pool entries i j y f.
+        let v = event_there inside in
+        let m = member_at slots.slots i j in
+        let of = of_one pool entries i j y f in
+        let can = can_one pool entries i j y f in
+        let w = inside_window plan proper i of e x inside (f.0).unbound can in
+        let part = fits_part plan proper i of e x inside (f.0).unbound can hook hooked v.0 v.1 in
+        let here : IsHeldBack (levels_in plan focus) hook i.partial → ⊥ = (λ back. elim free [
+          | inl skip ↦ (f.2).1 (held i.partial y f.0 f.1 skip back)
+          | inr bare ↦ unnamed hook.before back.0 bare back.1
+        ]) in
+        let next : IsNext (levels_in plan focus) hook i.partial e = record { awaited = f.0; free = here } in
+        none (picked_symbols hook (look_of i.binding)) part (handle_at slots m.0) (linked m.0 i m.1 next w.not_soon))
 
     -- those that were noted are enough, where what comes of one that is held back is left out if such are skipped
     pub all_found : (symbols : List (Option Sym)) → IsTaken plan e x (Some symbols) → (index : IndexState) (skips : Bool) (places : List ℕ) (out : List InstanceState)

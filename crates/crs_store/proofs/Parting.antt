@@ -1,12 +1,13 @@
 -- The parts of an entry's symbols, one after another.
-use Rattle.std.proofs.Common.{◌≡◌, ℕ, ◌<◌, ◌+◌, List, subst, ◌∙◌, ◌⊎◌, inl, inr, arith}
+use Rattle.std.proofs.Common.{◌≡◌, ℕ, ◌<◌, ◌+◌, List, [], subst, ◌∙◌, ◌⊎◌, inl, inr, arith}
 use Rattle.std.specs.Prelude.{Option, None}
 use Rattle.std.proofs.lemmas.Bool.{cases_lt}
 use Rattle.crs_base.specs.declared.symbols.Sym.{Sym}
 use Rattle.crs_base.specs.Words.{IsIn}
-use Rattle.crs_index.specs.Indexes.{IndexState}
+use Rattle.crs_agenda.specs.declared.timed.Handle.{Handle}
+use Rattle.crs_index.specs.Indexes.{IndexState, bucket_of}
 use Rattle.crs_store.specs.declared.waiting.hooks.Symbols.{Symbols}
-use Rattle.crs_store.specs.Forkings.{AreCandidates, AreCandidatesOf, KeepsStanding}
+use Rattle.crs_store.specs.Forkings.{NoneWait, AreCandidates, AreCandidatesOf, KeepsStanding}
 use Rattle.crs_store.specs.Hooks.{IsPart, IsAmong, KeepsFresh, Waits, key_with, part_of}
 use Rattle.crs_store.specs.Slots.{SlotsState, handle_at}
 
@@ -89,3 +90,17 @@ none_tried slots index all e d symbols places first second third lacking part is
     let c : part.third ≡ None = elim is.third [ inl s ↦ s | inr s ↦ s ∙ third ] in
     let same : part ≡ record { first = None; second = None; third = None } = λ i. record { first = a i; second = b i; third = c i } in
     λ p w. lacking p (subst (λ (q : Symbols). Waits index (key_with e q) (handle_at slots p)) same w)
+
+-- where none waits under these keys, none waits under a part
+pub none_under : (index : IndexState) (all : Symbols) (e : ℕ) → all.second ≡ None → all.third ≡ None → bucket_of index (key_with e (record { first = None; second = None; third = None })) ≡ []
+    → (all.first ≡ None) ⊎ (bucket_of index (key_with e (record { first = all.first; second = None; third = None })) ≡ []) → NoneWait index all e
+none_under index all e second third lacking having part is h w = elim (alone part all second third is) [
+  | inl s ↦ bare lacking (subst (λ (q : Symbols). Waits index (key_with e q) h) s w)
+  | inr s ↦ elim having [
+    | inl none ↦ bare lacking (subst (λ (o : Option Sym). Waits index (key_with e (record { first = o; second = None; third = None })) h) none (subst (λ (q : Symbols). Waits index (key_with e q) h) s w))
+    | inr none ↦ bare none (subst (λ (q : Symbols). Waits index (key_with e q) h) s w)
+  ]
+]
+  where
+    bare : {hs : List Handle} → hs ≡ [] → IsIn h hs → ⊥
+    bare none i = subst (λ (hs : List Handle). IsIn h hs) none i

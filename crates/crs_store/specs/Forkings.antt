@@ -6,6 +6,7 @@ use Rattle.crs_base.specs.declared.symbols.Sym.{Sym}
 use Rattle.crs_base.specs.Words.{IsIn}
 use Rattle.crs_base.specs.Entry.{Entry}
 use Rattle.crs_history.specs.Histories.{HistoryState}
+use Rattle.crs_agenda.specs.declared.timed.Handle.{Handle}
 use Rattle.crs_index.specs.declared.key.Key.{Key}
 use Rattle.crs_index.specs.Indexes.{IndexState}
 use Rattle.crs_instance.specs.Instances.{InstanceState, IsInside, window_at}
@@ -41,6 +42,10 @@ AreCandidates slots index k e d symbols places = (p : ℕ) → Waits index k (ha
 -- so are those that wait for the event under a part of these symbols
 abbrev pub AreCandidatesOf : SlotsState → IndexState → Symbols → ℕ → ℕ → List (Option Sym) → List ℕ → Type 0
 AreCandidatesOf slots index all e d symbols places = (part : Symbols) → IsPart part all → AreCandidates slots index (key_with e part) e d symbols places
+
+-- none waits for the event under a part of these symbols
+abbrev pub NoneWait : IndexState → Symbols → ℕ → Type 0
+NoneWait index all e = (part : Symbols) → IsPart part all → (h : Handle) → Waits index (key_with e part) h → ⊥
 
 -- each place in which something stands is among the places
 abbrev pub HasAll : SlotsState → List ℕ → Type 0

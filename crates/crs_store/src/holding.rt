@@ -63,6 +63,7 @@ pub(crate) fn no_holding(alloc: Global) -> Holding
 }
 
 /// Drops the stale handles, where they may be most of what is there.
+#[inline(always)]
 fn sweep_waiting(waiting: &mut Index, serials: &[u32])
     ensures { KeepsFresh serials.now waiting.old waiting.new }
 {
@@ -72,6 +73,7 @@ fn sweep_waiting(waiting: &mut Index, serials: &[u32])
 }
 
 /// Drops the pairs with stale handles, where they may be most of what is there.
+#[inline(always)]
 fn sweep_dues(dues: &mut Calendar, room: &mut usize, serials: &[u32])
     ensures fresh { KeepsFreshPairs serials.now dues.old.pairs dues.new.pairs }
     ensures stood { dues.new.date ≡ dues.old.date }
@@ -83,6 +85,7 @@ fn sweep_dues(dues: &mut Calendar, room: &mut usize, serials: &[u32])
 }
 
 /// Drops what is stale, where that may be most of what is there.
+#[inline(always)]
 fn sweep(holding: &mut Holding)
     ensures slots { holding.new.slots ≡ holding.old.slots }
     ensures len { length holding.new.slots.serials ≡ length holding.new.slots.slots }
@@ -94,6 +97,7 @@ fn sweep(holding: &mut Holding)
 }
 
 /// Has what stands in the place be found again, from the date `h` on.
+#[inline(always)]
 fn register(holding: &mut Holding, chart: &Chart<'_>, place: u32, h: u64) -> Result<(), AllocError>
     requires of { (i : _) → slot_at holding.old.slots place ≡ Some i → IsOf chart.now.plan i }
     requires stood { holding.old.dues.date ≤ h }
@@ -333,6 +337,7 @@ pub(crate) fn follow(
 
 /// Passes the dates up to `h`: what is due before is judged anew at `h`, and what can't be
 /// recognised any more goes.
+#[inline(always)]
 pub(crate) fn pass(
     holding: &mut Holding,
     chart: &Chart<'_>,

@@ -29,6 +29,7 @@ fn compare_entries(these: &[Rc<Entry>], those: &[Rc<Entry>]) -> Ordering
     }
 }
 
+#[inline(always)]
 fn compare(this: &Recognition, that: &Recognition) -> Ordering
     ensures { result ≡ answer_cmp this.now that.now }
 {

@@ -20,6 +20,7 @@ pub(crate) fn note(places: &mut Vec<u32>, place: u32) -> Result<(), AllocError>
 }
 
 /// Puts the places in ascending order, each once.
+#[inline(always)]
 pub(crate) fn sort_places(places: &mut Vec<u32>)
     ensures kept { (p : _) → IsIn p places.old.items → IsIn p places.new.items }
     ensures ordered { IsStrictlySortedBy nat_cmp places.new.items }

@@ -58,6 +58,7 @@ fn new_count(line: &[u8], spans: &[Span], symbols: &Symbols) -> usize
 
 /// Whether the texts that aren't in the table are more than `room`. The spans are counted one by one
 /// only where the table is nearly full.
+#[inline(always)]
 pub fn are_beyond(line: &[u8], spans: &[Span], symbols: &Symbols, room: u32) -> bool
     requires { length spans.now ≤ 4096 }
     ensures yes { result ≡ true → room < length (new_texts symbols.now.texts (map (text_of line.now) spans.now)) }
@@ -137,6 +138,5 @@ pub fn intern_args(
         };
         all[i] = s;
     }
-    let (front, _) = all.split_at(spans.len());
-    Ok(SymList::from_slice(front))
+    Ok(SymList::first_of(all, spans.len() as u8))
 }

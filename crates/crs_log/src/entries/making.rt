@@ -60,6 +60,7 @@ fn entry_with(arrival: u32, raw: &Raw, name: Sym, numbers: &[Sym], text: Text) -
 }
 
 /// The entry of an event without a change, whose name has this number and whose canonical text this is.
+#[inline(always)]
 fn make_message(
     line: &[u8],
     raw: &Raw,
@@ -137,6 +138,7 @@ fn make_change(
 }
 
 /// The entry of an event line whose name has this number.
+#[inline(always)]
 pub fn make_named(
     alloc: Global,
     line: &[u8],

@@ -74,6 +74,7 @@ fn text_len(raw: &Raw) -> usize {
 }
 
 /// The canonical text of an event.
+#[inline(always)]
 pub fn canonical_text(alloc: Global, line: &[u8], raw: &Raw) -> Result<Text, AllocError>
     ensures { IfOk result (λ t. t ≡ canonical (text_of line.now raw.now.name) (map (text_of line.now) raw.now.args) (change_in line.now raw.now.change)) }
 {

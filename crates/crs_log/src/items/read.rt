@@ -54,6 +54,7 @@ fn statement(alloc: Global, line: &[u8], tokens: &[Token]) -> Result<Option<Item
 }
 
 /// What a line of at most 4096 bytes is.
+#[inline(always)]
 fn read_what(alloc: Global, line: &[u8], tokens: &mut Vec<Token>) -> Result<Item, ItemRefused>
     requires { length line.now ≤ 4096 }
     ensures exact { IfOk result (λ item. what_seen line.now item ≡ what_of line.now) }
@@ -92,6 +93,7 @@ fn read_other(alloc: Global, line: &[u8], tokens: &mut Vec<Token>) -> Result<Ite
 
 /// The item that a line of at most 4096 bytes is. The vector is room for the line's tokens: what it
 /// holds before does not matter.
+#[inline(always)]
 pub fn read_item(alloc: Global, line: &[u8], tokens: &mut Vec<Token>) -> Result<Item, ItemRefused>
     requires { length line.now ≤ 4096 }
     ensures item { IfOk result (IsRead line.now) }
@@ -99,8 +101,5 @@ pub fn read_item(alloc: Global, line: &[u8], tokens: &mut Vec<Token>) -> Result<
     ensures range { IfOk result IsInRange }
     ensures err { IfErr result (IsFormOrMemory line.now) }
 {
-    match read_what(alloc, line, tokens) {
-        Ok(item) => Ok(item),
-        Err(e) => Err(e),
-    }
+    read_what(alloc, line, tokens)
 }

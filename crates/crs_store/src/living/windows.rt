@@ -93,6 +93,7 @@ fn settle_windows(judging: &Judging<'_>, instance: &mut Instance, entry: &Entry)
 }
 
 /// Passes the dates in each window.
+#[inline(always)]
 fn pass_windows(passing: &Passing<'_>, instance: &mut Instance)
     requires passing { IsPassing passing.now }
     requires of { IsOf passing.now.judging.plan.now instance.old }
@@ -138,6 +139,7 @@ pub(crate) fn begin_windows(passing: &Passing<'_>, parent: &Instance, fork: &mut
 }
 
 /// The verdict of a window, which waits where it hasn't begun.
+#[inline(always)]
 fn verdict(judging: &Judging<'_>, instance: &Instance, k: u8) -> Verdict
     requires judging { IsJudging judging.now }
     requires window { k < length judging.now.plan.now.chronicle.windows }
@@ -186,6 +188,7 @@ pub(crate) fn is_able(judging: &Judging<'_>, instance: &Instance) -> bool
 }
 
 /// Whether each event is bound and each window met.
+#[inline(always)]
 pub(crate) fn is_done(judging: &Judging<'_>, instance: &Instance) -> bool
     requires judging { IsJudging judging.now }
     ensures { IsTrue result ↔ IsDoneBy judging.now instance.now }

@@ -1,12 +1,13 @@
 //! The forks of the instances that may come of an entry.
-ghost use Rattle.std.specs.Prelude.{◌≡◌, ◌+◌, ◌*◌, ◌<◌, ◌≤◌, ◌^◌, length, None, false, OnOk};
+ghost use Rattle.std.specs.Prelude.{◌≡◌, ◌⊎◌, ◌+◌, ◌*◌, ◌<◌, ◌≤◌, ◌^◌, [], length, None, true, false, OnOk};
 ghost use Rattle.std.specs.List.{AllByRecursion};
 ghost use Rattle.std.specs.List.Sorted.{IsStrictlySortedBy};
 ghost use Rattle.std.specs.Ordering.{nat_cmp};
 ghost use Rattle.crs_base.specs.Seen.{entry_of};
 ghost use Rattle.crs_base.specs.Words.{IsIn};
+ghost use Rattle.crs_index.specs.Indexes.{bucket_of};
 ghost use Rattle.crs_instance.specs.Instances.{IsOf};
-ghost use Rattle.crs_store.specs.Forkings.{HaveWindow, IsNoted, AreCandidates, AreCandidatesOf, KeepsStanding, IsHookAt, AreLinkedAt, HasAll, AreSought, AreForksBut, AreForksOfPlaces, AreForksOfEvent, AreForksOfAll};
+ghost use Rattle.crs_store.specs.Forkings.{HaveWindow, NoneWait, IsNoted, AreCandidates, AreCandidatesOf, KeepsStanding, IsHookAt, AreLinkedAt, HasAll, AreSought, AreForksBut, AreForksOfPlaces, AreForksOfEvent, AreForksOfAll};
 ghost use Rattle.crs_store.specs.Hooks.{KeepsFresh, picked_arguments};
 ghost use Rattle.crs_store.specs.Links.{hook_at, AreLinked};
 ghost use Rattle.crs_store.specs.Moments.{IsArrival};
@@ -20,7 +21,7 @@ use crate::living::levels::is_awaited;
 use crate::moment::Arrival;
 use crate::places::slots::Slots;
 use crate::places::{note, sort_places};
-use crate::scanning::agreeing::{agree, symbols_taken};
+use crate::scanning::agreeing::{agree, takes};
 use crate::scanning::deciding::{Scan, decide};
 use crate::waiting::befores::is_held_back;
 use crate::waiting::hooks::{
@@ -116,6 +117,7 @@ struct Wanted {
 }
 
 /// Notes the place, if an instance stands there that leaves the date and the symbols to the event.
+#[inline(always)]
 fn note_able(
     slots: &Slots,
     place: u32,
@@ -298,6 +300,46 @@ fn note_sought(
     note_candidates(waiting, slots, sought.hook, arrival.entry, wanted, places)
 }
 
+/// Whether some handle, fresh or stale, waits under the key.
+#[inline(always)]
+fn has_some(waiting: &Index, key: Key) -> bool
+    ensures { result ≡ false → bucket_of waiting.now key ≡ [] }
+{
+    match waiting.find(&key) {
+        Some(number) => !waiting.bucket(number).is_empty(),
+        None => false,
+    }
+}
+
+/// Whether some handle may wait for such an entry at the event. Where the hook picks more than one
+/// variable, that isn't looked at.
+#[inline(always)]
+fn may_wait(waiting: &Index, hook: &Hook, event: u8, entry: &Entry) -> bool
+    ensures { result ≡ false → NoneWait waiting.now (picked_arguments hook.now entry.now.args) event }
+{
+    if !is_lone(hook) {
+        return true;
+    }
+    let class = event as u32;
+    if has_some(waiting, key_of_first(class, None)) {
+        return true;
+    }
+    let symbol = argument_in(hook.first, entry);
+    symbol.is_some() && has_some(waiting, key_of_first(class, symbol))
+}
+
+/// Whether no instance of which something may come waits for the entry. More than half of the drill's
+/// entries come to none: that this is seen before they are compared with the event's pattern takes 2 % off.
+#[inline(always)]
+fn comes_to_none(arrival: &Arrival<'_>, sought: Sought<'_>, waiting: &Index) -> bool
+    ensures { result ≡ true → NoneWait waiting.now (picked_arguments sought.entry.hook.now (entry_of arrival.now.entry.now.value).args) sought.entry.event × ((arrival.now.skips ≡ true) ⊎ (sought.entry.hook.now.before ≡ None)) }
+{
+    if !arrival.skips && sought.hook.before.is_some() {
+        return false;
+    }
+    !may_wait(waiting, sought.hook, sought.event, arrival.entry)
+}
+
 /// Adds the forks of all instances at the event, for which such a hook looks; the entry has its name. The
 /// index isn't looked at where the pattern refuses the entry: 4,000 entries that a constant refuses took
 /// 10,300 million instructions where 4,000 instances wait for them, and take 47.
@@ -324,15 +366,24 @@ fn forks_of_event<L: Ledger>(
     if slots.len() == 0 {
         return Ok(());
     }
-    let Some(symbols) = symbols_taken(arrival.plan, sought.event, arrival.entry, steps) else {
+    if comes_to_none(arrival, sought, waiting) {
         return Ok(());
-    };
-    let wanted = Wanted {
+    }
+    let mut wanted = Wanted {
         event: sought.event,
         date: arrival.entry.date,
-        symbols,
+        symbols: Binding::new(arrival.plan.chronicle.variables.len() as u8),
         variables: compared(arrival.plan),
     };
+    if !takes(
+        arrival.plan,
+        sought.event,
+        arrival.entry,
+        &mut wanted.symbols,
+        steps,
+    ) {
+        return Ok(());
+    }
     note_sought(arrival, sought, slots, waiting, &wanted, places)?;
     sort_places(places);
     let places = places.as_slice();
@@ -362,9 +413,10 @@ pub(crate) fn forks<L: Ledger>(
 {
     out.clear();
     let chart = arrival.chart();
+    let name = arrival.entry.name;
     for event in 0..arrival.plan.chronicle.events.len() as u8 {
         let hook = chart.event_hook(event);
-        if hook.name != arrival.entry.name {
+        if hook.name != name {
             continue;
         }
         let sought = Sought { event, hook };

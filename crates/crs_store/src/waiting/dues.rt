@@ -192,6 +192,9 @@ fn put_firsts(
     if chart.plan().chronicle.prompt {
         return Ok(());
     }
+    if instance.is_whole() {
+        return Ok(());
+    }
     for event in 0..chart.events() {
         put_first(calendar, chart, instance, event, handle, since)?;
     }
@@ -223,6 +226,7 @@ pub(crate) fn put_dues(
 }
 
 /// Takes out each pair dated before `h`, and notes the place of its handle.
+#[inline(always)]
 pub(crate) fn collect_due(
     calendar: &mut Calendar,
     h: u64,

@@ -92,6 +92,9 @@ pub(crate) fn link_events(
     ensures grown { Grows waiting.old waiting.new }
     ensures linked { OnOk result (IsLinkedAnew chart.now.plan chart.now.focus chart.now.hooks.events.items waiting.new handle since h instance.now) }
 {
+    if instance.is_whole() {
+        return Ok(());
+    }
     for event in 0..chart.events() {
         link_event(waiting, chart, instance, event, handle, since, h)?;
     }

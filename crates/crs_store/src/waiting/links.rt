@@ -59,6 +59,7 @@ fn note_class(
 }
 
 /// Notes the places of those of which the entry may touch the window of this number.
+#[inline(always)]
 fn note_window(
     waiting: &mut Index,
     slots: &Slots,

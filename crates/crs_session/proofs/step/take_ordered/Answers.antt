@@ -8,7 +8,7 @@ use Rattle.crs_session.proofs.step.take_ordered.Goals as goal
 pub returns-in-Blank : goal.returns-in-Blank
 returns-in-Blank c = λ f s r.
     passed_brings f c.args.session.now s r c.args.number
-    (ordered_what (log_setting f) (full_in f s) s.log (what_seen c.args.line.now c.args.item)) c.args.out.now
+    (ordered_what (log_setting f) (full_in f s) s.log (what_seen c.args.line.now c.args.item.now)) c.args.out.now
     (ap (λ i. ordered_what (log_setting f) (full_in f s) s.log (what_seen c.args.line.now i)) c.in-Blank.is)
 
 pub returns-in-Delay : goal.returns-in-Delay

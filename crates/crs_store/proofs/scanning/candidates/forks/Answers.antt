@@ -1,7 +1,9 @@
-use Rattle.std.proofs.Common.{rules, ◌≡◌, ◌+◌, ◌*◌, ◌≤◌, ◌∙◌, [], length, sym, ap, subst, arith}
+use Rattle.std.proofs.Common.{rules, not, eq-eqb, true≢false, ◌≡◌, ◌+◌, ◌*◌, ◌≤◌, ◌∙◌, [], length, sym, ap, subst, arith}
 use Rattle.std.proofs.Math.Nat.{mul-le-mul_right}
 use Rattle.std.proofs.lemmas.List.{append-nil}
 use Rattle.crs_base.specs.Seen.{entry_of}
+use Rattle.crs_base.specs.declared.entry.Entry.{Entry as CodeEntry}
+use Rattle.crs_base.specs.declared.symbols.Sym.{Sym}
 use Rattle.crs_model.specs.Bindings.{look_of}
 use Rattle.crs_store.specs.declared.waiting.hooks.Hook.{Hook}
 use Rattle.crs_store.specs.Charts.{ChartState}
@@ -44,7 +46,10 @@ loop-event-preserved g c = record {
 pub loop-event-preserved-then-ne : goal.loop-event-preserved-then-ne
 loop-event-preserved-then-ne g c =
     let x = entry_of c.args.arrival.now.entry.now.value in
-    let other : (hook_at c.args.arrival.now.hooks.now.events.items c.loop-event.event).name ≡ x.name → ⊥ = search rules in
+    let other : (hook_at c.args.arrival.now.hooks.now.events.items c.loop-event.event).name ≡ x.name → ⊥ = (λ same.
+    let is : c.event_hook-hook.result.now.name ≡ (hook_at c.args.arrival.now.hooks.now.events.items c.loop-event.event).name = ap (λ (h : Hook). h.name) (c.event_hook-hook.ensures ∙ ap (λ (s : ChartState). hook_at s.hooks.events.items c.loop-event.event) c.chart-chart.ensures) in
+    let number : c.event_hook-hook.result.now.name.0 ≡ c.deref.result.now.name.0 = ap (λ (s : Sym). s.0) (is ∙ same ∙ sym (ap (λ (y : CodeEntry). y.name) c.deref.ensures)) in
+    true≢false (sym c.if-ne.true ∙ c.ne.ensures ∙ ap not (eq-eqb c.event_hook-hook.result.now.name.0 c.deref.result.now.name.0 number))) in
     record {
       gathered = gathered_more c.args.arrival.now.plan.now c.args.arrival.now.focus (IsOvertaken c.args.arrival.now.plan.now c.args.arrival.now.focus c.args.arrival.now.hooks.now.events.items c.args.arrival.now.skips (entry_of c.args.arrival.now.entry.now.value)) c.args.arrival.now.history.now x c.args.arrival.now.since c.args.arrival.now.until c.args.slots.now c.loop-event.event c.loop-event.out.items [] c.loop-event.out.items (sym (append-nil c.loop-event.out.items)) tt tt
           (none_named c.args.arrival.now.plan.now c.args.arrival.now.focus (IsOvertaken c.args.arrival.now.plan.now c.args.arrival.now.focus c.args.arrival.now.hooks.now.events.items c.args.arrival.now.skips (entry_of c.args.arrival.now.entry.now.value)) c.args.arrival.now.history.now x c.args.arrival.now.since c.args.arrival.now.until c.args.slots.now c.loop-event.event c.requires.arrival.proper c.requires.of (search rules) (hook_at c.args.arrival.now.hooks.now.events.items c.loop-event.event) (hook_there c.args.arrival.now.plan.now c.args.arrival.now.hooks.now.events.items c.loop-event.event c.requires.arrival.hooks.of_events) other) c.loop-event.invariant.gathered;

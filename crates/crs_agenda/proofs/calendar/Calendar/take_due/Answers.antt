@@ -8,7 +8,7 @@ use Rattle.crs_agenda.specs.Schedule.{Schedule}
 use Rattle.crs_agenda.specs.Calendars.{IsCalendar}
 use Rattle.crs_agenda.proofs.Least.{none_read, least_read, floor_read, in_place_read, earliest_read, least_of_all, empty_before}
 use Rattle.crs_agenda.proofs.Changes.{waited, taken, lower}
-use Rattle.crs_agenda.proofs.calendar.Calendar.due.Goals as goal
+use Rattle.crs_agenda.proofs.calendar.Calendar.take_due.Goals as goal
 
 pub first_full-at-requires : goal.first_full-at-requires
 first_full-at-requires c =
@@ -18,8 +18,8 @@ first_full-at-requires c =
     subst (λ (xs : List (List Timed)). AreEmptyBefore c.start_of-from.result xs) (sym c.as_slice.ensures.value)
     (empty_before s.base s.wait c.start_of-from.result s.buckets.items c.self.invariant.in_place c.self.invariant.waits (omega arith) c.start_of-from.ensures.row c.start_of-from.ensures.here)
 
-pub invariant_of-self-then-at-len : goal.invariant_of-self-then-at-len
-invariant_of-self-then-at-len c =
+pub invariant_of-self : goal.invariant_of-self
+invariant_of-self c =
     let s = c.self.inside in
     let bs = s.buckets.items in
     let l : s.buckets.len ≡ length bs = s.buckets.ok.0 in
