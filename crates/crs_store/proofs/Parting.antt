@@ -1,6 +1,6 @@
 -- The parts of an entry's symbols, one after another.
-use Rattle.std.proofs.Common.{◌≡◌, ℕ, ◌<◌, ◌+◌, List, [], subst, ◌∙◌, ◌⊎◌, inl, inr, arith}
-use Rattle.std.specs.Prelude.{Option, None}
+use Rattle.std.proofs.Common.{◌≡◌, ℕ, ◌<◌, ◌+◌, List, [], refl, false, subst, ◌∙◌, ◌⊎◌, inl, inr, arith}
+use Rattle.std.specs.Prelude.{Option, Some, None, is_some}
 use Rattle.std.proofs.lemmas.Bool.{cases_lt}
 use Rattle.crs_base.specs.declared.symbols.Sym.{Sym}
 use Rattle.crs_base.specs.Words.{IsIn}
@@ -63,6 +63,10 @@ module _ (slots : SlotsState) (all : Symbols) (e d : ℕ) (symbols : List (Optio
       λ p w. a.noted k.0 k.1 p (subst (λ (s : Symbols). Waits old (key_with e s) (handle_at slots p)) k.2 w)
 
 -- ---- where there is one of them at most
+
+pub none_there : {A : Type 0} (o : Option A) → is_some o ≡ false → o ≡ None
+none_there None e = refl
+none_there (Some x) e = absurd (cc)
 
 alone : (part all : Symbols) → all.second ≡ None → all.third ≡ None → IsPart part all → (part ≡ record { first = None; second = None; third = None }) ⊎ (part ≡ record { first = all.first; second = None; third = None })
 alone part all second third is =

@@ -1,23 +1,16 @@
-use Rattle.std.proofs.Common.{◌≡◌, refl, sym, subst, inl, inr, true, false, not, Bool, ℕ}
-use Rattle.std.specs.Prelude.{Option, None, Some, is_some}
+use Rattle.std.proofs.Common.{sym, subst, inl, inr}
+use Rattle.std.proofs.lemmas.Bool.{not-true}
 use Rattle.crs_base.specs.Seen.{entry_of}
 use Rattle.crs_base.specs.declared.entry.Entry.{Entry as CodeEntry}
 use Rattle.crs_store.specs.Forkings.{NoneWait}
 use Rattle.crs_store.specs.Hooks.{picked_arguments}
+use Rattle.crs_store.proofs.Parting.{none_there}
 use Rattle.crs_store.proofs.scanning.candidates.comes_to_none.Goals.{else-not-arrival-via-else-not-arrival, else-not-arrival-via-then-not-arrival+else-is_some}
 use Rattle.crs_store.proofs.scanning.candidates.comes_to_none.Goals as goal
 
-none_there : (o : Option ℕ) → is_some o ≡ false → o ≡ None
-none_there None e = refl
-none_there (Some f) e = absurd (cc)
-
-not_said : (b : Bool) → not b ≡ true → b ≡ false
-not_said true e = absurd (cc)
-not_said false e = refl
-
 pub returns : goal.returns
 returns c = λ said. (
-  subst (λ (e : CodeEntry). NoneWait c.args.waiting.now (picked_arguments c.args.sought.hook.now (entry_of e).args) c.args.sought.event) c.deref.ensures (c.may_wait.ensures (not_said c.may_wait.result said)),
+  subst (λ (e : CodeEntry). NoneWait c.args.waiting.now (picked_arguments c.args.sought.hook.now (entry_of e).args) c.args.sought.event) c.deref.ensures (c.may_wait.ensures (not-true c.may_wait.result said)),
   elim c.else-not-arrival.branch [
     | else-not-arrival-via-else-not-arrival w ↦ inl w.if-not-arrival.false
     | else-not-arrival-via-then-not-arrival+else-is_some w ↦ inr (none_there c.args.sought.hook.now.before (sym (w.if-is_some.ensures {u = tt})))

@@ -1,16 +1,12 @@
-use Rattle.std.proofs.Common.{◌≡◌, ◌∙◌, refl, sym, ap, subst, inl, inr, [], false}
-use Rattle.std.specs.Prelude.{Option, Some, None, is_some}
+use Rattle.std.proofs.Common.{◌≡◌, ◌∙◌, refl, sym, ap, subst, inl, inr, []}
+use Rattle.std.specs.Prelude.{Option, None}
 use Rattle.crs_base.specs.declared.symbols.Sym.{Sym}
 use Rattle.crs_index.specs.Indexes.{bucket_of}
 use Rattle.crs_index.specs.declared.key.Key.{Key}
 use Rattle.crs_store.specs.declared.waiting.hooks.Pick.{Pick}
 use Rattle.crs_store.specs.Hooks.{key_with, picked_argument, picked_arguments}
-use Rattle.crs_store.proofs.Parting.{none_under}
+use Rattle.crs_store.proofs.Parting.{none_there, none_under}
 use Rattle.crs_store.proofs.scanning.candidates.may_wait.Goals as goal
-
-none_there : (o : Option Sym) → is_some o ≡ false → o ≡ None
-none_there None e = refl
-none_there (Some s) e = absurd (cc)
 
 pub returns-then-is_some : goal.returns-then-is_some
 returns-then-is_some c = λ said.
