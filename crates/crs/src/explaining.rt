@@ -2,7 +2,6 @@
 // for that.
 ghost use Rattle.std.specs.Prelude.{◌<◌, ◌≤◌, ◌+◌, ◌-◌, ◌^◌};
 
-use crate::telling::tell_hint;
 use crs_audit::{AuditRefused, AuditWord, audit};
 use crs_base::Symbols;
 use crs_compile::compile;
@@ -11,6 +10,7 @@ use crs_hints::{claim_hint, hint_of, table_hint};
 use crs_model::limits::SIZE_LIMIT;
 use crs_model::{ModelRefused, ModelWord, Plans, first_emit_line};
 use crs_parse::read_models;
+use crs_telling::tell_hint;
 use crs_top::{CHECKED_LIMIT, STANDARD, plans_for_audit};
 use crs_words::Command;
 use std::alloc::Global;

@@ -1,27 +1,28 @@
-// How something is told on standard error: the file's name, a line's number, a sentence, and the line
-// with a caret under a place of it.
+//! How something is told on standard error: the file's name, a line's number, a sentence, and the line
+//! with a caret under a place of it.
+
 use crs_base::is_blank;
 use crs_hints::{Circle, Hint};
 use crs_log_hints::LogHint;
 use std::alloc::{AllocError, Global};
 use std::io;
 
-// How many bytes of a refused line are shown.
+/// How many bytes of a refused line are shown.
 const SHOWN: usize = 100;
 
-// What is said of a line, or of a file where the number is 0.
+/// What is said of a line, or of a file where the number is 0.
 #[derive(Clone, Copy)]
-pub struct Told<'a> {
-    pub name: &'a str,
-    pub number: u64,
-    pub sentence: &'a str,
-    pub byte: Option<u8>,
-    pub column: Option<usize>,
-    pub line: &'a [u8],
+struct Told<'a> {
+    name: &'a str,
+    number: u64,
+    sentence: &'a str,
+    byte: Option<u8>,
+    column: Option<usize>,
+    line: &'a [u8],
 }
 
-// Bytes as they can be shown: what isn't printable is a '?'.
-pub fn shown(alloc: Global, line: &[u8]) -> Result<String, AllocError> {
+/// Bytes as they can be shown: what isn't printable is a '?'.
+pub(crate) fn shown(alloc: Global, line: &[u8]) -> Result<String, AllocError> {
     let mut text = String::new(alloc);
     for byte in line.iter().take(SHOWN) {
         let is_shown = is_blank(*byte) || byte.is_ascii_graphic();
@@ -30,7 +31,7 @@ pub fn shown(alloc: Global, line: &[u8]) -> Result<String, AllocError> {
     Ok(text)
 }
 
-// A caret under a column of a line. It stands behind the tabs that the line has.
+/// A caret under a column of a line. It stands behind the tabs that the line has.
 fn caret(alloc: Global, line: &[u8], column: usize) -> Result<String, AllocError> {
     let mut text = String::new(alloc);
     for byte in line.iter().take(column) {
@@ -40,7 +41,7 @@ fn caret(alloc: Global, line: &[u8], column: usize) -> Result<String, AllocError
     Ok(text)
 }
 
-// Adds a control character as it is written in a text of a program.
+/// Adds a control character as it is written in a text of a program.
 fn push_escaped(text: &mut String, control: char) -> Result<(), AllocError> {
     for part in control.escape_default() {
         text.push(part)?;
@@ -48,7 +49,7 @@ fn push_escaped(text: &mut String, control: char) -> Result<(), AllocError> {
     Ok(())
 }
 
-// A file's name as it can be shown on a terminal: control characters are escaped.
+/// A file's name as it can be shown on a terminal: control characters are escaped.
 pub fn shown_name(alloc: Global, name: &str) -> Result<String, AllocError> {
     if name == "-" {
         return String::from_str(alloc, "standard input");
@@ -64,13 +65,17 @@ pub fn shown_name(alloc: Global, name: &str) -> Result<String, AllocError> {
     Ok(text)
 }
 
-// Says a sentence about a file, or something about the words.
-pub fn say_of(rt: &(impl Eprint + AllocGlobal), name: &str, sentence: &str) -> io::Result<()> {
+/// Says a sentence about a file, or something about the words.
+pub(crate) fn say_of(
+    rt: &(impl Eprint + AllocGlobal),
+    name: &str,
+    sentence: &str,
+) -> io::Result<()> {
     let name = shown_name(rt.alloc(), name)?;
     eprintln!(rt; "crs: {name}: {sentence}")
 }
 
-// The sentence of a refusal, behind the file's name and the line's number.
+/// The sentence of a refusal, behind the file's name and the line's number.
 fn say(rt: &(impl Eprint + AllocGlobal), told: &Told<'_>) -> io::Result<()> {
     let name = shown_name(rt.alloc(), told.name)?;
     let number = told.number;
@@ -88,7 +93,7 @@ fn say(rt: &(impl Eprint + AllocGlobal), told: &Told<'_>) -> io::Result<()> {
     }
 }
 
-// The refused line, and a caret under the place that the hint tells.
+/// The refused line, and a caret under the place that the hint tells.
 fn show_line(rt: &(impl Eprint + AllocGlobal), told: &Told<'_>) -> io::Result<()> {
     if told.line.is_empty() {
         return Ok(());
@@ -104,13 +109,13 @@ fn show_line(rt: &(impl Eprint + AllocGlobal), told: &Told<'_>) -> io::Result<()
     }
 }
 
-// Says what is wrong in a line, and shows it.
-pub fn tell(rt: &(impl Eprint + AllocGlobal), told: &Told<'_>) -> io::Result<()> {
+/// Says what is wrong in a line, and shows it.
+fn tell(rt: &(impl Eprint + AllocGlobal), told: &Told<'_>) -> io::Result<()> {
     say(rt, told)?;
     show_line(rt, told)
 }
 
-// The sentence of a name that goes round between chronicles, which are named.
+/// The sentence of a name that goes round between chronicles, which are named.
 fn circle_sentence(
     alloc: Global,
     sentence: &str,
@@ -124,7 +129,7 @@ fn circle_sentence(
     format!(in alloc; "{sentence}, and '{user}' above '{emitter}' uses it")
 }
 
-// Tells a hint at a line of models, of a table or of an output.
+/// Tells a hint at a line of models, of a table or of an output.
 pub fn tell_hint(
     rt: &(impl Eprint + AllocGlobal),
     name: &str,
@@ -152,8 +157,8 @@ pub fn tell_hint(
     }
 }
 
-// Tells a hint at a line of a log.
-pub fn tell_log_hint(
+/// Tells a hint at a line of a log.
+pub(crate) fn tell_log_hint(
     rt: &(impl Eprint + AllocGlobal),
     name: &str,
     number: u64,

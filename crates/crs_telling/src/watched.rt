@@ -1,26 +1,26 @@
-// The desk that main hands to a command, and what is told of the logs that it reads.
+//! The desk that is handed to a command, and what is told of the logs that it reads.
+
 ghost use Rattle.std.specs.Prelude.{◌≡◌};
 
 use crate::telling::{say_of, shown, shown_name, tell_log_hint};
 use crs_desk::{Desk, DeskError};
 use crs_log_hints::{RefusedLine, RunWatch, Silence, log_hint};
-use crs_top::Status;
 use crs_words::Command;
 use std::alloc::{AllocError, Global};
 use std::io;
 
-// A desk that does what another one does, and tells what is wrong in the logs that a command reads.
+/// A desk that does what another one does, and tells what is wrong in the logs that a command reads.
 #[derive(Drop)]
 pub struct Watched<'a, D: Desk + Drop, R: Eprint + AllocGlobal + Drop> {
     desk: D,
     rt: R,
-    // the names of the logs
+    /// The names of the logs.
     logs: Vec<&'a str>,
-    // none where no log is recognised, or memory is wanting
+    /// None where no log is recognised, or memory is wanting.
     watch: Option<RunWatch>,
 }
 
-// The names of the logs that a command recognises.
+/// The names of the logs that a command recognises.
 pub fn log_names<'a>(
     alloc: Global,
     command: &Option<Command<'a>>,
@@ -34,7 +34,7 @@ pub fn log_names<'a>(
     Ok(names)
 }
 
-// A watch over so many logs.
+/// A watch over so many logs.
 fn watch_of(alloc: Global, count: usize) -> Option<RunWatch> {
     match count {
         0 => None,
@@ -43,7 +43,7 @@ fn watch_of(alloc: Global, count: usize) -> Option<RunWatch> {
 }
 
 impl<'a, D: Desk + Drop, R: Eprint + AllocGlobal + Drop> Watched<'a, D, R> {
-    // A desk over another one, for a command over the logs of these names.
+    /// A desk over another one, for a command over the logs of these names.
     pub fn new(desk: D, rt: R, logs: Vec<&'a str>) -> Watched<'a, D, R>
         ensures { D.inputs result.desk ≡ D.inputs desk }
     {
@@ -56,24 +56,24 @@ impl<'a, D: Desk + Drop, R: Eprint + AllocGlobal + Drop> Watched<'a, D, R> {
         }
     }
 
-    // The desk below.
+    /// The desk below.
     pub fn inner(&self) -> &D {
         &self.desk
     }
 
-    // The name of a log, counted from 0.
+    /// The name of a log, counted from 0.
     fn log_name(&self, log: usize) -> &'a str {
         self.logs.get(log).copied().unwrap_or("a log")
     }
 
-    // Tells what is wrong with the first refused line.
+    /// Tells what is wrong with the first refused line.
     fn tell_refused(&self, refused: &RefusedLine) -> io::Result<()> {
         let hint = log_hint(refused.line.as_slice(), refused.word);
         let name = self.log_name(refused.log);
         tell_log_hint(&self.rt, name, refused.number, &hint)
     }
 
-    // Tells why nothing may have been recognised.
+    /// Tells why nothing may have been recognised.
     fn tell_silence(&self, silence: &Silence<'_>) -> io::Result<()> {
         match silence {
             Silence::NoMark { log, is_whole } => {
@@ -113,15 +113,15 @@ impl<'a, D: Desk + Drop, R: Eprint + AllocGlobal + Drop> Watched<'a, D, R> {
         }
     }
 
-    // Tells, where a command has read its logs to their ends, why nothing may have been recognised.
-    // Nothing more is watched behind this.
-    pub fn end(&mut self, status: Status)
+    /// Tells why nothing may have been recognised, where the command has read its logs to their ends.
+    /// Nothing more is watched behind this.
+    pub fn end(&mut self, is_whole: bool)
         ensures { D.inputs self.new.desk ≡ D.inputs self.old.desk }
     {
         let Some(mut watch) = self.watch.take() else {
             return;
         };
-        if matches!(status, Status::Done | Status::Refusals)
+        if is_whole
             && watch.finish().is_ok()
             && let Some(silence) = watch.silence()
         {
@@ -129,7 +129,7 @@ impl<'a, D: Desk + Drop, R: Eprint + AllocGlobal + Drop> Watched<'a, D, R> {
         }
     }
 
-    // Watches what was read.
+    /// Watches what was read.
     fn saw(&mut self, input: u32, piece: &[u8])
         ensures { self.new.desk ≡ self.old.desk }
     {
@@ -140,7 +140,7 @@ impl<'a, D: Desk + Drop, R: Eprint + AllocGlobal + Drop> Watched<'a, D, R> {
         }
     }
 
-    // Watches what was written.
+    /// Watches what was written.
     fn wrote(&mut self, text: &[u8], count: usize)
         ensures { self.new.desk ≡ self.old.desk }
     {
@@ -157,7 +157,7 @@ impl<'a, D: Desk + Drop, R: Eprint + AllocGlobal + Drop> Watched<'a, D, R> {
     }
 }
 
-// What is said of a log without marks.
+/// What is said of a log without marks.
 fn no_mark(is_whole: bool) -> &'static str {
     if is_whole {
         "no 'clock' and no 'end' came in this log, and recognitions come at these alone"

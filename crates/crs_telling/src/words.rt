@@ -1,16 +1,17 @@
-// The words of the command line, and what is told of wrong ones.
+//! The words of the command line, and what is told of wrong ones.
+
 use crate::telling::{shown, shown_name};
 use crs_hints::command_hint;
 use std::io::ErrorKind;
 use std::rt::Env;
 use std::{env, io, str};
 
-// How many words are looked through for one that isn't UTF-8, and how many bytes of each.
+/// How many words are looked through for one that isn't UTF-8, and how many bytes of each.
 const LOOKED_AT: usize = 100;
 
 const ROOM: usize = 4096;
 
-// The words after the program's name.
+/// The words after the program's name.
 pub fn words_of(rt: &(impl Env + AllocGlobal)) -> io::Result<Vec<String>> {
     let mut words = Vec::new(rt.alloc());
     for word in env::args(rt)?.skip(1) {
@@ -19,7 +20,7 @@ pub fn words_of(rt: &(impl Env + AllocGlobal)) -> io::Result<Vec<String>> {
     Ok(words)
 }
 
-// Says which word is wrong, where the words are no command.
+/// Says which word is wrong, where the words are no command.
 pub fn explain_words(rt: &(impl Eprint + AllocGlobal), words: &[String]) -> io::Result<()> {
     let Some(hint) = command_hint(words) else {
         return Ok(());
@@ -29,7 +30,7 @@ pub fn explain_words(rt: &(impl Eprint + AllocGlobal), words: &[String]) -> io::
     eprintln!(rt; "crs: '{word}' {sentence}")
 }
 
-// Says which word isn't UTF-8, where one of the first isn't.
+/// Says which word isn't UTF-8, where one of the first isn't.
 pub fn explain_bytes(rt: &(impl Env + Eprint + AllocGlobal)) -> io::Result<()> {
     let mut buf = [0; ROOM];
     for number in 1..LOOKED_AT {
