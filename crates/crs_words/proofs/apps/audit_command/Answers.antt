@@ -1,0 +1,8 @@
+use Rattle.crs_words.proofs.Adding.{added}
+use Rattle.crs_words.proofs.apps.audit_command.Goals as goal
+
+pub returns : goal.returns
+returns c =
+    added _ _ _ _ _ c.in_ok-command.ensures c.position_of-3.ensures.local c.position_of-3.ensures.rule
+    (added _ _ _ _ _ c.in_ok-arg-2.ensures c.position_of-2.ensures.local c.position_of-2.ensures.rule
+    (added _ _ _ _ _ c.in_ok-arg.ensures c.position_of.ensures.local c.position_of.ensures.rule c.plain_command.ensures))

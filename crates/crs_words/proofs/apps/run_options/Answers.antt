@@ -1,0 +1,9 @@
+use Rattle.crs_words.proofs.Adding.{added}
+use Rattle.crs_words.proofs.apps.run_options.Goals as goal
+
+pub returns : goal.returns
+returns c =
+    added _ _ _ _ _ c.in_ok-command.ensures c.valued_of.ensures.local c.valued_of.ensures.rule
+    (added _ _ _ _ _ c.in_ok-arg-3.ensures c.flag_of-3.ensures.local c.flag_of-3.ensures.rule
+    (added _ _ _ _ _ c.in_ok-arg-2.ensures c.flag_of-2.ensures.local c.flag_of-2.ensures.rule
+    (added _ _ _ _ _ c.in_ok-arg.ensures c.flag_of.ensures.local c.flag_of.ensures.rule c.plain_command.ensures)))
