@@ -8,7 +8,7 @@ ghost use Rattle.crs_parse.specs.Grows.{Grows};
 ghost use Rattle.crs_parse.specs.Overfull.{IsOverfull};
 
 use crs_base::{SymRefused, Symbols};
-use crs_grammar::{Body, Declaration, Pattern, Statement, Term};
+use crs_grammar::{Body, Declaration, Pattern, Statement, Term, Window};
 use std::alloc::{AllocError, Global};
 
 fn push_term<'a>(out: &mut Vec<&'a [u8]>, term: &Term<'a>) -> Result<(), AllocError>
@@ -98,30 +98,49 @@ fn push_named<'a>(
     push_values(out, values)
 }
 
+fn push_placed<'a>(
+    out: &mut Vec<&'a [u8]>,
+    pattern: &Pattern<'a>,
+    point: &'a [u8],
+) -> Result<(), AllocError>
+    ensures { OnOk result (map (λ t. t.now) out.new.items ≡ map (λ t. t.now) out.old.items ++ faults.pattern_symbols (seen.pattern_of pattern.now) ++ point.now ∷ []) }
+{
+    push_pattern(out, pattern)?;
+    out.push(point)?;
+    Ok(())
+}
+
+fn push_window<'a>(out: &mut Vec<&'a [u8]>, window: &Window<'a>) -> Result<(), AllocError>
+    ensures { OnOk result (map (λ t. t.now) out.new.items ≡ map (λ t. t.now) out.old.items ++ faults.body_symbols (seen.body_of window.now.body) ++ window.now.from.point.now ∷ window.now.to.point.now ∷ []) }
+{
+    push_body(out, &window.body)?;
+    push_two(out, window.from.point, window.to.point)
+}
+
+fn push_statement<'a>(out: &mut Vec<&'a [u8]>, statement: &Statement<'a>) -> Result<(), AllocError>
+    ensures { OnOk result (map (λ t. t.now) out.new.items ≡ map (λ t. t.now) out.old.items ++ faults.symbols_of (seen.statement_of statement.now)) }
+{
+    match statement {
+        Statement::Happens(event) => push_placed(out, &event.pattern, event.point),
+        Statement::Point(name) => {
+            out.push(*name)?;
+            Ok(())
+        }
+        Statement::Between(distance) => push_two(out, distance.to, distance.from),
+        Statement::Among(name, values) => push_named(out, name, values),
+        Statement::Differ(left, right) => push_two(out, left, right),
+        Statement::Over(window) => push_window(out, window),
+        Statement::Emits(emission) => push_placed(out, &emission.pattern, emission.point),
+        Statement::Close => Ok(()),
+    }
+}
+
 /// The symbols of a statement.
 pub fn symbols_of<'a>(alloc: Global, statement: &Statement<'a>) -> Result<Vec<&'a [u8]>, AllocError>
     ensures { IfOk result (λ v. map (λ t. t.now) v.items ≡ faults.symbols_of (seen.statement_of statement.now)) }
 {
     let mut out = Vec::new(alloc);
-    match statement {
-        Statement::Happens(event) => {
-            push_pattern(&mut out, &event.pattern)?;
-            out.push(event.point)?;
-        }
-        Statement::Point(name) => out.push(*name)?,
-        Statement::Between(distance) => push_two(&mut out, distance.to, distance.from)?,
-        Statement::Among(name, values) => push_named(&mut out, name, values)?,
-        Statement::Differ(left, right) => push_two(&mut out, left, right)?,
-        Statement::Over(window) => {
-            push_body(&mut out, &window.body)?;
-            push_two(&mut out, window.from.point, window.to.point)?;
-        }
-        Statement::Emits(emission) => {
-            push_pattern(&mut out, &emission.pattern)?;
-            out.push(emission.point)?;
-        }
-        Statement::Close => {}
-    }
+    push_statement(&mut out, statement)?;
     Ok(out)
 }
 
