@@ -1,6 +1,6 @@
 -- Lags of plans, as those of their chronicles.
-use Rattle.std.proofs.Common.{◌≡◌, ◌⊎◌, inl, inr, refl, sym, subst, ◌∙◌, ap, ℕ, suc, ◌≤◌, ◌+◌, List, [], ◌∷◌, map, zip, length, Option, Some}
-use Rattle.std.specs.Prelude.{ℤ, take, slice_get, option_map}
+use Rattle.std.proofs.Common.{◌≡◌, inl, inr, refl, sym, subst, ◌∙◌, ap, ℕ, suc, ◌≤◌, ◌+◌, List, [], ◌∷◌, map, zip, length}
+use Rattle.std.specs.Prelude.{take, option_map}
 use Rattle.std.specs.declared.rc.Rc.{Rc}
 use Rattle.std.specs.Global.{Global}
 use Rattle.std.specs.List.{AllByRecursion}
@@ -14,7 +14,6 @@ use Rattle.crs_model.specs.declared.chronicle.Chronicle.{Chronicle}
 use Rattle.crs_model.specs.declared.models.ModelRefused.{ModelRefused}
 use Rattle.crs_model.specs.declared.models.ModelRefused.TheVariants.{At, Memory}
 use Rattle.crs_model.specs.declared.plan.Plan.{Plan}
-use Rattle.crs_model.specs.Hierarchy.{AreStrata}
 use Rattle.crs_model.specs.Plans.{IsProper, chronicle}
 use Rattle.crs_model.specs.SeenModels.{event_of, chronicle_of}
 use Rattle.crs_model.specs.ShortLags.{AreSlow, AreLags, AreInTime, ClosesSlow, first_lags, HaveShortLags}

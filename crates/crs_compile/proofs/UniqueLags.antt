@@ -1,14 +1,13 @@
 -- There are one lag and one stratum of each chronicle.
 use Rattle.std.proofs.Common.{◌≡◌, ◌⊎◌, inl, inr, refl, ap, sym, subst, ◌∙◌, ◌<◌, ◌≤◌, ◌+◌, ℕ, zero, suc, List, [], ◌∷◌, ◌++◌, length, map, zip, Option, Some, append_assoc, arith}
-use Rattle.std.specs.Prelude.{ℤ, pos, ◌+ℤ◌, ◌-ℤ◌, None, option_map, take, slice_get}
+use Rattle.std.specs.Prelude.{ℤ, pos, ◌+ℤ◌, ◌-ℤ◌, option_map, take, slice_get}
 use Rattle.std.specs.List.{AllZip, AllByRecursion}
-use Rattle.std.proofs.lemmas.List.{append-nil}
 use Rattle.crs_base.specs.Words.{IsIn}
 use Rattle.crs_base.proofs.Words.{in_append, in_append_left}
 use Rattle.crs_model.specs.Models.{Anchor, Window, Emit, Chronicle, Name}
 use Rattle.crs_model.specs.ProperModels.{IsProperWindow, IsProperEmit, IsProperChronicle}
-use Rattle.crs_model.specs.Reach.{Bounds, IsZero}
-use Rattle.crs_model.specs.Hierarchy.{IsGreatest, Feeds, AreInOrder, IsAbove, AreStrata, end_span, IsEmitSpan, IsLag, IsLagOf}
+use Rattle.crs_model.specs.Reach.{IsZero}
+use Rattle.crs_model.specs.Hierarchy.{IsGreatest, Feeds, AreInOrder, IsAbove, AreStrata, IsEmitSpan, IsLag}
 use Rattle.crs_model.specs.ShortLags.{AreSlow, AreLags, AreInTime, ClosesSlow}
 use Rattle.crs_compile.proofs.Unique.{equal_spans, Agree, minimal_agree, AreBelow}
 

@@ -9,7 +9,7 @@ use Rattle.crs_base.specs.Lines.{Line}
 use Rattle.crs_base.specs.Words.{IsIn}
 use Rattle.crs_base.proofs.Alls.{all_each, all_put}
 use Rattle.crs_base.proofs.Texts.{bytes_same, same_bytes}
-use Rattle.crs_base.proofs.Words.{in_append, in_map_back, in_flat_map_back, in_from_each}
+use Rattle.crs_base.proofs.Words.{in_append, in_map_back, in_from_each}
 use Rattle.crs_grammar.specs.Statements.{Event, Emission, Body, NoEvent, Occurs, Hold, Window, Heading, Statement, Message, Attribute, Derived, Begin, Happens, Point, Between, Among, Differ, Over, Emits, Close, is_inside}
 use Rattle.crs_model.specs.Hierarchy as h
 use Rattle.crs_model.specs.Models as m

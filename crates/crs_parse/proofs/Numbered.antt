@@ -8,7 +8,7 @@ use Rattle.crs_model.specs.Models as m
 use Rattle.crs_model.specs.Renaming.{text_in, renamed_term, renamed_pattern, renamed_event, renamed_set, renamed_body, renamed_window, renamed_emit, renamed_chronicle, renamed_kind, renamed_name, renamed_models, IsTermOf, IsPatternOf, IsBodyOf, IsChronicleOf, IsKindOf, AreModelsOf}
 use Rattle.crs_grammar.specs.Statements.{Term, Value, Variable, Any, Pattern, Body, NoEvent, Occurs, Hold}
 use Rattle.crs_parse.specs.Faults.{Kind, OfMessage, OfAttribute, OfDerived, is_derived, Name, Written, Reading}
-use Rattle.crs_parse.specs.Meant.{term_of, change_of, pattern_of, event_of, body_of, window_of, emit_of, set_of, points_of, chronicle_of, kind_of, name_of, that, names_that, models_in}
+use Rattle.crs_parse.specs.Meant.{term_of, change_of, pattern_of, event_of, body_of, window_of, emit_of, set_of, points_of, chronicle_of, kind_of, name_of, names_that, models_in}
 use Rattle.crs_parse.specs.HeldStatements.{IsHeld, IsHeldTerm, AreHeldTerms, IsHeldPattern, IsHeldBody, IsHeldChronicle, IsHeldKind, IsHeldName, IsHeldReading}
 
 module _ {A B : Type 0} (P : A → Type 0) (Q : B → Type 0) where

@@ -17,9 +17,9 @@ use Rattle.crs_stn.specs.Bound.{IsBoundBelow}
 use Rattle.crs_model.specs.Models as m
 use Rattle.crs_model.specs.Bindings.{TermIsBelow, PatternIsBelow}
 use Rattle.crs_model.specs.Proper.{term_has, terms_have, change_has, pattern_has, IsNamed}
-use Rattle.crs_grammar.specs.Statements.{Term, Value, Variable, Any, Pattern, Event, Emission, Shift, Here, Later, Earlier, Anchor, Body, NoEvent, Occurs, Hold, Distance}
+use Rattle.crs_grammar.specs.Statements.{Term, Value, Variable, Any, Pattern, Event, Shift, Here, Later, Earlier, Anchor, Body, NoEvent, Occurs, Hold, Distance}
 use Rattle.crs_parse.specs.Faults.{Kind, OfMessage, OfAttribute, OfDerived, is_derived, Name, Written, Reading, is_of, suits, is_attribute, is_point, is_any, event_points, variable_in, variables_in, variables_of, change_terms, lacks, change_lacks, pattern_lacks, body_lacks, shift_size}
-use Rattle.crs_parse.specs.Meant.{place_in, points_of, term_of, change_of, pattern_of, body_of, event_of, offset_of, anchor_of, window_of, emit_of, that, names_that, bounds_of, set_of, differ_of, chronicle_of, kind_of, name_of, models_in}
+use Rattle.crs_parse.specs.Meant.{place_in, points_of, term_of, change_of, pattern_of, body_of, event_of, offset_of, anchor_of, window_of, emit_of, names_that, bounds_of, set_of, differ_of, chronicle_of, kind_of, name_of, models_in}
 use Rattle.crs_parse.specs.HeldStatements.{IsNear, AreNear, IsHeldEvent, IsHeldWindow, IsHeldEmission, IsHeldName, IsFirmBody, IsHeldChronicle, IsHeldReading}
 use Rattle.crs_model.specs.ProperModels as p
 use Rattle.crs_parse.proofs.Faultless.{not_false}

@@ -10,7 +10,7 @@ use Rattle.crs_base.specs.Symbols.{with_texts}
 use Rattle.crs_base.proofs.Words.{in_append_left}
 use Rattle.crs_base.proofs.Texts.{bytes_same, same_bytes}
 use Rattle.crs_base.proofs.Alls.{all_put, all_each}
-use Rattle.crs_grammar.specs.Statements.{Term, Pattern, Event, Emission, Body, NoEvent, Occurs, Hold, Heading, Statement, Message, Attribute, Derived, Begin, Happens, Point, Between, Among, Differ, Over, Emits, Close}
+use Rattle.crs_grammar.specs.Statements.{Term, Pattern, Event, Body, NoEvent, Occurs, Hold, Heading, Statement, Message, Attribute, Derived, Begin, Happens, Point, Between, Among, Differ, Over, Emits, Close}
 use Rattle.crs_parse.specs.Faults.{Kind, OfMessage, OfAttribute, OfDerived, Name, Written, is_of, name_of, suits, is_attribute, is_derived, is_unnamed, is_not_derived, is_misfit, is_no_attribute, has_other_arity, is_point, event_points, variables_of, pattern_lacks, body_lacks, with_statement, begun, body_has_no_name, body_has_wrong_arity}
 use Rattle.crs_base.proofs.WithTexts.{all_with, known_behind, known_put, known_left}
 use Rattle.crs_parse.proofs.Faultless.{IsFaultless, not_false, not_le}

@@ -1,4 +1,4 @@
-use Rattle.std.proofs.Common.{◌∙◌, ap, sym, map, option_map, ◌+◌, Bor, List, ℕ}
+use Rattle.std.proofs.Common.{◌∙◌, ap, sym, map, option_map, ◌+◌}
 use Rattle.crs_base.specs.Lines.{lines_of}
 use Rattle.crs_grammar.specs.SeenStatements as seen
 use Rattle.crs_parse.specs.Faults as faults
