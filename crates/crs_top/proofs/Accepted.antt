@@ -11,12 +11,10 @@ use Rattle.crs_model.specs.Reach.{Bounds}
 use Rattle.crs_model.specs.ShortLags.{AreLags}
 use Rattle.crs_layers.specs.Strata.{Placed, IsPlaced}
 use Rattle.crs_layers.proofs.Beginning.{zipped_length}
-use Rattle.crs_layers.proofs.StayingOn.{what_is_read_stays}
 use Rattle.crs_parse.proofs.ReadProper.{read_proper}
 use Rattle.crs_session.specs.Laws.{placed_by, ArePlaced}
-use Rattle.crs_session.specs.Texts.{Frame, setting_of}
+use Rattle.crs_session.specs.Texts.{Frame}
 use Rattle.crs_top.specs.ModelTexts.{IsAccepted}
-use Rattle.crs_top.specs.Staying.{RecognitionsStay}
 
 pub are_placed : (cite : Bool) (symbols entries : ℕ) (text : List ℕ) (f : Frame) → IsAccepted cite symbols entries text f → ArePlaced f.models.chronicles f.placed
 are_placed cite symbols entries text f a = record {
@@ -64,10 +62,6 @@ each_placed cite symbols entries text f a =
     let strata : length t.strata ≡ length cs = sym (zipped_length _ cs t.strata t.are_strata) in
     let lags : length t.lags ≡ length cs = sym (zipped_length _ cs t.lags t.are_lags) in
     subst (AllByRecursion IsPlaced) (sym a.placed) (each_by cs t.strata t.lags t.are_lags (λ i. t.fast (length cs) (omega arith) (inl (among_all (length cs) t.strata t.lags strata lags i))))
-
-pub recognitions_stay : RecognitionsStay
-recognitions_stay cite symbols entries models f lines further effects later s t a =
-    what_is_read_stays (setting_of f) f.texts lines effects s further later t (each_placed cite symbols entries models f a)
 
 -- a text is accepted as the models of one frame
 pub one_frame : (cite : Bool) (symbols entries : ℕ) (text : List ℕ) (f g : Frame) → IsAccepted cite symbols entries text f → IsAccepted cite symbols entries text g → f ≡ g

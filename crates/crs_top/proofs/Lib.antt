@@ -14,17 +14,6 @@ pub mod MadeLogs
 pub mod Unrefused
 pub mod Preparing
 pub mod Tables
-pub mod EmitSymbols
-pub mod AlikeStrata
-pub mod Parting
-pub mod Rearranging
-pub mod CitedWords
-pub mod CitedModels
-pub mod CitedLines
-pub mod CitedMarks
-pub mod CitedRefusals
-pub mod CitedAudit
-mod RearrangedRows
 pub mod Loads
 pub mod Listed
 mod Rows

@@ -14,7 +14,7 @@ use Rattle.crs_session.specs.Session.{Represents, IsUncounted}
 use Rattle.crs_top.specs.Summing.{TakesLog}
 use Rattle.crs_session.specs.Taking.{Takes, TakesPiece, TakesRest}
 use Rattle.crs_session.specs.Tallies.{AllLive, AreCounts, IsSummary, capped, started, together, tally_of, refused_in, recognitions_in}
-use Rattle.crs_session.specs.Texts.{Frame, setting_of, start_of, has_refused, SomeRefused, IsTraceOf, IsLogText}
+use Rattle.crs_session.specs.Texts.{Frame, setting_of, start_of, SomeRefused, IsTraceOf, IsLogText}
 use Rattle.crs_session.specs.Written.{Written, unwritten, joined}
 use Rattle.crs_session.proofs.Counting.{positive, some_counted}
 use Rattle.crs_session.proofs.Living.{held_in, live_in, kept_is}

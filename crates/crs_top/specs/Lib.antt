@@ -18,6 +18,3 @@ pub mod Opening
 pub mod PreparedMerged
 pub mod Summing
 pub mod CommandOutcomes
-pub mod Staying
-pub mod Rearranged
-pub mod CitedTexts

@@ -4,7 +4,6 @@
 mod auditing;
 mod drilling;
 mod feeds;
-mod laws;
 mod limits;
 mod listing;
 mod loading;
@@ -21,7 +20,6 @@ mod status;
 mod table;
 
 pub use auditing::{CHECKED_LIMIT, plans_for_audit};
-pub use laws::{cited_texts_have_no_fault, rearranged_logs_have_one_text, recognitions_stay};
 pub use limits::{Limits, STANDARD};
 pub use run::{run_program, run_with};
 pub use status::Status;

@@ -19,10 +19,10 @@ use Rattle.crs_layers.specs.StrataViews.{views_from}
 use Rattle.crs_layers.proofs.OneRun.{one_run}
 use Rattle.crs_session.specs.Laws.{placed_by}
 use Rattle.crs_session.specs.Texts.{Frame, LogEntry, IsTraceOf, text_of, setting_of, start_of, has_refused}
-use Rattle.crs_top.specs.Rearranged.{Part, Ending, AtClock, AtEnd, IsRearranged, parts_of, items_of, NoneIsRefused, RearrangedLogsHaveOneText}
-use Rattle.crs_top.proofs.AlikeStrata.{Match, MarkAlike, StratumAlike, mark_alike, answers_same}
-use Rattle.crs_top.proofs.EmitSymbols.{IsEmitting, models_emitting}
-use Rattle.crs_top.proofs.Parting.{weight, Follow, FollowAll, horizons, IsMarkedText, IsEndText, IsPartsText, parted_text}
+use Rattle.crs_laws.specs.Rearranged.{Part, Ending, AtClock, AtEnd, IsRearranged, parts_of, items_of, NoneIsRefused, RearrangedLogsHaveOneText}
+use Rattle.crs_laws.proofs.AlikeStrata.{Match, MarkAlike, StratumAlike, mark_alike, answers_same}
+use Rattle.crs_laws.proofs.EmitSymbols.{IsEmitting, models_emitting}
+use Rattle.crs_laws.proofs.Parting.{weight, Follow, FollowAll, horizons, IsMarkedText, IsEndText, IsPartsText, parted_text}
 
 module _ (c : Setting) (emitting : AllByRecursion (λ p. IsEmitting p.chronicle) c.placed) where
   followed : (es fs : List Event) (xs ys us vs : List LogEntry) → ((z : Key) → sum_by (weight c z) fs ≡ sum_by (weight c z) es)

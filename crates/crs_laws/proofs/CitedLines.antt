@@ -20,8 +20,8 @@ use Rattle.crs_log.specs.Items.{Event, IsChange}
 use Rattle.crs_log.proofs.ReadEntries.{IsRead}
 use Rattle.crs_report.specs.OutputLines.{mark_text, point_text, value_text, number_text, cites_text, recognition_line}
 use Rattle.crs_audit.specs.Claims.{Claims, said_of}
-use Rattle.crs_top.proofs.CitedModels.{IsCitable}
-use Rattle.crs_top.proofs.CitedWords.{is_dark, IsWord, AreWords, spaced, spaced_few, number_word, number_words, AreSmall, IsEarly, mark_few, claim_words, claim_line, IsClaimLine, claim_said, claim_plain}
+use Rattle.crs_laws.proofs.CitedModels.{IsCitable}
+use Rattle.crs_laws.proofs.CitedWords.{is_dark, IsWord, AreWords, spaced, spaced_few, number_word, number_words, AreSmall, IsEarly, mark_few, claim_words, claim_line, IsClaimLine, claim_said, claim_plain}
 
 -- ---- symbols
 

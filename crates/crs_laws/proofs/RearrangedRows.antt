@@ -3,7 +3,7 @@ use Rattle.std.proofs.Common.{◌≡◌, [], ◌∷◌, refl, Some, None, rules}
 use Rattle.std.specs.Prelude.{codes}
 use Rattle.crs_base.specs.Lines.{lines_of}
 use Rattle.crs_log.specs.Items.{Event}
-use Rattle.crs_top.specs.Rearranged.{AreRearranged, AtClock, parts_of, items_of}
+use Rattle.crs_laws.specs.Rearranged.{AreRearranged, AtClock, parts_of, items_of}
 
 abbrev a_at_1 : Event
 a_at_1 = record { date = 1; name = codes "a"; args = []; change = None }

@@ -10,7 +10,7 @@ use Rattle.crs_report.specs.declared.refusals.Fault.{Fault}
 use Rattle.crs_report.specs.declared.refusals.Fault.TheVariants.{Long, Form, Order, Back, Late, Arity, Value, Full, Values, Flood}
 use Rattle.crs_report.specs.OutputLines.{fault_text, refusal_line}
 use Rattle.crs_audit.specs.Claims.{Other, said_of}
-use Rattle.crs_top.proofs.CitedWords.{digits_said, digits_plain, plain_both}
+use Rattle.crs_laws.proofs.CitedWords.{digits_said, digits_plain, plain_both}
 
 -- ---- the digits of any number
 

@@ -13,7 +13,7 @@ use Rattle.crs_log.specs.Reading.{Given, Plain, Long}
 use Rattle.crs_log.specs.Run.{Setting, State, Outcome, Passed, Refused, Accepted, Marked, TooLong, Form, Order, Back, Late, Arity, Value, Full, Values, horizon_at, with_entry, after_named, after_verdict, after_ordered, after_what, after_line}
 use Rattle.crs_log.proofs.ItemLaw.{item_sound}
 use Rattle.crs_log.proofs.Staying.{in_range, clock_read}
-use Rattle.crs_top.proofs.CitedWords.{IsEarly}
+use Rattle.crs_laws.proofs.CitedWords.{IsEarly}
 
 event_in : (line : List ℕ) (o : Option Item) → item_of line ≡ o → (e : Event) → what_is o ≡ Is (Happens e) → e.date < 2 ^ 40
 event_in line None k e h = absurd cc

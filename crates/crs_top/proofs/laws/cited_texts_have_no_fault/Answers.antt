@@ -1,5 +1,0 @@
-use Rattle.crs_top.proofs.CitedAudit.{cited_texts_have_no_fault}
-use Rattle.crs_top.proofs.laws.cited_texts_have_no_fault.Goals as goal
-
-pub returns : goal.returns
-returns c = cited_texts_have_no_fault
