@@ -29,7 +29,7 @@ use Rattle.crs_layers.specs.Strata.{Placed, Stratum, symbols_at, entry_by, given
 use Rattle.crs_layers.specs.StrataAnswers.{AreNew}
 use Rattle.crs_layers.specs.StrataViews.{view_in, views_from, view_at}
 use Rattle.crs_report.proofs.TwinLines.{line_same}
-use Rattle.crs_session.specs.Texts.{LogEntry, answer_line}
+use Rattle.crs_frames.specs.Frames.{LogEntry, answer_line}
 use Rattle.crs_laws.proofs.EmitSymbols.{IsEmitting, IsGiven, gives_read}
 
 -- ---- accepted entries

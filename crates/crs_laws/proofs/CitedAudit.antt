@@ -32,14 +32,15 @@ use Rattle.crs_audit.specs.Audits as audit
 use Rattle.crs_audit.specs.Audits.{Ground, Earlier, AreCited, Unless, IsVerdict, IsLineAudit, IsAuditFrom, view_at}
 use Rattle.crs_audit.specs.Claims.{Said}
 use Rattle.crs_audit.specs.Notes.{Note, note_of, notes_of, number_of, last_view}
-use Rattle.crs_top.specs.AuditOutcomes.{ground_of}
+use Rattle.crs_commands.specs.AuditOutcomes.{ground_of}
 use Rattle.crs_laws.specs.CitedTexts.{CitedTextsHaveNoFault}
 use Rattle.crs_layers.specs.Laws.{flat}
 use Rattle.crs_session.proofs.Lone.{traces_without_emits_are_lone}
 use Rattle.crs_session.specs.Laws.{lone_text}
 use Rattle.crs_session.specs.Tallies as session
-use Rattle.crs_session.specs.Texts.{Frame, log_setting, fault_of, answer_line, line_text}
-use Rattle.crs_top.proofs.Accepted.{are_placed}
+use Rattle.crs_frames.specs.Frames.{Frame, log_setting, fault_of, answer_line}
+use Rattle.crs_session.specs.Texts.{line_text}
+use Rattle.crs_commands.proofs.Accepted.{are_placed}
 use Rattle.crs_laws.proofs.CitedLines.{arrivals, cited_line, line_is, of_read, HasLine, has_line, line_said, line_plain, line_some}
 use Rattle.crs_laws.proofs.CitedMarks.{IsSmallEntry, AreSmallEntries, Leaves, leaves}
 use Rattle.crs_laws.proofs.CitedModels.{IsCitable, HaveOwnNames, models_citable, found_by_name, one_of_a_name}

@@ -27,7 +27,8 @@ use Rattle.crs_layers.specs.Runs.{Setting, State, Effect, IsAfter, IsStep, views
 use Rattle.crs_layers.specs.Strata.{Stratum, with_logged, behind, horizon_behind, IsMarkFrom}
 use Rattle.crs_layers.specs.StrataAnswers.{AreNew, AreAnswers}
 use Rattle.crs_layers.specs.StrataViews.{views_from}
-use Rattle.crs_session.specs.Texts.{LogEntry, answer_line, line_text, flood_text, text_of, is_refused, has_refused}
+use Rattle.crs_frames.specs.Frames.{LogEntry, answer_line, is_refused}
+use Rattle.crs_session.specs.Texts.{line_text, flood_text, text_of, has_refused}
 use Rattle.crs_laws.specs.Rearranged.{Part, Ending, AtClock, AtEnd, items_in, items_of, led_by, parts_of}
 use Rattle.crs_laws.proofs.AlikeStrata.{filter_last}
 

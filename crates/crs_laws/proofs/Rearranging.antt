@@ -17,8 +17,8 @@ use Rattle.crs_layers.specs.Runs.{Setting, State, Effect}
 use Rattle.crs_layers.specs.Strata.{Stratum, empty, strata_count}
 use Rattle.crs_layers.specs.StrataViews.{views_from}
 use Rattle.crs_layers.proofs.OneRun.{one_run}
-use Rattle.crs_session.specs.Laws.{placed_by}
-use Rattle.crs_session.specs.Texts.{Frame, LogEntry, IsTraceOf, text_of, setting_of, start_of, has_refused}
+use Rattle.crs_frames.specs.Frames.{placed_by, Frame, LogEntry}
+use Rattle.crs_session.specs.Texts.{IsTraceOf, text_of, setting_of, start_of, has_refused}
 use Rattle.crs_laws.specs.Rearranged.{Part, Ending, AtClock, AtEnd, IsRearranged, parts_of, items_of, NoneIsRefused, RearrangedLogsHaveOneText}
 use Rattle.crs_laws.proofs.AlikeStrata.{Match, MarkAlike, StratumAlike, mark_alike, answers_same}
 use Rattle.crs_laws.proofs.EmitSymbols.{IsEmitting, models_emitting}

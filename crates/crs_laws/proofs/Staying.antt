@@ -1,7 +1,7 @@
 -- What was read behind some lines of a log stays so behind further ones, as each chronicle of an accepted text has its place.
 use Rattle.crs_layers.proofs.StayingOn.{what_is_read_stays}
 use Rattle.crs_session.specs.Texts.{setting_of}
-use Rattle.crs_top.proofs.Accepted.{each_placed}
+use Rattle.crs_commands.proofs.Accepted.{each_placed}
 use Rattle.crs_laws.specs.Staying.{RecognitionsStay}
 
 pub recognitions_stay : RecognitionsStay

@@ -6,8 +6,9 @@ use Rattle.crs_base.specs.Lines.{Line, bytes_of}
 use Rattle.crs_log.specs.Items.{Item, Delay, Clock, Finish, Happens, Event}
 use Rattle.crs_log.specs.ItemOf.{What, Empty, Is, Faulty, what_of}
 use Rattle.crs_layers.specs.Runs.{State, Effect}
-use Rattle.crs_top.specs.ModelTexts.{IsAccepted}
-use Rattle.crs_session.specs.Texts.{Frame, IsTraceOf, IsTextOf, has_refused}
+use Rattle.crs_outcomes.specs.ModelTexts.{IsAccepted}
+use Rattle.crs_frames.specs.Frames.{Frame}
+use Rattle.crs_session.specs.Texts.{IsTraceOf, IsTextOf, has_refused}
 
 -- the item of a line, and none where it is blank or a comment
 abbrev pub items_in : What → List Item

@@ -4,8 +4,9 @@ use Rattle.std.specs.List.{AllZip}
 use Rattle.crs_log.specs.Reading.{Given}
 use Rattle.crs_log.specs.Recognitions.{Stays}
 use Rattle.crs_layers.specs.Runs.{State, Effect, IsRun, views_of}
-use Rattle.crs_session.specs.Texts.{Frame, setting_of, start_of}
-use Rattle.crs_top.specs.ModelTexts.{IsAccepted}
+use Rattle.crs_frames.specs.Frames.{Frame}
+use Rattle.crs_session.specs.Texts.{setting_of, start_of}
+use Rattle.crs_outcomes.specs.ModelTexts.{IsAccepted}
 
 -- What is settled in a stratum stays settled, and what is recognised in it stays recognised.
 abbrev pub RecognitionsStay : Type 0

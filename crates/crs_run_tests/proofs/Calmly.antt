@@ -2,8 +2,8 @@
 use Rattle.std.proofs.Common.{◌⊎◌, inl, inr, Option, Some, None, arith}
 use Rattle.crs_desk.specs.Desk.{Told, Rose}
 use Rattle.crs_top.specs.CommandOutcomes.{CompletesCommand}
-use Rattle.crs_top.specs.RunOutcomes.{Most}
-use Rattle.crs_top.specs.declared.status.Status.{Status}
+use Rattle.crs_top.specs.Most.{Most}
+use Rattle.crs_outcomes.specs.declared.status.Status.{Status}
 use Rattle.crs_words.specs.Commands.{Command, Run, Print, Drill, Import, Audit, Feeds}
 
 pub none_rose : Rose 0 0 ⊎ Rose 0 0 → ⊥

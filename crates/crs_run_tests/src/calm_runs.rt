@@ -1,7 +1,7 @@
 ghost use Rattle.std.specs.Prelude.{◌≡◌, ◌<◌, ◌^◌, IfOk, map, string_bytes};
 ghost use Rattle.crs_desk.specs.Calm.{calm_inputs, calm_told};
 ghost use Rattle.crs_top.specs.CommandOutcomes.{CompletesCommand};
-ghost use Rattle.crs_top.specs.RunOutcomes.{most_of};
+ghost use Rattle.crs_top.specs.Most.{most_of};
 ghost use Rattle.crs_words.specs.Commands.{command_of};
 
 use crs_desk::CalmDesk;

@@ -1,7 +1,7 @@
 -- What a refused line, a delay and an accepted event bring.
 use Rattle.std.proofs.Common.{◌≡◌, ◌<◌, ◌≤◌, ◌+◌, ◌==◌, ◌||◌, ◌^◌, ℕ, suc, Bool, true, false, cond, List, [], ◌∷◌, ◌++◌, map, length, filter, nat_lt, nat_le, refl, sym, ap, subst, ◌∙◌, arith, append-nil, lt-ltb, length-append}
 use Rattle.std.proofs.Common.{Result, Ok, Err}
-use Rattle.std.specs.Prelude.{OnOk, Some, None, if◌then◌else◌}
+use Rattle.std.specs.Prelude.{OnOk}
 use Rattle.std.specs.List.{list_any}
 use Rattle.std.proofs.lemmas.Bool.{le-ltb}
 use Rattle.std.proofs.lemmas.List.{length-map}
@@ -16,7 +16,7 @@ use Rattle.crs_model.specs.Order.{in_key_order}
 use Rattle.crs_model.specs.Renaming.{text_in, renamed_entry, IsEntryOf}
 use Rattle.crs_engine.specs.Engines.{plans_of}
 use Rattle.crs_engine.specs.EngineRefusals.{answer_by}
-use Rattle.crs_engine.specs.declared.refused.Refused.TheVariants.{Stopped, Late}
+use Rattle.crs_engine.specs.declared.refused.Refused.TheVariants.{Late}
 use Rattle.crs_log.specs.Items.{Delay, Event, Happens}
 use Rattle.crs_log.specs.Known.{new_texts, texts_of, entry_of_event, known_of, Verdict, Named}
 use Rattle.crs_log.specs.Run as run
@@ -33,15 +33,18 @@ use Rattle.crs_layers.specs.StrataViews.{view_in, views_from}
 use Rattle.crs_layers.specs.Takes.{GoOnBy, TakeDelay, TakeEntry, IsAcceptedAs}
 use Rattle.crs_layers.specs.declared.layer.Layer.{Layer}
 use Rattle.crs_session.specs.declared.session.Session.{Session}
-use Rattle.crs_session.specs.Session.{Represents, Brings, BringsAll, HasModels, full_in}
+use Rattle.crs_session.specs.Session.{Represents, Brings, BringsAll, full_in}
+use Rattle.crs_frames.specs.TableTexts.{HasModels}
 use Rattle.crs_session.specs.Tallies.{AllLive, IsPeaked, with_refused}
-use Rattle.crs_session.specs.Texts.{Frame, log_setting, setting_of, fault_of}
+use Rattle.crs_frames.specs.Frames.{Frame, log_setting, fault_of}
+use Rattle.crs_session.specs.Texts.{setting_of}
 use Rattle.crs_session.specs.Written.{Written, with_text}
 use Rattle.crs_session.proofs.Counting.{counted_passed, counted_refused}
-use Rattle.crs_session.proofs.Grown.{models_grown, texts_grow}
+use Rattle.crs_frames.proofs.Grown.{models_grown, texts_grow}
 use Rattle.crs_layers.proofs.Read.{full_read}
 use Rattle.crs_session.proofs.ReadLayers.{strata_some, horizon_read}
-use Rattle.crs_session.proofs.Results.{both_ok}
+use Rattle.crs_frames.proofs.Results.{both_ok}
+use Rattle.crs_frames.proofs.Dates.{fine_by, late_by}
 
 -- where nothing is given, nothing isn't accepted
 pub none_flooded : (limit : ℕ) (ss : List (Stratum (List ℕ))) → some_flooded limit ss [] ≡ false
@@ -156,20 +159,6 @@ refuse_brings result x new n fault after out more w m is = both_ok result _ _ (B
     (λ w m f s r. refused_brings f x s r n fault (after f s) new out more (is f s r) m w)
 
 -- ---- dates
-
--- what the layers say of a date
-pub late_by : (stopped early : Bool) (date h d horizon : ℕ)
-    → Err (Late date horizon) ≡ answer_by (if stopped then Some Stopped else (if early then Some (Late d h) else None))
-    → (early ≡ true) × (date ≡ d) × (horizon ≡ h)
-late_by true early date h d horizon e = absurd cc
-late_by false true date h d horizon e = (refl, cc, cc)
-late_by false false date h d horizon e = absurd cc
-
-pub fine_by : (stopped early : Bool) (h d : ℕ)
-    → Ok tt ≡ answer_by (if stopped then Some Stopped else (if early then Some (Late d h) else None)) → early ≡ false
-fine_by true early h d e = absurd cc
-fine_by false true h d e = absurd cc
-fine_by false false h d e = refl
 
 pub date_fine : (y : LayersState) (d : ℕ) → Ok tt ≡ answer_by (test_refusal y d) → nat_lt d (horizon_in y) ≡ false
 date_fine y d h = fine_by y.stopped (nat_lt d (horizon_in y)) (horizon_in y) d h

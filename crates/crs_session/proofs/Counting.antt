@@ -7,8 +7,7 @@ use Rattle.std.proofs.lemmas.Grind.{flat_map-append}
 use Rattle.std.proofs.lemmas.List.Elements.{filter-append}
 use Rattle.crs_layers.specs.Runs.{Effect}
 use Rattle.crs_session.specs.declared.session.Counts.{Counts}
-use Rattle.crs_session.specs.Tallies.{Tally, nothing, together, capped, AreCounts, Counted, with_refused, with_flood, with_mark}
-use Rattle.crs_session.specs.Tallies.{answers_in, refused_in, recognitions_in, peak_of, tally_of, effect_tally}
+use Rattle.crs_session.specs.Tallies.{Tally, nothing, together, capped, AreCounts, Counted, with_refused, with_flood, with_mark, answers_in, refused_in, recognitions_in, peak_of, tally_of, effect_tally}
 use Rattle.crs_session.specs.Texts.{has_refused}
 
 -- ---- numbers up to a limit

@@ -1,8 +1,6 @@
-pub mod Results
 pub mod Counting
 pub mod Taken
 pub mod ReadLayers
-pub mod Grown
 pub mod Accepting
 pub mod Renamed
 pub mod Living

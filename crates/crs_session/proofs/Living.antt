@@ -34,9 +34,11 @@ use Rattle.crs_layers.proofs.Splitting.{numbered_distinct}
 use Rattle.crs_layers.proofs.AtStart.{strata_placed}
 use Rattle.crs_layers.proofs.Beginning.{zipped_length}
 use Rattle.crs_session.specs.declared.session.Session.{Session}
-use Rattle.crs_session.specs.Session.{chronicle_in, entries_in, Represents}
+use Rattle.crs_frames.specs.TableTexts.{chronicle_in, entries_in}
+use Rattle.crs_session.specs.Session.{Represents}
 use Rattle.crs_session.specs.Tallies.{AreLive, AllLive, capped}
-use Rattle.crs_session.specs.Texts.{Frame, LogEntry, setting_of}
+use Rattle.crs_frames.specs.Frames.{Frame, LogEntry}
+use Rattle.crs_session.specs.Texts.{setting_of}
 use Rattle.crs_session.proofs.Renamed.{key_renamed, dated_renamed, arrived_renamed}
 
 -- what is kept at the mark, and was recognised by then, lives

@@ -15,8 +15,9 @@ use Rattle.crs_layers.specs.Strata.{Placed}
 use Rattle.crs_layers.specs.Laws.{AreAlone, flat}
 use Rattle.crs_layers.proofs.Alone.{starts_alone, run_alone}
 use Rattle.crs_session.specs.Tallies.{answers_in}
-use Rattle.crs_session.specs.Texts.{log_setting, setting_of, start_of, line_text, effect_text, flood_text, text_of, is_refused, has_refused}
-use Rattle.crs_session.specs.Laws.{ArePlaced, placed_by, lone_text, TracesWithoutEmitsAreLone}
+use Rattle.crs_frames.specs.Frames.{log_setting, is_refused, ArePlaced, placed_by}
+use Rattle.crs_session.specs.Texts.{setting_of, start_of, line_text, effect_text, flood_text, text_of, has_refused}
+use Rattle.crs_session.specs.Laws.{lone_text, TracesWithoutEmitsAreLone}
 
 -- ---- strata
 

@@ -7,7 +7,6 @@ use Rattle.crs_model.specs.declared.recognition.Mark.{Mark}
 use Rattle.crs_model.specs.declared.recognition.Mark.TheVariants.{Clock as AtClock, Finish as AtEnd}
 use Rattle.crs_engine.specs.Engines.{plans_of}
 use Rattle.crs_engine.specs.EngineRefusals.{IsRefusedAs}
-use Rattle.crs_engine.specs.declared.refused.Refused.{Refused as Refusal}
 use Rattle.crs_engine.specs.declared.refused.Refused.TheVariants.{Stopped, Back}
 use Rattle.crs_log.specs.Items.{Item, Clock, Finish}
 use Rattle.crs_log.specs.Run as run
@@ -22,20 +21,17 @@ use Rattle.crs_layers.specs.Takes.{GoOnBy, TakeMark, IsMarkedAs}
 use Rattle.crs_layers.specs.declared.marked.Marked.{Marked as Told}
 use Rattle.crs_session.specs.declared.session.Session.{Session}
 use Rattle.crs_session.specs.Marked.{with_marked, counts_behind}
-use Rattle.crs_session.specs.Session.{Represents, Brings, BringsAll, HasModels, ArePrintable, full_in, line_in}
+use Rattle.crs_session.specs.Session.{Represents, Brings, BringsAll, full_in}
+use Rattle.crs_frames.specs.TableTexts.{HasModels, ArePrintable, line_in}
 use Rattle.crs_session.specs.Tallies.{Tally, AllLive, Counted, capped, effect_tally, with_mark, with_flood, with_refused}
-use Rattle.crs_session.specs.Texts.{Frame, log_setting, setting_of, fault_of, line_text, flood_text, effect_text, answer_line, is_refused}
+use Rattle.crs_frames.specs.Frames.{Frame, log_setting, fault_of, answer_line, is_refused}
+use Rattle.crs_session.specs.Texts.{setting_of, line_text, flood_text, effect_text}
 use Rattle.crs_session.specs.Written.{Written, with_text}
 use Rattle.crs_session.proofs.Accepting.{refuse_brings}
 use Rattle.crs_session.proofs.Counting.{counted_marked, peak_after}
 use Rattle.crs_session.proofs.Living.{held_in, held_live, kept_is}
 use Rattle.crs_session.proofs.Told.{lines_are, notices_are, all_filled, all_printable, as_many}
-
-pub fine_by : {A : Type 0} (stopped early : Bool) (full back : Refusal) (answer : A) → stopped ≡ false
-    → IsRefusedAs (if stopped then Some full else (if early then Some back else None)) (Ok answer) → early ≡ false
-fine_by true early full back answer e h = absurd (true≢false e)
-fine_by false true full back answer e h = cc
-fine_by false false full back answer e h = refl
+use Rattle.crs_frames.proofs.Clocks.{fine_by, same_by}
 
 -- a clock that was taken isn't before the last
 pub clock_fine : {A : Type 0} (y : LayersState) (t : ℕ) (answer : A) → y.stopped ≡ false → IsRefusedAs (clock_refusal y t) (Ok answer) → nat_lt t y.last ≡ false
@@ -48,12 +44,6 @@ back_by : (stopped early : Bool) (t last a b : ℕ) → stopped ≡ false
 back_by true early t last a b e h = absurd (true≢false e)
 back_by false true t last a b e h = (refl, cc, cc)
 back_by false false t last a b e h = let k = h (Back a b) refl in absurd cc
-
-pub same_by : (stopped early : Bool) (back : Refusal) (P : Type 0) → early ≡ true
-    → (IsSome (if stopped then Some Stopped else (if early then Some back else None)) → P) → P
-same_by true early back P e h = h refl
-same_by false true back P e h = h refl
-same_by false false back P e h = absurd (true≢false (sym e))
 
 -- ---- the state behind a mark
 

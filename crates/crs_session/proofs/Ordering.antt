@@ -1,16 +1,15 @@
 -- What a line's item becomes, by whether it stands in order.
 use Rattle.std.proofs.Common.{◌≡◌, Bool, true, false, cond, List, ℕ, refl, sym, ap, ◌∙◌, true≢false}
 use Rattle.std.specs.Prelude.{Option, Some, None}
-use Rattle.crs_log.specs.declared.items.Item.{Item}
-use Rattle.crs_log.specs.declared.items.Item.TheVariants.{Blank, Delay as DelayItem, Clock as ClockItem, Finish as FinishItem, Event as EventItem}
 use Rattle.crs_log.specs.Reading.{Plain}
-use Rattle.crs_log.specs.SeenItems.{what_seen, IsFaulty}
+use Rattle.crs_log.specs.SeenItems.{IsFaulty}
 use Rattle.crs_log.specs.ItemOf.{What, Empty, Is, Faulty, what_is, item_of}
 use Rattle.crs_log.proofs.ItemLaw.{item_sound}
 use Rattle.crs_log.specs.Run as run
 use Rattle.crs_log.specs.Run.{Setting, State}
 use Rattle.crs_layers.specs.Runs.{after_ordered, after_what, after_line}
-use Rattle.crs_session.specs.Session.{ordered_what, is_blank_what}
+use Rattle.crs_session.specs.Session.{ordered_what}
+use Rattle.crs_frames.specs.TableTexts.{is_blank_what}
 
 module _ (c : Setting) (full : Bool) (s : State) where
   -- an item that doesn't stand behind the end becomes what it does in order
@@ -38,10 +37,3 @@ module _ (c : Setting) (full : Bool) (s : State) where
   pub given_faulty : (n : ℕ) (bytes : List ℕ) → IsFaulty bytes → after_line c full s (Plain n bytes) ≡ (s, run.Refused run.Form)
   given_faulty n bytes h =
       (λ i. after_what c full s (cond (h.0 i) Empty (what_is (item_of bytes)))) ∙ ap (λ o. after_what c full s (what_is o)) (no_item bytes (item_of bytes) refl h)
-
-pub not_faulty : (line : List ℕ) (item : Item) → what_seen line item ≡ Faulty → ⊥
-not_faulty line Blank e = cc
-not_faulty line (DelayItem n) e = cc
-not_faulty line (ClockItem n) e = cc
-not_faulty line FinishItem e = cc
-not_faulty line (EventItem raw) e = cc

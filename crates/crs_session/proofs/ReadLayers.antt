@@ -16,7 +16,8 @@ use Rattle.crs_layers.proofs.AtStart.{some_strata}
 use Rattle.crs_layers.proofs.TextSide.{behind_seen}
 use Rattle.crs_session.specs.declared.session.Session.{Session}
 use Rattle.crs_session.specs.Session.{Represents}
-use Rattle.crs_session.specs.Texts.{Frame, setting_of}
+use Rattle.crs_frames.specs.Frames.{Frame}
+use Rattle.crs_session.specs.Texts.{setting_of}
 
 -- ---- the horizon
 

@@ -1,15 +1,12 @@
 -- One more line, and the lines that were taken.
-use Rattle.std.proofs.Common.{◌≡◌, ◌≤◌, ℕ, ◌+◌, Bool, true, false, cond, List, [], ◌∷◌, ◌++◌, length, refl, sym, ap, subst, ◌∙◌, arith, append-nil, append_assoc, eqb, get_or, take, ◌-◌, length-take-le, map}
-use Rattle.std.specs.Prelude.{if◌then◌else◌}
+use Rattle.std.proofs.Common.{◌≡◌, ℕ, Bool, true, List, [], ◌∷◌, ◌++◌, refl, sym, ap, subst, ◌∙◌, append-nil, append_assoc, map}
 use Rattle.std.specs.List.{AllZip}
-use Rattle.std.specs.Str.Lines.{strip_carriage_return}
-use Rattle.std.proofs.lemmas.Bool.{ltb-false}
 use Rattle.std.proofs.lemmas.Grind.{flat_map-append}
 use Rattle.std.proofs.lemmas.List.{map-append}
-use Rattle.crs_base.specs.Lines.{Line, lines_of, bytes_of, is_longer}
+use Rattle.crs_base.specs.Lines.{lines_of}
 use Rattle.crs_base.proofs.Alls.{all_append}
 use Rattle.crs_model.specs.declared.recognition.Recognition.{Recognition}
-use Rattle.crs_log.specs.Reading.{Reader, Given, Plain, Long, Gives, HasNoLine, given_line, given_lines, ahead, number_of}
+use Rattle.crs_log.specs.Reading.{Reader, Given, HasNoLine, given_lines, ahead, number_of}
 use Rattle.crs_log.specs.Recognitions.{View}
 use Rattle.crs_layers.specs.Runs.{State, Effect, IsStep, after_line}
 use Rattle.crs_log.proofs.Walks.{walk_one, walk_append}
@@ -17,53 +14,14 @@ use Rattle.crs_report.specs.Listeners.{notice_of}
 use Rattle.crs_session.specs.declared.session.Session.{Session}
 use Rattle.crs_session.specs.declared.session.Counts.{Counts}
 use Rattle.crs_session.specs.Notices.{notice_in, notices_of}
-use Rattle.crs_session.specs.Session.{Represents, BringsAll, IsShort, full_in}
+use Rattle.crs_session.specs.Session.{Represents, BringsAll, full_in}
 use Rattle.crs_session.specs.Taking.{Takes}
 use Rattle.crs_session.specs.Tallies.{AllLive, Counted, answers_in, views_in, tally_of}
-use Rattle.crs_session.specs.Texts.{Frame, log_setting, setting_of, effect_text, text_of}
+use Rattle.crs_frames.specs.Frames.{Frame, log_setting}
+use Rattle.crs_session.specs.Texts.{setting_of, effect_text, text_of}
 use Rattle.crs_session.specs.Written.{Written, HasEntry, unwritten, joined}
 use Rattle.crs_session.proofs.Counting.{counted_none, counted_more, tally_one, tally_append}
-
--- a line that is given whole is no longer than the limit
-abbrev IsShortBy : ℕ → Given → Type 0
-IsShortBy limit (Long n) = Unit {0}
-IsShortBy limit (Plain n bytes) = length bytes ≤ limit
-
-stripped : (raw : List ℕ) → length (strip_carriage_return raw) ≤ length raw
-stripped raw = by (eqb (get_or raw (length raw - 1) 0) 13)
-  where
-    by : (b : Bool) → length (cond b (take (length raw - 1) raw) raw) ≤ length raw
-    by true = omega (arith, length-take-le (length raw - 1) raw)
-    by false = omega arith
-
-bytes_short : (limit : ℕ) (l : Line) → length l.raw ≤ limit → length (bytes_of l) ≤ limit
-bytes_short limit l h = by l.ended
-  where
-    by : (b : Bool) → length (if b then strip_carriage_return l.raw else l.raw) ≤ limit
-    by true = let s = stripped l.raw in omega arith
-    by false = h
-
-line_by : (limit n : ℕ) (l : Line) (b : Bool) → is_longer limit l ≡ b → IsShortBy limit (cond b (Long n) (Plain n (bytes_of l)))
-line_by limit n l true e = tt
-line_by limit n l false e = bytes_short limit l (ltb-false limit (length l.raw) e)
-
-line_short : (limit n : ℕ) (l : Line) → IsShortBy limit (given_line limit n l)
-line_short limit n l = line_by limit n l (is_longer limit l) refl
-
-first_short : (limit n : ℕ) (ls : List Line) (g : Given) (gs : List Given) → given_lines limit n ls ≡ g ∷ gs → IsShortBy limit g
-first_short limit n [] g gs e = absurd (cc)
-first_short limit n (l ∷ ls) g gs e =
-    let same : given_line limit (n + 1) l ≡ g = cc in
-    subst (IsShortBy limit) same (line_short limit (n + 1) l)
-
-same_short : (g : Given) → IsShortBy 4096 g → IsShort g
-same_short (Long n) h = tt
-same_short (Plain n bytes) h = h
-
-pub given_short : (old new : Reader) (g : Given) → old.limit ≡ 4096 → Gives old g new → IsShort g
-given_short old new g e h =
-    let first = h.ahead [] (λ q. refl) in
-    (same_short g (subst (λ (n : ℕ). IsShortBy n g) e (first_short old.limit old.number (lines_of (old.rest ++ [])) g (ahead new []) first)))
+use Rattle.crs_frames.proofs.ShortLines.{no_rest}
 
 -- ---- what lines bring, and then more lines
 
@@ -175,10 +133,6 @@ pub takes_append : (f : Frame) (focus : Bool) (start : Counts) (x new : Session)
     → Takes f focus start new s (xs ++ ys) unwritten (joined a more)
 takes_append f focus start x new s xs ys a more t u =
     takes_both f focus start x new s xs ys unwritten a (joined a more) t (takes_onto f x.layers.focus x.counts new t.last ys a more u)
-
-pub no_rest : (b : Bool) (rest : List ℕ) → b ≡ true → (if b then [] else rest) ≡ rest → rest ≡ []
-no_rest true rest e h = sym h
-no_rest false rest e h = cc
 
 -- once the input ended and no line is held, all lines were given
 pub all_given : (lines ended now : Reader) (told : List Given) → ended ≡ record lines { finished = true } → now.finished ≡ ended.finished → HasNoLine now → ahead ended [] ≡ told ++ ahead now [] → ahead lines [] ≡ told

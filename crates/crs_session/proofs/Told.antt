@@ -27,8 +27,8 @@ use Rattle.crs_report.specs.Printed.{chronicle_at, AreBound, IsPrintable, line_s
 use Rattle.crs_layers.specs.Standing.{HasText}
 use Rattle.crs_layers.specs.Takes.{IsToldAs}
 use Rattle.crs_session.specs.Notices.{notice_in}
-use Rattle.crs_session.specs.Session.{line_in, ArePrintable}
-use Rattle.crs_session.specs.Texts.{answer_line}
+use Rattle.crs_frames.specs.TableTexts.{line_in, ArePrintable}
+use Rattle.crs_frames.specs.Frames.{answer_line}
 use Rattle.crs_session.specs.Written.{HasEntry}
 
 at_place : (rs : List (Rc Plan Global)) (k : ℕ) (p : Plan) → slice_get (map (λ (r : Rc Plan Global). r.value) rs) k ≡ Some p

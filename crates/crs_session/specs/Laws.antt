@@ -1,33 +1,15 @@
 -- Laws of what is written for a log.
-use Rattle.std.specs.Prelude.{◌≡◌, ℕ, ℤ, Bool, List, [], ◌∷◌, flat_map, map, Option}
+use Rattle.std.specs.Prelude.{◌≡◌, ℕ, Bool, List, [], flat_map, map}
 use Rattle.std.specs.List.{AllByRecursion, list_any}
 use Rattle.crs_base.specs.Lines.{Line}
-use Rattle.crs_model.specs.Hierarchy.{AreStrata}
-use Rattle.crs_model.specs.Models.{Chronicle}
-use Rattle.crs_model.specs.ShortLags.{AreLags}
 use Rattle.crs_log.specs.Reading.{numbered}
 use Rattle.crs_log.specs.Run as run
 use Rattle.crs_log.specs.Trace as trace
 use Rattle.crs_layers.specs.Laws.{flat}
 use Rattle.crs_layers.specs.Runs.{State, Effect}
-use Rattle.crs_layers.specs.Strata.{Placed}
 use Rattle.crs_session.specs.Tallies.{answers_in}
-use Rattle.crs_session.specs.Texts.{Frame, log_setting, IsTraceOf, IsLogText, line_text, text_of, is_refused, has_refused}
-
--- chronicles, each with one of these strata and lags
-abbrev pub placed_by : List (Chronicle (List ℕ)) → List ℕ → List (Option ℤ) → List (Placed (List ℕ))
-placed_by [] strata lags = []
-placed_by (c ∷ cs) [] lags = []
-placed_by (c ∷ cs) (k ∷ ks) [] = []
-placed_by (c ∷ cs) (k ∷ ks) (l ∷ ls) = record { chronicle = c; stratum = k; lag = l } ∷ placed_by cs ks ls
-
--- each chronicle with its own stratum and lag
-pub record ArePlaced (cs : List (Chronicle (List ℕ))) (placed : List (Placed (List ℕ))) : Type 0 where
-  pub strata : List ℕ
-  pub lags : List (Option ℤ)
-  pub are_strata : AreStrata cs strata
-  pub are_lags : AreLags cs lags
-  pub is : placed ≡ placed_by cs strata lags
+use Rattle.crs_frames.specs.Frames.{Frame, log_setting, is_refused, ArePlaced}
+use Rattle.crs_session.specs.Texts.{IsTraceOf, IsLogText, line_text, text_of, has_refused}
 
 -- A log has one text by given models and limits.
 abbrev pub LogTextIsOne : Type 0

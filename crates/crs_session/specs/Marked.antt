@@ -4,7 +4,7 @@ use Rattle.crs_layers.specs.LayerStates.{kept_in}
 use Rattle.crs_layers.specs.declared.marked.Marked.{Marked}
 use Rattle.crs_session.specs.declared.session.Session.{Session}
 use Rattle.crs_session.specs.declared.session.Counts.{Counts}
-use Rattle.crs_session.specs.Session.{line_in}
+use Rattle.crs_frames.specs.TableTexts.{line_in}
 use Rattle.crs_session.specs.Tallies.{with_mark, with_flood}
 use Rattle.crs_session.specs.Texts.{flood_text}
 use Rattle.crs_session.specs.Written.{Written, with_text, with_answer}

@@ -5,7 +5,8 @@ use Rattle.crs_log.specs.Trace.{Answer}
 use Rattle.crs_report.specs.Listeners.{Notice}
 use Rattle.crs_layers.specs.Runs.{State, Effect}
 use Rattle.crs_session.specs.Tallies.{answers_in}
-use Rattle.crs_session.specs.Texts.{Frame, IsTraceOf}
+use Rattle.crs_frames.specs.Frames.{Frame}
+use Rattle.crs_session.specs.Texts.{IsTraceOf}
 
 -- of an assignment, by the number of its chronicle
 abbrev pub notice_in : Answer → Notice

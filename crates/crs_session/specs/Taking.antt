@@ -10,7 +10,8 @@ use Rattle.crs_session.specs.declared.session.Counts.{Counts}
 use Rattle.crs_session.specs.Notices.{notices_of}
 use Rattle.crs_session.specs.Session.{Represents}
 use Rattle.crs_session.specs.Tallies.{AllLive, Counted, views_in, tally_of}
-use Rattle.crs_session.specs.Texts.{Frame, setting_of, text_of}
+use Rattle.crs_frames.specs.Frames.{Frame}
+use Rattle.crs_session.specs.Texts.{setting_of, text_of}
 use Rattle.crs_session.specs.Written.{Written, unwritten, HasEntry}
 
 -- The session stands for the state after these lines, their text is added and so are the recognitions in it, and they are counted. Levels

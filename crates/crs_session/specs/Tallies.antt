@@ -13,7 +13,8 @@ use Rattle.crs_layers.specs.Strata.{Placed}
 use Rattle.crs_layers.specs.StrataViews.{view_at}
 use Rattle.crs_layers.specs.Runs.{State, Effect, views_of}
 use Rattle.crs_session.specs.declared.session.Counts.{Counts}
-use Rattle.crs_session.specs.Texts.{Frame, setting_of, start_of, IsTraceOf, has_refused}
+use Rattle.crs_frames.specs.Frames.{Frame}
+use Rattle.crs_session.specs.Texts.{setting_of, start_of, IsTraceOf, has_refused}
 
 -- n partial assignments of the chronicle live, with the levels of its events read or not: they are open, and not recognised
 abbrev pub AreLive : Bool → Chronicle (List ℕ) → View → ℕ → Type 0

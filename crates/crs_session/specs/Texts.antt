@@ -1,38 +1,14 @@
 -- What is written for the lines of a log.
 use Rattle.std.specs.Prelude.{◌≡◌, ◌||◌, ℕ, Bool, true, false, List, [], ◌++◌, flat_map}
 use Rattle.std.specs.List.{list_any}
-use Rattle.crs_base.specs.Entry.{Entry}
 use Rattle.crs_base.specs.Lines.{Line, lines_of}
-use Rattle.crs_model.specs.declared.recognition.Mark.{Mark}
-use Rattle.crs_model.specs.Models.{Models}
 use Rattle.crs_log.specs.Reading.{numbered, whole_lines}
-use Rattle.crs_log.specs.Run as run
 use Rattle.crs_log.specs.Run.{Outcome, Passed, Refused, Accepted, Marked}
 use Rattle.crs_log.specs.Trace.{Answer}
-use Rattle.crs_report.specs.declared.refusals.Fault.{Fault}
 use Rattle.crs_report.specs.declared.refusals.Fault.TheVariants as faults
-use Rattle.crs_report.specs.OutputLines.{recognition_line, refusal_line}
-use Rattle.crs_layers.specs.Strata.{Placed}
+use Rattle.crs_report.specs.OutputLines.{refusal_line}
 use Rattle.crs_layers.specs.Runs.{Setting, State, Effect, at_start, IsRun}
-
-abbrev pub LogEntry : Type 0
-LogEntry = Entry (List ℕ)
-
--- the fault of a line, as it is printed
-abbrev pub fault_of : run.Fault → Fault
-fault_of run.TooLong = faults.Long
-fault_of run.Form = faults.Form
-fault_of run.Order = faults.Order
-fault_of (run.Back t last) = faults.Back t last
-fault_of (run.Late date horizon) = faults.Late date horizon
-fault_of run.Arity = faults.Arity
-fault_of run.Value = faults.Value
-fault_of (run.Full limit) = faults.Full limit
-fault_of (run.Values limit) = faults.Values limit
-
--- the line of an answer, in which its entries are cited or not
-abbrev pub answer_line : (cite : Bool) → Mark → Answer → List ℕ
-answer_line cite mark a = recognition_line cite a.chronicle mark a.assignment
+use Rattle.crs_frames.specs.Frames.{Frame, is_refused, log_setting, answer_line, fault_of}
 
 -- what is written for the line of this number, by what became of it: a refusal, or the lines of a mark's answers
 abbrev pub line_text : (cite : Bool) → ℕ → Outcome → List Answer → List ℕ
@@ -53,20 +29,6 @@ effect_text cite limit e = line_text cite e.number e.outcome e.answers ++ flood_
 -- what is written for lines, by what they bring
 abbrev pub text_of : (cite : Bool) → (limit : ℕ) → List Effect → List ℕ
 text_of cite limit effects = flat_map (effect_text cite limit) effects
-
--- what a log is read with: the names, chronicles and symbols of the models, each chronicle with its stratum and its lag, the limits on symbols and
--- entries, and whether the entries of recognitions are cited
-pub record Frame : Type 0 where
-  pub models : Models (List ℕ)
-  pub texts : List (List ℕ)
-  pub placed : List (Placed (List ℕ))
-  pub symbols : ℕ
-  pub entries : ℕ
-  pub cite : Bool
-
--- what the lines of a log are read with, apart from the strata
-abbrev pub log_setting : Frame → run.Setting
-log_setting f = record { names = f.models.names; symbols = f.symbols; entries = f.entries }
 
 abbrev pub setting_of : Frame → Setting
 setting_of f = record { log = log_setting f; placed = f.placed }
@@ -90,12 +52,6 @@ IsLogText f log text = IsTextOf f (lines_of log) text
 -- what is written for the lines of the bytes that a line feed ends
 abbrev pub IsWholeText : Frame → List ℕ → List ℕ → Type 0
 IsWholeText f bytes text = IsTextOf f (whole_lines bytes) text
-
-abbrev pub is_refused : Outcome → Bool
-is_refused Passed = false
-is_refused (Refused fault) = true
-is_refused (Accepted entry) = false
-is_refused (Marked mark) = false
 
 -- the line was refused, or some stratum didn't accept an entry that it was given at it
 abbrev pub has_refused : Effect → Bool

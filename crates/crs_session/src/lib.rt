@@ -8,7 +8,7 @@ mod session;
 mod step;
 
 pub use laws::{log_text_is_one, traces_without_emits_are_lone};
-pub use output::{Output, push_lines};
+pub use output::Output;
 pub use pieces::{take_piece, take_rest};
 pub use session::{Counts, Session};
-pub use step::{is_blank, take_line};
+pub use step::take_line;

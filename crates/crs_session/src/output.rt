@@ -1,12 +1,13 @@
 // What is written for the lines of a log.
 ghost use Rattle.std.specs.Prelude.{◌≡◌, ◌++◌, OnOk, flat_map};
 ghost use Rattle.crs_report.specs.OutputLines.{refusal_line};
-ghost use Rattle.crs_session.specs.Session.{ArePrintable, line_in};
+ghost use Rattle.crs_frames.specs.TableTexts.{ArePrintable, line_in};
 ghost use Rattle.crs_session.specs.Written.{unwritten, with_text, with_answer};
 
 use crs_base::{List, Symbols};
+use crs_frames::push_lines;
 use crs_model::{Plans, Recognition};
-use crs_report::{Fault, push_line_of, push_refusal_line};
+use crs_report::{Fault, push_refusal_line};
 use std::alloc::{AllocError, Global};
 use std::marker::Model;
 
@@ -71,21 +72,4 @@ impl Output {
         let Output { text, .. } = self;
         text
     }
-}
-
-/// Writes the lines of recognitions, in order, in which their entries are cited or not.
-pub fn push_lines(
-    out: &mut Vec<u8>,
-    plans: &Plans,
-    symbols: &Symbols,
-    answer: &[Recognition],
-    cite: bool,
-) -> Result<(), AllocError>
-    requires { ArePrintable plans.now symbols.now.texts answer.now }
-    ensures { OnOk result (out.new.items ≡ out.old.items ++ flat_map (line_in cite plans.now symbols.now.texts) answer.now) }
-{
-    for r in answer {
-        push_line_of(out, plans, symbols, r, cite)?;
-    }
-    Ok(())
 }

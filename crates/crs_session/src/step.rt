@@ -9,9 +9,10 @@ ghost use Rattle.crs_log.specs.SeenItems.{event_seen, text_of, what_seen, IsInRa
 ghost use Rattle.crs_log.specs.SeenNames.{name_seen, IsTextAt};
 ghost use Rattle.crs_log.specs.Known.{Named, known_of};
 ghost use Rattle.std.specs.Prelude.{map};
-ghost use Rattle.crs_session.specs.Session.{IsReady, BringsAll, IsShort, ArePrintable, full_in, ordered_what, is_blank_what};
+ghost use Rattle.crs_session.specs.Session.{IsReady, BringsAll, full_in, ordered_what};
+ghost use Rattle.crs_frames.specs.TableTexts.{IsShort, ArePrintable, is_blank_what};
 ghost use Rattle.crs_session.specs.Tallies.{with_refused};
-ghost use Rattle.crs_session.specs.Texts.{log_setting};
+ghost use Rattle.crs_frames.specs.Frames.{log_setting};
 ghost use Rattle.crs_session.specs.Written.{with_text};
 ghost use Rattle.crs_session.specs.Marked.{with_marked, counts_behind};
 ghost use Rattle.crs_report.specs.OutputLines.{refusal_line};
@@ -20,6 +21,7 @@ use crate::output::Output;
 use crate::session::Session;
 use crs_base::{Steps, Sym, Token};
 use crs_engine::Refused;
+use crs_frames::is_blank;
 use crs_layers::Marked;
 use crs_log::naming::{NameRefused, known};
 use crs_log::{EntryRefused, Item, ItemRefused, Known, Line, Raw, make_named, read_item};
@@ -177,13 +179,6 @@ fn take_event(
         Err(NameRefused::Arity) => refuse(session, number, Fault::Arity, out),
         Err(NameRefused::Value) => refuse(session, number, Fault::Value, out),
     }
-}
-
-/// Whether the line is blank or a comment.
-pub fn is_blank(item: &Item) -> bool
-    ensures { (line : Items ℕ) → result ≡ is_blank_what (what_seen line item.now) }
-{
-    matches!(item, Item::Blank)
 }
 
 /// Takes an item that doesn't stand behind the end.

@@ -1,33 +1,3 @@
-pub mod Answered
-pub mod Ordering
-pub mod Accepted
-pub mod Summing
-pub mod LogReading
-pub mod Follows
-pub mod Runs
-pub mod AuditRuns
-pub mod AuditPlans
-pub mod Wanting
-pub mod Completes
-pub mod Drilled
 pub mod MadeLogs
 pub mod Unrefused
-pub mod Preparing
-pub mod Tables
-pub mod Loads
-pub mod Listed
-mod Rows
-pub mod FeedOrder
-pub mod PairTexts
-pub mod MergedRises
-pub mod MergedSteps
-pub mod MergedEvents
-pub mod SourcePlaces
-pub mod FeedReading
-pub mod FeedTurns
-pub mod FeedSteps
-pub mod RoundEnds
-pub mod Openings
-pub mod PreparingMerged
-pub mod FeedRuns
-mod FeedRows
+pub mod Wanting

@@ -31,9 +31,10 @@ use Rattle.crs_model.specs.Models.{Models, Chronicle, Name, Message}
 use Rattle.crs_parse.specs.Faults.{Fault}
 use Rattle.crs_parse.specs.Meant.{models_read}
 use Rattle.crs_session.proofs.Lone.{traces_without_emits_are_lone}
-use Rattle.crs_top.proofs.Accepted.{are_placed}
-use Rattle.crs_top.specs.ModelTexts.{IsAccepted}
-use Rattle.crs_session.specs.Texts.{Frame, log_setting, is_refused, SomeRefused}
+use Rattle.crs_commands.proofs.Accepted.{are_placed}
+use Rattle.crs_outcomes.specs.ModelTexts.{IsAccepted}
+use Rattle.crs_frames.specs.Frames.{Frame, log_setting, is_refused}
+use Rattle.crs_session.specs.Texts.{SomeRefused}
 
 -- ---- the models
 

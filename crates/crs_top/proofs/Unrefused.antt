@@ -7,17 +7,19 @@ use Rattle.crs_drill.specs.Drill.{drill_text}
 use Rattle.crs_report.specs.Listeners.{Member}
 use Rattle.crs_report.specs.Summaries.{summary_line}
 use Rattle.crs_report.specs.declared.summary.Summary.{Summary}
-use Rattle.crs_top.specs.declared.status.Status.{Status}
-use Rattle.crs_top.specs.declared.status.Status.TheVariants.{Done, Refusals, Rejected, WriteFault, Memory, TooLong}
+use Rattle.crs_outcomes.specs.declared.status.Status.{Status}
+use Rattle.crs_outcomes.specs.declared.status.Status.TheVariants.{Done, Refusals, Rejected, WriteFault, Memory, TooLong}
 use Rattle.crs_top.specs.CommandOutcomes.{Does, IsUnrefused}
-use Rattle.crs_top.specs.Drills.{SumsUp, Drills, RefusesNothing}
-use Rattle.crs_top.specs.Logs.{ended_as, Says}
-use Rattle.crs_top.specs.RunOutcomes.{standard}
-use Rattle.crs_session.specs.Texts.{Frame, SomeRefused}
+use Rattle.crs_commands.specs.Drills.{SumsUp, Drills, RefusesNothing}
+use Rattle.crs_outcomes.specs.Status.{ended_as}
+use Rattle.crs_outcomes.specs.Writing.{Says}
+use Rattle.crs_outcomes.specs.Most.{standard}
+use Rattle.crs_frames.specs.Frames.{Frame}
+use Rattle.crs_session.specs.Texts.{SomeRefused}
 use Rattle.crs_words.specs.Commands.{Command, Run, Print, Drill, Import, Audit, Feeds, command_of}
 use Rattle.crs_words.proofs.Bounds.{drill_bounds}
 use Rattle.crs_top.proofs.MadeLogs.{none_refused}
-use Rattle.crs_top.proofs.Summing.{refused_by}
+use Rattle.crs_commands.proofs.Summing.{refused_by}
 
 -- another status than those of a log that was read to its end
 neither : (old new : Told) (status other : Status) → status ≡ other → (other ≡ Refusals → ⊥) → (other ≡ Done → ⊥) → RefusesNothing old status new

@@ -5,20 +5,20 @@ use Rattle.crs_desk.specs.Desk.{Told}
 use Rattle.crs_report.specs.Listeners.{Member, keep_members}
 use Rattle.crs_words.specs.Kinds.{kinds_of}
 use Rattle.crs_words.specs.Commands.{Command, Run, Print, Drill, Import, Audit, Feeds}
-use Rattle.crs_top.specs.declared.status.Status.TheVariants.{Memory}
+use Rattle.crs_outcomes.specs.declared.status.Status.TheVariants.{Memory}
 use Rattle.crs_top.specs.CommandOutcomes.{Does, CompletesCommand}
-use Rattle.crs_top.specs.Imports.{IsTableLog, IsTableLine}
-use Rattle.crs_top.specs.Inputs.{bytes_of}
-use Rattle.crs_top.specs.Listings.{IsListed}
-use Rattle.crs_top.specs.Loads.{Loaded, IsModelLine}
-use Rattle.crs_top.specs.Logs.{tail_of}
-use Rattle.crs_top.specs.ModelTexts.{BreaksRule, IsFaulty, IsRunFaulty}
-use Rattle.crs_top.specs.Opening.{none_taken}
-use Rattle.crs_top.specs.RunOutcomes.{Most}
-use Rattle.crs_top.proofs.AuditRuns.{audit_ended}
-use Rattle.crs_top.proofs.Loads.{nothing_read_of, ends_wanting}
-use Rattle.crs_top.proofs.RoundEnds.{nothing_read}
-use Rattle.crs_top.proofs.Runs.{run_ended}
+use Rattle.crs_commands.specs.Imports.{IsTableLog, IsTableLine}
+use Rattle.crs_outcomes.specs.Inputs.{bytes_of}
+use Rattle.crs_commands.specs.Listings.{IsListed}
+use Rattle.crs_outcomes.specs.Loads.{Loaded, IsModelLine}
+use Rattle.crs_commands.specs.Logs.{tail_of}
+use Rattle.crs_outcomes.specs.ModelTexts.{BreaksRule, IsFaulty, IsRunFaulty}
+use Rattle.crs_rounds.specs.Opening.{none_taken}
+use Rattle.crs_outcomes.specs.Most.{Most}
+use Rattle.crs_commands.proofs.AuditRuns.{audit_ended}
+use Rattle.crs_outcomes.proofs.Loads.{nothing_read_of, ends_wanting}
+use Rattle.crs_rounds.proofs.RoundEnds.{nothing_read}
+use Rattle.crs_commands.proofs.Runs.{run_ended}
 
 none_loaded : (base limit : ℕ) (old : Told) (name : List ℕ) → Loaded base base limit old name 0 0 0 [] old
 none_loaded base limit old name = record {

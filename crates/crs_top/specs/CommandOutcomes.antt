@@ -1,18 +1,20 @@
 -- What a call of the program does, by the command that its words are.
 use Rattle.std.specs.Prelude.{◌≡◌, ◌⊎◌, ℕ, List, Option, Some, None}
 use Rattle.crs_desk.specs.Desk.{Told}
-use Rattle.crs_top.specs.declared.status.Status.{Status}
-use Rattle.crs_top.specs.declared.status.Status.TheVariants.{Words, Memory}
+use Rattle.crs_outcomes.specs.declared.status.Status.{Status}
+use Rattle.crs_outcomes.specs.declared.status.Status.TheVariants.{Words, Memory}
 use Rattle.crs_report.specs.Listeners.{Member, keep_members}
 use Rattle.crs_words.specs.Kinds.{kinds_of}
 use Rattle.crs_words.specs.Commands.{Command, Run, Print, Drill, Import, Audit, Feeds, usage_text}
-use Rattle.crs_top.specs.Logs.{tail_of, Says}
-use Rattle.crs_top.specs.RunOutcomes.{Most, Runs, Completes}
-use Rattle.crs_top.specs.Listings.{Prints, CompletesPrint}
-use Rattle.crs_top.specs.Imports.{Imports, CompletesImport}
-use Rattle.crs_top.specs.AuditOutcomes.{Audits, CompletesAudit}
-use Rattle.crs_top.specs.Drills.{Drills, CompletesDrill, RefusesNothing}
-use Rattle.crs_top.specs.FeedOutcomes.{RunsFeeds, CompletesFeeds}
+use Rattle.crs_commands.specs.Logs.{tail_of}
+use Rattle.crs_outcomes.specs.Writing.{Says}
+use Rattle.crs_outcomes.specs.Most.{Most}
+use Rattle.crs_commands.specs.RunOutcomes.{Runs, Completes}
+use Rattle.crs_commands.specs.Listings.{Prints, CompletesPrint}
+use Rattle.crs_commands.specs.Imports.{Imports, CompletesImport}
+use Rattle.crs_commands.specs.AuditOutcomes.{Audits, CompletesAudit}
+use Rattle.crs_commands.specs.Drills.{Drills, CompletesDrill, RefusesNothing}
+use Rattle.crs_rounds.specs.FeedOutcomes.{RunsFeeds, CompletesFeeds}
 
 -- what a call does to the desk, whose count of inputs was base and is now, with these listeners, of whom a run keeps those that are asked
 -- for; whether levels are read decides of what is written only the numbers of a summary line; a drill opens nothing; with other words it

@@ -1,27 +1,16 @@
 // The top call.
 ghost use Rattle.std.specs.Prelude.{◌≡◌, ◌<◌, ◌≤◌, ◌+◌, ◌-◌, ◌^◌, ◌⊎◌, true, false, None, map, string_bytes};
 ghost use Rattle.crs_desk.specs.Desk.{Rose};
-ghost use Rattle.crs_session.specs.Session.{IsReady, Represents, IsUncounted};
-ghost use Rattle.crs_session.specs.Texts.{Frame, start_of};
 ghost use Rattle.crs_words.specs.Commands.{command_of};
-ghost use Rattle.crs_top.specs.Logs.{tail_of};
-ghost use Rattle.crs_top.specs.RunOutcomes.{Runs, Follows, most_of, standard};
-ghost use Rattle.crs_top.specs.Status.{HasCauses};
+ghost use Rattle.crs_outcomes.specs.Most.{most_of, standard};
+ghost use Rattle.crs_outcomes.specs.Status.{HasCauses};
 ghost use Rattle.crs_top.specs.CommandOutcomes.{Does, CompletesCommand, IsUnrefused};
 
-use crate::auditing::audit_output;
-use crate::drilling::drill;
-use crate::feeds::recognise_feeds;
-use crate::limits::{Limits, STANDARD};
-use crate::loading::{MODELS_LIMIT, MODELS_TOO_LONG, load, refuse, write_text};
-use crate::log::read_log;
-use crate::models::prepare;
-use crate::printing::print;
-use crate::status::Status;
-use crate::table::import_table;
-use crs_desk::{Desk, DeskError};
+use crs_commands::{audit_output, drill, import_table, print, recognise};
+use crs_desk::Desk;
+use crs_outcomes::{Limits, STANDARD, Status, write_text};
 use crs_report::{Listener, keep_kinds};
-use crs_session::Session;
+use crs_rounds::recognise_feeds;
 use crs_words::{Command, read_words, usage_text};
 use std::alloc::Global;
 
@@ -121,69 +110,4 @@ pub fn run_with<D: Desk>(
             ),
         ) => audit_output(alloc, desk, models, log, output, limits),
     }
-}
-
-/// Reads the models, and then the log, with the levels of events read or not.
-fn recognise<D: Desk>(
-    alloc: Global,
-    desk: &mut D,
-    models: &str,
-    log: &str,
-    limits: Limits,
-    focus: bool,
-    summary: bool,
-    cite: bool,
-    listeners: &mut Vec<Box<dyn Listener>>,
-) -> Status
-    requires { D.inputs desk.old < 2 ^ 31 }
-    ensures words { result ≡ Status.Words → ⊥ }
-    ensures causes { HasCauses (D.in_faults desk.old) (D.in_faults desk.new) (D.out_faults desk.old) (D.out_faults desk.new) result }
-    ensures least { D.inputs desk.old ≤ D.inputs desk.new }
-    ensures most { D.inputs desk.new ≤ D.inputs desk.old + 2 }
-    ensures told { D.tells ≡ true → Runs (D.inputs desk.old) (D.inputs desk.new) cite (tail_of focus summary (map (λ b. (kind b, figures b)) listeners.old.items)) (most_of limits) (D.told desk.old) models.now log.now result (D.told desk.new) }
-{
-    let text = match load(alloc, desk, models, MODELS_LIMIT, MODELS_TOO_LONG) {
-        Ok(text) => text,
-        Err(status) => return status,
-    };
-    match prepare(alloc, text.as_slice(), focus, cite, limits, desk.seed()) {
-        Ok(mut session) => follow(
-            alloc,
-            desk,
-            log,
-            limits.bytes,
-            &mut session,
-            summary,
-            listeners,
-        ),
-        Err(refused) => refuse(alloc, desk, refused),
-    }
-}
-
-/// Opens a log and reads it to its end.
-fn follow<D: Desk>(
-    alloc: Global,
-    desk: &mut D,
-    log: &str,
-    limit: u64,
-    session: &mut Session,
-    summary: bool,
-    listeners: &mut Vec<Box<dyn Listener>>,
-) -> Status
-    requires inputs { D.inputs desk.old < 2 ^ 32 - 1 }
-    requires ready { IsReady session.old }
-    requires uncounted { IsUncounted session.old }
-    ensures words { result ≡ Status.Words → ⊥ }
-    ensures causes { HasCauses (D.in_faults desk.old) (D.in_faults desk.new) (D.out_faults desk.old) (D.out_faults desk.new) result }
-    ensures least { D.inputs desk.old ≤ D.inputs desk.new }
-    ensures most { D.inputs desk.new ≤ D.inputs desk.old + 1 }
-    ensures told { D.tells ≡ true → (f : Frame) → Represents f session.old (start_of f)
-        → Follows (D.inputs desk.old) (D.inputs desk.new) (tail_of session.old.layers.focus summary (map (λ b. (kind b, figures b)) listeners.old.items)) f limit (D.told desk.old) log.now result (D.told desk.new) }
-{
-    let input = match desk.open(log) {
-        Ok(input) => input,
-        Err(DeskError::Failed) => return Status::ReadFault,
-        Err(DeskError::Memory) => return Status::Memory,
-    };
-    read_log(alloc, desk, input, limit, session, summary, listeners)
 }

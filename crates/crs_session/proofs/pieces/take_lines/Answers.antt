@@ -1,7 +1,8 @@
 use Rattle.std.proofs.Common.{◌++◌, [], ◌∷◌, ◌∙◌, ap, sym, refl, append_assoc, List}
 use Rattle.crs_log.specs.Given.{seen}
 use Rattle.crs_log.specs.Reading.{Given, Gives, ahead}
-use Rattle.crs_session.proofs.Taken.{given_short, takes_more, takes_none}
+use Rattle.crs_frames.proofs.ShortLines.{given_short}
+use Rattle.crs_session.proofs.Taken.{takes_more, takes_none}
 use Rattle.crs_session.proofs.pieces.take_lines.Goals as goal
 
 pub take_line-requires-clause-short : goal.take_line-requires-clause-short

@@ -3,7 +3,7 @@ use Rattle.crs_log.specs.Reading.{Given, ahead}
 use Rattle.crs_layers.specs.Runs.{State}
 use Rattle.crs_session.specs.Session.{Represents, IsReady}
 use Rattle.crs_session.specs.Taking.{Takes}
-use Rattle.crs_session.specs.Texts.{Frame}
+use Rattle.crs_frames.specs.Frames.{Frame}
 use Rattle.crs_session.proofs.pieces.take_lines.Given as goal
 
 abbrev pub invariant-loop-line : goal.invariant-loop-line

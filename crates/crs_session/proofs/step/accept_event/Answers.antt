@@ -9,9 +9,9 @@ use Rattle.crs_layers.specs.LayerStates.{accepted_in}
 use Rattle.crs_layers.specs.Runs.{after_ordered}
 use Rattle.crs_session.specs.Session.{BringsAll, full_in}
 use Rattle.crs_session.specs.Tallies.{with_refused}
-use Rattle.crs_session.specs.Texts.{log_setting}
+use Rattle.crs_frames.specs.Frames.{log_setting}
 use Rattle.crs_session.proofs.Accepting.{refuse_brings, refused_brings, full_is, values_is, accept_brings}
-use Rattle.crs_session.proofs.Results.{both_ok}
+use Rattle.crs_frames.proofs.Results.{both_ok}
 use Rattle.crs_session.proofs.step.accept_event.Goals as goal
 
 pub make_named-requires-clause-arity : goal.make_named-requires-clause-arity

@@ -5,11 +5,11 @@ use Rattle.crs_log.specs.Run as run
 use Rattle.crs_report.specs.OutputLines.{refusal_line}
 use Rattle.crs_layers.specs.Runs.{after_ordered}
 use Rattle.crs_session.specs.Session.{BringsAll, full_in}
-use Rattle.crs_session.specs.Texts.{log_setting, fault_of}
+use Rattle.crs_frames.specs.Frames.{log_setting, fault_of}
 use Rattle.crs_session.specs.Written.{with_text}
 use Rattle.crs_session.proofs.Marking.{clock_brings, clock_printable, back_brings}
 use Rattle.crs_session.proofs.ReadLayers.{symbols_known}
-use Rattle.crs_session.proofs.Results.{both_ok}
+use Rattle.crs_frames.proofs.Results.{both_ok}
 use Rattle.crs_session.proofs.step.take_clock.Goals as goal
 
 pub clock-requires-clause-known : goal.clock-requires-clause-known

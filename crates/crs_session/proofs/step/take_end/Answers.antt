@@ -2,10 +2,10 @@ use Rattle.std.proofs.Common.{◌∙◌}
 use Rattle.crs_log.specs.Items.{Finish}
 use Rattle.crs_layers.specs.Runs.{after_ordered}
 use Rattle.crs_session.specs.Session.{BringsAll, full_in}
-use Rattle.crs_session.specs.Texts.{log_setting}
+use Rattle.crs_frames.specs.Frames.{log_setting}
 use Rattle.crs_session.proofs.Marking.{end_brings, end_printable}
 use Rattle.crs_session.proofs.ReadLayers.{symbols_known}
-use Rattle.crs_session.proofs.Results.{both_ok}
+use Rattle.crs_frames.proofs.Results.{both_ok}
 use Rattle.crs_session.proofs.step.take_end.Goals as goal
 
 pub finish-requires : goal.finish-requires

@@ -7,7 +7,7 @@ use Rattle.crs_log.specs.Run as run
 use Rattle.crs_log.specs.SeenItems.{event_seen}
 use Rattle.crs_layers.specs.Runs.{after_ordered}
 use Rattle.crs_session.specs.Session.{full_in}
-use Rattle.crs_session.specs.Texts.{log_setting, fault_of}
+use Rattle.crs_frames.specs.Frames.{log_setting, fault_of}
 use Rattle.crs_session.specs.Written.{with_text}
 use Rattle.crs_session.proofs.Accepting.{refuse_brings, passed_brings, late_is, verdict_is}
 use Rattle.crs_session.proofs.step.take_event.Goals as goal

@@ -5,10 +5,11 @@ use Rattle.crs_log.specs.Run.{Outcome}
 use Rattle.crs_log.specs.SeenItems.{what_seen}
 use Rattle.crs_layers.specs.Runs.{after_what}
 use Rattle.crs_session.specs.Session.{Brings, BringsAll, full_in}
-use Rattle.crs_session.specs.Texts.{log_setting}
+use Rattle.crs_frames.specs.Frames.{log_setting}
 use Rattle.crs_session.proofs.Accepting.{refused_brings, passed_brings}
-use Rattle.crs_session.proofs.Ordering.{in_order, out_of_order, blank_passed, not_faulty}
-use Rattle.crs_session.proofs.Results.{both_ok}
+use Rattle.crs_session.proofs.Ordering.{in_order, out_of_order, blank_passed}
+use Rattle.crs_frames.proofs.Items.{not_faulty}
+use Rattle.crs_frames.proofs.Results.{both_ok}
 use Rattle.crs_session.proofs.step.take_item.Goals as goal
 
 pub returns : goal.returns

@@ -6,10 +6,10 @@ use Rattle.crs_log.specs.Run as run
 use Rattle.crs_log.specs.Run.{Outcome}
 use Rattle.crs_layers.specs.Runs.{after_what, after_line}
 use Rattle.crs_session.specs.Session.{Brings, BringsAll, full_in}
-use Rattle.crs_session.specs.Texts.{log_setting}
+use Rattle.crs_frames.specs.Frames.{log_setting}
 use Rattle.crs_session.proofs.Accepting.{refuse_brings, refused_brings}
 use Rattle.crs_session.proofs.Ordering.{given_faulty}
-use Rattle.crs_session.proofs.Results.{both_ok}
+use Rattle.crs_frames.proofs.Results.{both_ok}
 use Rattle.crs_session.proofs.step.take_line.Goals as goal
 
 pub returns-in-Long : goal.returns-in-Long

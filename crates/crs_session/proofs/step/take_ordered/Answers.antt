@@ -1,7 +1,7 @@
 use Rattle.std.proofs.Common.{ap}
 use Rattle.crs_log.specs.SeenItems.{what_seen}
 use Rattle.crs_session.specs.Session.{full_in, ordered_what}
-use Rattle.crs_session.specs.Texts.{log_setting}
+use Rattle.crs_frames.specs.Frames.{log_setting}
 use Rattle.crs_session.proofs.Accepting.{passed_brings, delay_brings}
 use Rattle.crs_session.proofs.step.take_ordered.Goals as goal
 

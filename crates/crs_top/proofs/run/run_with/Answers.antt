@@ -3,13 +3,14 @@ use Rattle.crs_desk.specs.Desk.{Rose}
 use Rattle.crs_words.proofs.Bounds.{drill_bounds, logs_bounds}
 use Rattle.std.proofs.Common.{arith}
 use Rattle.std.proofs.lemmas.List.{length-map}
-use Rattle.crs_top.proofs.FeedRuns.{completes_feeds}
+use Rattle.crs_rounds.proofs.FeedRuns.{completes_feeds}
 use Rattle.crs_words.specs.Commands.{command_of}
 use Rattle.crs_report.specs.Listeners.{Member, keep_members}
-use Rattle.crs_top.specs.Logs.{tail_of}
-use Rattle.crs_top.specs.RunOutcomes.{most_of, Runs}
-use Rattle.crs_top.proofs.Completes.{completes, completes_print, completes_import, completes_audit}
-use Rattle.crs_top.proofs.Drilled.{completes_drill}
+use Rattle.crs_commands.specs.Logs.{tail_of}
+use Rattle.crs_outcomes.specs.Most.{most_of}
+use Rattle.crs_commands.specs.RunOutcomes.{Runs}
+use Rattle.crs_commands.proofs.Completes.{completes, completes_print, completes_import, completes_audit}
+use Rattle.crs_commands.proofs.Drilled.{completes_drill}
 use Rattle.crs_top.proofs.Wanting.{wants, wants_left}
 use Rattle.crs_top.proofs.run.run_with.Goals as goal
 

@@ -1,0 +1,23 @@
+use Rattle.std.proofs.lemmas.Result.{err_from_is_err_and}
+use Rattle.crs_model.specs.Renaming.{text_in, renamed_models}
+use Rattle.crs_model.specs.SeenModels.{models_of}
+use Rattle.crs_outcomes.proofs.Preparing.{compile_faulty, consistent_models, in_time_models}
+use Rattle.crs_commands.proofs.Listed.{printables, minimal_named}
+use Rattle.crs_commands.proofs.listing.minimal.Goals as goal
+
+pub returns-in_err-plans-clause-refused : goal.returns-in_err-plans-clause-refused
+returns-in_err-plans-clause-refused c =
+    let p = err_from_is_err_and c.from_residual-in_err-plans.result c.from_residual-in_err-plans.ensures.1 in
+    rw (p.1, p.2) (compile_faulty c.args.limit c.args.text.now c.in_ok-models.models c.in_ok-models.symbols c.in_ok-models.ensures.ok c.in_err-plans.field-0.0 c.in_err-plans.ensures.refused)
+
+pub minimal_text-requires-clause-known : goal.minimal_text-requires-clause-known
+minimal_text-requires-clause-known c =
+    rw c.in_ok-plans.ensures.chronicles (printables c.in_ok-models.symbols.texts (models_of c.in_ok-models.models).chronicles c.in_ok-models.ensures.ok.numbered.chronicles)
+
+pub returns-clause-ok : goal.returns-clause-ok
+returns-clause-ok c =
+    let texts = c.in_ok-models.symbols.texts in (
+      renamed_models (text_in texts) (models_of c.in_ok-models.models),
+      record { texts = texts; read = c.in_ok-models.ensures.ok.read; consistent = consistent_models texts c.in_ok-models.models _ c.in_ok-plans.ensures.chronicles c.in_ok-plans.ensures.plans; in_time = in_time_models c.args.limit c.args.text.now c.in_ok-models.models c.in_ok-models.symbols c.in_ok-models.ensures.ok c.in_ok-plans.ensures.in_time },
+      minimal_named (text_in texts) (models_of c.in_ok-models.models).chronicles _ (rw c.in_ok-plans.ensures.chronicles at c.in_ok-minimal.ensures),
+    )
