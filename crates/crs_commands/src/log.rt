@@ -7,7 +7,7 @@ ghost use Rattle.crs_session.specs.Session.{IsReady, Represents, IsUncounted};
 ghost use Rattle.crs_frames.specs.Frames.{Frame};
 ghost use Rattle.crs_session.specs.Texts.{start_of};
 ghost use Rattle.crs_commands.specs.Logs.{tail_of, summary_of, IsSummaryOf, IsTailOf, HasReadLog, TellsPiece, TakesEnd, Finishes};
-ghost use Rattle.crs_outcomes.specs.Status.{ended_as, HasCauses};
+ghost use Rattle.crs_outcomes.specs.Status.{HasCauses};
 ghost use Rattle.crs_session.specs.Written.{HasEntry};
 
 use crs_base::LINE_LIMIT;

@@ -1,5 +1,5 @@
 // What a log is read with.
-ghost use Rattle.std.specs.Prelude.{◌≡◌, ◌≤◌, true, IfOk, IfErr};
+ghost use Rattle.std.specs.Prelude.{◌≡◌, true, IfOk, IfErr};
 ghost use Rattle.crs_outcomes.specs.ModelTexts.{IsRunFaultyText};
 ghost use Rattle.crs_commands.specs.Prepared.{IsPrepared};
 ghost use Rattle.crs_outcomes.specs.ReadPlans.{ArePlansIn, AreLonePlans};

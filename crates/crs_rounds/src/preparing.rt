@@ -1,5 +1,5 @@
 // What several logs are read with.
-ghost use Rattle.std.specs.Prelude.{◌≡◌, ◌≤◌, IfOk, IfErr};
+ghost use Rattle.std.specs.Prelude.{◌≤◌, IfOk, IfErr};
 ghost use Rattle.crs_outcomes.specs.ModelTexts.{IsFaultyText};
 ghost use Rattle.crs_rounds.specs.PreparedMerged.{IsPreparedMerged};
 

@@ -1,5 +1,5 @@
 // What is written for the lines of a log.
-ghost use Rattle.std.specs.Prelude.{◌≡◌, ◌++◌, OnOk, flat_map};
+ghost use Rattle.std.specs.Prelude.{◌≡◌, OnOk, flat_map};
 ghost use Rattle.crs_report.specs.OutputLines.{refusal_line};
 ghost use Rattle.crs_frames.specs.TableTexts.{ArePrintable, line_in};
 ghost use Rattle.crs_session.specs.Written.{unwritten, with_text, with_answer};

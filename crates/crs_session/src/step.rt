@@ -1,5 +1,5 @@
 // One line of a log.
-ghost use Rattle.std.specs.Prelude.{◌≡◌, ◌≤◌, ◌<◌, ◌^◌, ℕ, false, List as Items, OnOk};
+ghost use Rattle.std.specs.Prelude.{◌≡◌, ◌≤◌, ◌<◌, ◌^◌, ℕ, false, OnOk};
 ghost use Rattle.crs_log.specs.Given.{seen};
 ghost use Rattle.crs_log.specs.Items.{Clock, Finish as LogEnd, Happens, IsItem};
 ghost use Rattle.crs_log.specs.Reading.{number_of};
@@ -10,7 +10,7 @@ ghost use Rattle.crs_log.specs.SeenNames.{name_seen, IsTextAt};
 ghost use Rattle.crs_log.specs.Known.{Named, known_of};
 ghost use Rattle.std.specs.Prelude.{map};
 ghost use Rattle.crs_session.specs.Session.{IsReady, BringsAll, full_in, ordered_what};
-ghost use Rattle.crs_frames.specs.TableTexts.{IsShort, ArePrintable, is_blank_what};
+ghost use Rattle.crs_frames.specs.TableTexts.{IsShort, ArePrintable};
 ghost use Rattle.crs_session.specs.Tallies.{with_refused};
 ghost use Rattle.crs_frames.specs.Frames.{log_setting};
 ghost use Rattle.crs_session.specs.Written.{with_text};

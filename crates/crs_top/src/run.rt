@@ -1,5 +1,5 @@
 // The top call.
-ghost use Rattle.std.specs.Prelude.{◌≡◌, ◌<◌, ◌≤◌, ◌+◌, ◌-◌, ◌^◌, ◌⊎◌, true, false, None, map, string_bytes};
+ghost use Rattle.std.specs.Prelude.{◌≡◌, ◌<◌, ◌≤◌, ◌+◌, ◌^◌, ◌⊎◌, true, None, map, string_bytes};
 ghost use Rattle.crs_desk.specs.Desk.{Rose};
 ghost use Rattle.crs_words.specs.Commands.{command_of};
 ghost use Rattle.crs_outcomes.specs.Most.{most_of, standard};
