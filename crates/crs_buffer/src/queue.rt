@@ -72,6 +72,26 @@ pub(crate) fn compare_before(
     }
 }
 
+/// Inserts the entry into the queue. Two of five entries of a log that is nearly sorted come last, and to
+/// push takes a third of what an insertion does.
+#[inline(always)]
+fn insert_at(queue: &mut VecDeque<Held>, place: usize, held: Held) -> Result<(), AllocError>
+    requires within { place ≤ length queue.old.items }
+    ensures ok { OnOk result (queue.new.items ≡ insert queue.old.items place held) }
+    ensures err { OnErr result (queue.new.items ≡ queue.old.items) }
+{
+    if place == queue.len() {
+        let Ok(()) = queue.push_back(held) else {
+            return Err(AllocError);
+        };
+        return Ok(());
+    }
+    let Ok(()) = queue.insert(place, held) else {
+        return Err(AllocError);
+    };
+    Ok(())
+}
+
 /// Puts the entry in at a place of the queue, where it comes behind all before that and before all
 /// behind it.
 #[inline(always)]
@@ -87,10 +107,7 @@ pub(crate) fn put_at(
     ensures ok { OnOk result (set.new.keys ++ queue.new.items ≡ insert_key held_cmp (set.old.keys ++ queue.old.items) held) }
     ensures err { OnErr result (set.new.keys ++ queue.new.items ≡ set.old.keys ++ queue.old.items) }
 {
-    let Ok(()) = queue.insert(place, held) else {
-        return Err(AllocError);
-    };
-    Ok(())
+    insert_at(queue, place, held)
 }
 
 /// Moves the first entry of the queue into the set.

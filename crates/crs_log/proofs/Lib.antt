@@ -18,3 +18,4 @@ pub mod Traces
 pub mod Staying
 pub mod Places
 pub mod Whole
+pub mod Dates

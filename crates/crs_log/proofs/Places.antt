@@ -165,7 +165,7 @@ has_digits : (w : List ℕ) (d : ℕ) → log_number_of w ≡ Some d → 1 ≤ l
 has_digits [] d e = cc
 has_digits (b ∷ bs) d e = omega arith
 
-module _ (line : List ℕ) (raw : Raw) (n p at : ℕ) (n_is : n ≡ 0 + prefix_len is_symbol_byte (drop 0 line)) (within : n ≤ length line) (dated : log_number_of (take n line) ≡ Some raw.date) (name : IsSymbolAt line n raw.name)
+module _ (line : List ℕ) (raw : Raw) (n p at : ℕ) (n_is : n ≡ prefix_len is_symbol_byte line) (within : n ≤ length line) (dated : log_number_of (take n line) ≡ Some raw.date) (name : IsSymbolAt line n raw.name)
     (p_is : p ≡ raw.name.start + raw.name.len) (args : AreArgumentsAt line (tokens_from line p) raw.args at) (change : IsChangeOf line (tokens_from line at) raw.change) where
   long : 1 ≤ n
   long = let l : 1 ≤ length (take n line) = has_digits (take n line) raw.date dated in let size : length (take n line) ≡ n = length-take-le n line within in omega (arith, l, size)

@@ -1,4 +1,5 @@
 pub mod Reading
+pub mod Dates
 pub mod Given
 pub mod Items
 pub mod ItemOf

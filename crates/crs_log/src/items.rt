@@ -5,9 +5,11 @@ mod read;
 mod spans;
 mod walk;
 
-pub use read::read_item;
+pub use read::{read_item, read_other};
 pub use spans::Spans;
+use std::alloc::Global;
 use thiserror::Error;
+pub use walk::read_event;
 
 /// A symbol's place in its line, in bytes from 0.
 #[derive(Clone, Copy, Debug, Default, Drop, PartialEq, Eq)]
@@ -25,6 +27,18 @@ pub struct Raw {
     pub args: Spans,
     /// The old and the new value, where there is a change.
     pub change: Option<(Span, Span)>,
+}
+
+impl Raw {
+    /// Room for the parts of an event line.
+    pub fn new(alloc: Global) -> Raw {
+        Raw {
+            date: 0,
+            name: Span::default(),
+            args: Spans::new(alloc),
+            change: None,
+        }
+    }
 }
 
 /// What a line of a log says. Numbers are ticks of the log's clock, from 0 to 2^40 - 1.

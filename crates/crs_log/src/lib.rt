@@ -9,5 +9,5 @@ pub mod naming;
 
 pub use entries::{EntryRefused, Known, make_entry, make_named};
 pub use items::parts::span_text;
-pub use items::{Item, ItemRefused, Raw, Span, read_item};
+pub use items::{Item, ItemRefused, Raw, Span, read_event, read_item, read_other};
 pub use lines::{Line, Lines, Told, lines_of_pieces};

@@ -5,7 +5,7 @@ ghost use Rattle.crs_session.specs.Taking.{TakesLines, TakesPiece, TakesRest};
 
 use crate::output::Output;
 use crate::session::Session;
-use crate::step::take_line;
+use crate::step::{Room, take_line};
 use crs_log::Lines;
 use std::alloc::{AllocError, Global};
 
@@ -20,9 +20,9 @@ fn take_lines(
     requires limit { lines.old.limit ≡ 4096 }
     ensures { OnOk result (TakesLines lines.old lines.new session.old session.new out.old out.new) }
 {
-    let mut tokens = Vec::new(alloc);
+    let mut room = Room::new(alloc);
     while let Some(line) = lines.next_line() {
-        take_line(alloc, session, line, &mut tokens, out)?;
+        take_line(alloc, session, line, &mut room, out)?;
     }
     Ok(())
 }

@@ -5,10 +5,11 @@ ghost use Rattle.crs_log.specs.Items.{Clock, Finish as LogEnd, Happens, IsItem};
 ghost use Rattle.crs_log.specs.Reading.{number_of};
 ghost use Rattle.crs_layers.specs.LayerStates.{horizon_in};
 ghost use Rattle.crs_layers.specs.Runs.{after_ordered, after_line, after_what};
-ghost use Rattle.crs_log.specs.SeenItems.{event_seen, text_of, what_seen, IsInRange, IsRead};
+ghost use Rattle.crs_log.specs.ItemOf.{Is, what_of};
+ghost use Rattle.crs_log.specs.SeenItems.{event_seen, happens_seen, text_of, what_seen, IsInRange, IsRead};
 ghost use Rattle.crs_log.specs.SeenNames.{name_seen, IsTextAt};
 ghost use Rattle.crs_log.specs.Known.{Named, known_of};
-ghost use Rattle.std.specs.Prelude.{map};
+ghost use Rattle.std.specs.Prelude.{map, length};
 ghost use Rattle.crs_session.specs.Session.{IsReady, BringsAll, full_in, ordered_what};
 ghost use Rattle.crs_frames.specs.TableTexts.{IsShort, ArePrintable};
 ghost use Rattle.crs_session.specs.Tallies.{with_refused};
@@ -24,7 +25,9 @@ use crs_engine::Refused;
 use crs_frames::is_blank;
 use crs_layers::Marked;
 use crs_log::naming::{NameRefused, known};
-use crs_log::{EntryRefused, Item, ItemRefused, Known, Line, Raw, make_named, read_item};
+use crs_log::{
+    EntryRefused, Item, ItemRefused, Known, Line, Raw, make_named, read_event, read_other,
+};
 use crs_report::Fault;
 use std::alloc::{AllocError, Global};
 use std::marker::Brand;
@@ -231,12 +234,68 @@ fn take_item(
     take_ordered(alloc, session, number, line, item, out)
 }
 
-/// Takes a line, and adds what it brings to the text. The vector is room for the line's tokens.
+/// Takes what a line is that is seen to be an event.
+fn take_happening(
+    alloc: Global,
+    session: &mut Session,
+    number: u64,
+    line: &[u8],
+    raw: &Raw,
+    out: &mut Output,
+) -> Result<(), AllocError>
+    requires ready { IsReady session.old }
+    requires read { what_of line.now ≡ Is (happens_seen line.now raw.now) }
+    requires date { raw.now.date < 2 ^ 40 }
+    ensures { OnOk result (BringsAll session.old session.new number (λ f s. after_what (log_setting f) (full_in f s) s.log (what_of line.now)) out.old out.new) }
+{
+    if session.ended {
+        return refuse(session, number, Fault::Order, out);
+    }
+    take_event(alloc, session, number, line, raw, out)
+}
+
+/// Takes what a line is, which isn't seen to be an event.
+fn take_other(
+    alloc: Global,
+    session: &mut Session,
+    number: u64,
+    line: &[u8],
+    tokens: &mut Vec<Token>,
+    out: &mut Output,
+) -> Result<(), AllocError>
+    requires ready { IsReady session.old }
+    requires short { length line.now ≤ 4096 }
+    ensures { OnOk result (BringsAll session.old session.new number (λ f s. after_what (log_setting f) (full_in f s) s.log (what_of line.now)) out.old out.new) }
+{
+    match read_other(alloc, line, tokens) {
+        Ok(item) => take_item(alloc, session, number, line, &item, out),
+        Err(ItemRefused::Form) => refuse(session, number, Fault::Form, out),
+        Err(ItemRefused::Memory) => Err(AllocError),
+    }
+}
+
+/// Room for the parts of a line, which is used again at the next one.
+#[derive(Drop)]
+pub struct Room {
+    raw: Raw,
+    tokens: Vec<Token>,
+}
+
+impl Room {
+    pub fn new(alloc: Global) -> Room {
+        Room {
+            raw: Raw::new(alloc),
+            tokens: Vec::new(alloc),
+        }
+    }
+}
+
+/// Takes a line, and adds what it brings to the text.
 pub fn take_line(
     alloc: Global,
     session: &mut Session,
     line: Line<'_>,
-    tokens: &mut Vec<Token>,
+    room: &mut Room,
     out: &mut Output,
 ) -> Result<(), AllocError>
     requires ready { IsReady session.old }
@@ -245,10 +304,11 @@ pub fn take_line(
 {
     match line {
         Line::Long { number } => refuse(session, number, Fault::Long, out),
-        Line::Plain { number, bytes } => match read_item(alloc, bytes, tokens) {
-            Ok(item) => take_item(alloc, session, number, bytes, &item, out),
-            Err(ItemRefused::Form) => refuse(session, number, Fault::Form, out),
-            Err(ItemRefused::Memory) => Err(AllocError),
-        },
+        Line::Plain { number, bytes } => {
+            if read_event(bytes, &mut room.raw)? {
+                return take_happening(alloc, session, number, bytes, &room.raw, out);
+            }
+            take_other(alloc, session, number, bytes, &mut room.tokens, out)
+        }
     }
 }

@@ -5,8 +5,8 @@ ghost use Rattle.crs_log.specs.ItemOf.{statement_of, what_is, what_of};
 
 use super::events::event;
 use super::numbers::lone_number;
-use super::walk::walk_event;
-use super::{Item, ItemRefused};
+use super::walk::read_event;
+use super::{Item, ItemRefused, Raw};
 use crs_base::{Marks, Token, fill_tokens, passed_over, word_bytes};
 use std::alloc::{AllocError, Global};
 
@@ -61,15 +61,17 @@ fn read_what(alloc: Global, line: &[u8], tokens: &mut Vec<Token>) -> Result<Item
     ensures range { IfOk result IsInRange }
     ensures err { IfErr result (Refuses line.now) }
 {
-    match walk_event(alloc, line) {
-        Ok(Some(raw)) => Ok(Item::Event(raw)),
-        Ok(None) => read_other(alloc, line, tokens),
+    let mut raw = Raw::new(alloc);
+    match read_event(line, &mut raw) {
+        Ok(true) => Ok(Item::Event(raw)),
+        Ok(false) => read_other(alloc, line, tokens),
         Err(_) => Err(ItemRefused::Memory),
     }
 }
 
-/// The same, by the line's tokens.
-fn read_other(alloc: Global, line: &[u8], tokens: &mut Vec<Token>) -> Result<Item, ItemRefused>
+/// The item that a line of at most 4096 bytes is, by its tokens: those that are no events are few. The
+/// vector is room for the line's tokens: what it holds before does not matter.
+pub fn read_other(alloc: Global, line: &[u8], tokens: &mut Vec<Token>) -> Result<Item, ItemRefused>
     requires { length line.now ≤ 4096 }
     ensures exact { IfOk result (λ item. what_seen line.now item ≡ what_of line.now) }
     ensures range { IfOk result IsInRange }

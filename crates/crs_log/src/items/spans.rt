@@ -30,7 +30,18 @@ impl Spans {
         }
     }
 
+    /// Drops all spans. The list is made anew, since to empty a `SmallVec` writes over each of its places.
+    #[inline(always)]
+    pub fn clear(&mut self)
+        ensures { self.new ≡ [] }
+    {
+        if !self.items.is_empty() {
+            self.items = SmallVec::new(*self.items.allocator());
+        }
+    }
+
     /// Adds a span at the end. After a refusal the spans are as they were.
+    #[inline(always)]
     pub fn push(&mut self, span: Span) -> Result<(), AllocError>
         ensures ok { OnOk result (self.new ≡ self.old ++ span ∷ []) }
         ensures err { OnErr result (self.new ≡ self.old) }

@@ -3,16 +3,18 @@
 ghost use Rattle.std.specs.Prelude.{◌≡◌, ◌<◌, ◌≤◌, ◌+◌, [], ◌∷◌, List, ℕ, Some, true, drop, length, IfOk, IfSome, option_map};
 ghost use Rattle.std.specs.List.{prefix_len};
 ghost use Rattle.crs_base.specs.Symbols.{is_symbol_byte};
+ghost use Rattle.crs_base.specs.Numbers.{is_digit};
 ghost use Rattle.crs_base.specs.Tokens.{Mark};
+ghost use Rattle.crs_log.specs.Dates.{AreDigitsTo, IsDateTo};
 ghost use Rattle.crs_log.specs.SeenItems.{happens_seen};
 ghost use Rattle.crs_log.specs.ItemOf.{Is, what_of};
 ghost use Rattle.crs_log.specs.Places.{tokens_from, is_plain_mark, Stands, IsSymbolAt, AreArgumentsAt, IsChangeOf};
 
-use super::numbers::{DATES, log_number};
+use super::numbers::DATES;
 use super::parts::end_of;
 use super::{Raw, Span, Spans};
 use crs_base::{is_blank, is_symbol_byte};
-use std::alloc::{AllocError, Global};
+use std::alloc::AllocError;
 
 /// The first place from `at` on where no blank stands.
 fn behind_blanks(line: &[u8], at: usize) -> usize
@@ -82,6 +84,7 @@ fn symbol(line: &[u8], at: usize) -> Option<Span>
 }
 
 /// Reads the arguments behind their bracket, and tells where they end.
+#[inline(always)]
 fn arguments(line: &[u8], at: usize, args: &mut Spans) -> Result<Option<usize>, AllocError>
     requires short { length line.now ≤ 4096 }
     requires within { at ≤ length line.now }
@@ -103,6 +106,7 @@ fn arguments(line: &[u8], at: usize, args: &mut Spans) -> Result<Option<usize>, 
 }
 
 /// Reads the arguments at a place, where there are some, and tells where they end.
+#[inline(always)]
 fn arguments_at(line: &[u8], at: usize, args: &mut Spans) -> Result<Option<usize>, AllocError>
     requires short { length line.now ≤ 4096 }
     requires within { at ≤ length line.now }
@@ -144,6 +148,7 @@ fn change(line: &[u8], at: usize) -> Option<(Span, Span)>
 }
 
 /// The change at a place, or none where the line ends there.
+#[inline(always)]
 fn change_at(line: &[u8], at: usize) -> Option<Option<(Span, Span)>>
     requires short { length line.now ≤ 4096 }
     requires within { at ≤ length line.now }
@@ -158,31 +163,75 @@ fn change_at(line: &[u8], at: usize) -> Option<Option<(Span, Span)>>
     }
 }
 
-/// The event that a line is which begins with its date. None says nothing of the line.
-pub fn walk_event(alloc: Global, line: &[u8]) -> Result<Option<Raw>, AllocError>
-    requires { length line.now ≤ 4096 }
-    ensures value { IfOk result (λ o. IfSome o (λ raw. what_of line.now ≡ Is (happens_seen line.now raw))) }
-    ensures range { IfOk result (λ o. IfSome o (λ raw. raw.date < DATES)) }
+/// A date, and where the word ends that it is.
+#[derive(Clone, Copy, Drop)]
+struct Dated {
+    date: u64,
+    end: usize,
+}
+
+/// Whether the byte is a digit.
+fn is_digit(b: u8) -> bool
+    ensures { result ≡ is_digit b }
 {
-    let end = word_end(line, 0);
-    let (word, _) = line.split_at(end);
-    let Some(date) = log_number(word) else {
-        return Ok(None);
+    b'0' <= b && b <= b'9'
+}
+
+/// The number of the digits with which the line begins, up to 19 of them, and where they end.
+#[inline(always)]
+fn digits(line: &[u8]) -> Dated
+    ensures { AreDigitsTo line.now result.date result.end }
+{
+    let mut date: u64 = 0;
+    let mut end = 0;
+    while end < line.len() && end < 19 && is_digit(line[end]) {
+        date = 10 * date + (line[end] - b'0') as u64;
+        end += 1;
+    }
+    Dated { date, end }
+}
+
+/// The date that the first word of the line is, where nothing stands before it. Its digits are read
+/// once: to find the word and then read it takes 40 instructions more, 3 % of a line that is passed over.
+#[inline(always)]
+fn date_in_front(line: &[u8]) -> Option<Dated>
+    ensures date { IfSome result (λ d. IsDateTo line.now d.date d.end) }
+    ensures range { IfSome result (λ d. d.date < DATES) }
+{
+    let dated = digits(line);
+    if dated.end == 0 || DATES <= dated.date {
+        return None;
+    }
+    if dated.end < line.len() && is_symbol_byte(line[dated.end]) {
+        return None;
+    }
+    Some(dated)
+}
+
+/// Whether the line is seen to be an event which begins with its date: then its parts are written. Else it
+/// may be any item, and what is written is not to be used. No `Raw` is handed back, since to clear, move
+/// and match it takes some 60 instructions a line.
+#[inline(always)]
+pub fn read_event(line: &[u8], raw: &mut Raw) -> Result<bool, AllocError>
+    requires { length line.now ≤ 4096 }
+    ensures value { IfOk result (λ b. b ≡ true → what_of line.now ≡ Is (happens_seen line.now raw.new)) }
+    ensures range { IfOk result (λ b. b ≡ true → raw.new.date < DATES) }
+{
+    let Some(dated) = date_in_front(line) else {
+        return Ok(false);
     };
-    let Some(name) = symbol(line, end) else {
-        return Ok(None);
+    let Some(name) = symbol(line, dated.end) else {
+        return Ok(false);
     };
-    let mut args = Spans::new(alloc);
-    let Some(at) = arguments_at(line, end_of(name), &mut args)? else {
-        return Ok(None);
+    raw.args.clear();
+    let Some(at) = arguments_at(line, end_of(name), &mut raw.args)? else {
+        return Ok(false);
     };
     let Some(change) = change_at(line, at) else {
-        return Ok(None);
+        return Ok(false);
     };
-    Ok(Some(Raw {
-        date,
-        name,
-        args,
-        change,
-    }))
+    raw.date = dated.date;
+    raw.name = name;
+    raw.change = change;
+    Ok(true)
 }
