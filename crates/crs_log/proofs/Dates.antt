@@ -1,5 +1,5 @@
 -- The date with which a line begins, as its digits are read.
-use Rattle.std.proofs.Common.{◌≡◌, ◌≤◌, ◌<◌, ◌+◌, ◌*◌, ◌-◌, ◌^◌, ◌⊎◌, inl, inr, ℕ, Bool, true, false, cond, ◌&&◌, ◌||◌, ◌==◌, nat_le, List, [], ◌∷◌, ◌++◌, length, get_or, take, drop, refl, sym, ap, add-one, pow-suc, subst, ◌∙◌, arith, Some, None}
+use Rattle.std.proofs.Common.{◌≡◌, ◌≤◌, ◌<◌, ◌+◌, ◌*◌, ◌-◌, ◌^◌, ℕ, true, cond, ◌&&◌, ◌||◌, ◌==◌, nat_le, List, [], ◌∷◌, ◌++◌, length, get_or, take, drop, refl, ap, add-one, pow-suc, ◌∙◌, arith, Some, None}
 use Rattle.std.specs.Prelude.{option_and_then}
 use Rattle.std.specs.List.{list_all, prefix_len}
 use Rattle.std.proofs.Math.Nat.{pow-le-pow_right}
@@ -11,7 +11,7 @@ use Rattle.crs_base.specs.Numbers.{is_digit, value_on, number_on}
 use Rattle.crs_base.specs.Symbols.{is_symbol_byte}
 use Rattle.crs_log.specs.Dates.{AreDigitsTo, IsDateTo}
 use Rattle.crs_log.specs.Items.{in_dates, log_number_of}
-use Rattle.crs_log.proofs.Places.{word_step, word_stops, word_ends}
+use Rattle.crs_log.proofs.Places.{word_step}
 
 -- one more digit, and at most 19 of them
 pub digits_bound : (n i : ℕ) → n < 10 ^ i → i ≤ 18 → 10 * n + 10 ≤ 10000000000000000000

@@ -6,6 +6,7 @@ mod items;
 pub mod laws;
 mod lines;
 pub mod naming;
+mod putting;
 
 pub use entries::{EntryRefused, Known, make_entry, make_named};
 pub use items::parts::span_text;

@@ -9,6 +9,7 @@ ghost use Rattle.crs_log.specs.Known.{new_texts, one_if_new};
 
 use crate::items::Span;
 use crate::items::parts::span_text;
+use crate::putting::put;
 use crs_base::{Sym, SymList, SymRefused, Symbols};
 use smallvec::SmallVec;
 use std::alloc::{AllocError, Global};
@@ -109,7 +110,7 @@ pub fn intern_all(
         let Ok(s) = intern_one(span_text(line, *span), symbols) else {
             return Err(AllocError);
         };
-        let Ok(()) = out.push(s) else {
+        let Ok(()) = put(&mut out, s) else {
             return Err(AllocError);
         };
     }

@@ -6,6 +6,7 @@ ghost use Rattle.crs_log.specs.Known.{texts_of};
 use super::whole::whole_text;
 use crate::items::parts::span_text;
 use crate::items::{Raw, Span};
+use crate::putting::put;
 use crs_base::Text;
 use smallvec::SmallVec;
 use std::alloc::{AllocError, Global};
@@ -19,7 +20,7 @@ fn push_part(
 ) -> Result<(), AllocError>
     ensures { OnOk result (out.new.items ≡ out.old.items ++ mark ∷ text_of line.now span) }
 {
-    out.push(mark)?;
+    put(out, mark)?;
     out.extend_from_slice(span_text(line, span))
 }
 
@@ -30,7 +31,7 @@ fn push_more(line: &[u8], args: &[Span], out: &mut SmallVec<u8, 24>) -> Result<(
     for arg in args {
         push_part(line, b',', *arg, out)?;
     }
-    out.push(b']')?;
+    put(out, b']')?;
     Ok(())
 }
 
@@ -54,10 +55,10 @@ fn push_change(
     let Some((old, new)) = change else {
         return Ok(());
     };
-    out.push(b':')?;
+    put(out, b':')?;
     push_part(line, b'(', old, out)?;
     push_part(line, b',', new, out)?;
-    out.push(b')')?;
+    put(out, b')')?;
     Ok(())
 }
 
@@ -101,8 +102,8 @@ pub fn value_spans(alloc: Global, raw: &Raw) -> Result<SmallVec<Span, 10>, Alloc
 {
     let mut spans = SmallVec::from_slice(alloc, raw.args.as_slice())?;
     if let Some((old, new)) = raw.change {
-        spans.push(old)?;
-        spans.push(new)?;
+        put(&mut spans, old)?;
+        put(&mut spans, new)?;
     }
     Ok(spans)
 }

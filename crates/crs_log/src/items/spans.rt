@@ -1,6 +1,7 @@
 ghost use Rattle.std.specs.Prelude.{◌≡◌, ◌++◌, [], ◌∷◌, length, OnOk, OnErr};
 
 use super::Span;
+use crate::putting::put;
 use smallvec::SmallVec;
 use std::alloc::{AllocError, Global};
 use std::marker::Model;
@@ -46,8 +47,7 @@ impl Spans {
         ensures ok { OnOk result (self.new ≡ self.old ++ span ∷ []) }
         ensures err { OnErr result (self.new ≡ self.old) }
     {
-        self.items.push(span)?;
-        Ok(())
+        put(&mut self.items, span)
     }
 
     /// How many spans there are.

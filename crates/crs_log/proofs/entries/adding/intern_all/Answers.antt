@@ -17,8 +17,8 @@ pub returns-in_default-clause-err : goal.returns-in_default-clause-err
 returns-in_default-clause-err c =
     (c.loop-span.span-index, ap (λ s. s.texts) c.in_default.ensures.err ∙ c.loop-span.invariant.texts ∙ ap (with_texts c.args.symbols.now.texts) (sym (take-map (text_of c.args.line.now) c.loop-span.span-index c.args.spans.now)))
 
-pub returns-in_default-push-clause-err : goal.returns-in_default-push-clause-err
-returns-in_default-push-clause-err c =
+pub returns-in_default-put-clause-err : goal.returns-in_default-put-clause-err
+returns-in_default-put-clause-err c =
     let l = c.loop-span in let K = c.args.symbols.now.texts in let f = text_of c.args.line.now in let xs = c.args.spans.now in (
       l.span-index + 1,
       c.in-Ok.ensures.texts ∙ (λ i. with_text (l.invariant.texts i) (c.span_text.ensures i)) ∙ sym (with_next f xs l.span-index none c.loop-span-test.true K)
@@ -32,10 +32,10 @@ loop-span-preserved c =
     let grown : c.intern_one.new.symbols.texts ≡ with_text l.symbols.texts (f (get_or xs l.span-index none)) = c.in-Ok.ensures.texts ∙ ap (with_text l.symbols.texts) c.span_text.ensures in
     record {
       texts = grown ∙ ap (λ T. with_text T (f (get_or xs l.span-index none))) l.invariant.texts ∙ sym (with_next f xs l.span-index none lt K);
-      numbers = ap (map (text_in c.intern_one.new.symbols.texts)) c.in-Ok-push.ensures.ok ∙ map-append (text_in c.intern_one.new.symbols.texts) l.out.items (c.in-Ok.s ∷ [])
+      numbers = ap (map (text_in c.intern_one.new.symbols.texts)) c.in-Ok-put.ensures.ok ∙ map-append (text_in c.intern_one.new.symbols.texts) l.out.items (c.in-Ok.s ∷ [])
           ∙ (λ i. (ap (λ T. map (text_in T) l.out.items) grown ∙ kept_texts l.symbols.texts (f (get_or xs l.span-index none)) l.out.items l.invariant.within ∙ l.invariant.numbers) i ++ (c.in-Ok.ensures.number ∙ c.span_text.ensures) i ∷ [])
           ∙ sym (takes f xs l.span-index none lt);
-      within = subst (λ ss. AreKnown c.intern_one.new.symbols.texts ss) (sym c.in-Ok-push.ensures.ok)
+      within = subst (λ ss. AreKnown c.intern_one.new.symbols.texts ss) (sym c.in-Ok-put.ensures.ok)
           (subst (λ T. AreKnown T (l.out.items ++ c.in-Ok.s ∷ [])) (sym grown)
           (still_in l.symbols.texts (f (get_or xs l.span-index none)) l.out.items c.in-Ok.s l.invariant.within (subst (λ T. c.in-Ok.s.0 < length T) grown c.in-Ok.ensures.within)));
       limit = c.intern_one.ensures.limit ∙ l.invariant.limit;
