@@ -183,3 +183,82 @@ fn holds_no_fork_that_the_next_entries_leave_no_hope(rt: HostRuntime) -> Result<
     assert!(rt; awaited == 2 && another == 1);
     Ok(())
 }
+
+/// Offers an entry as `offer_apart` does, where the store is told of none that comes next.
+fn offer_until_apart<L: Ledger>(
+    blank: Blank,
+    alloc: Global,
+    store: &mut Store,
+    entry: &Rc<Entry>,
+) -> Result<Result<(), StoreRefused>, AllocError>
+    requires name { blank.name ≡ L.name }
+    requires parts { blank.parts ≡ L.parts }
+    requires some { 0 < L.parts }
+    requires date { entry.now.value.date < 2 ^ 40 }
+{
+    let mut history = History::new(alloc);
+    history.push(entry.clone()?)?;
+    let coming = Coming {
+        until: entry.date,
+        ahead: &[],
+        beyond: entry.date,
+        behind: false,
+    };
+    Ok(store.offer_until(&history, entry, &coming, &mut Steps::<L>::new(blank)))
+}
+
+/// Offers an entry in one way or the other.
+fn offer_either(
+    alloc: Global,
+    store: &mut Store,
+    entry: &Rc<Entry>,
+    until: bool,
+) -> Result<Result<(), StoreRefused>, AllocError>
+    requires { entry.now.value.date < 2 ^ 40 }
+{
+    if until {
+        offer_until_apart::<Brand>(Blank::new(1), alloc, store, entry)
+    } else {
+        offer_apart::<Brand>(Blank::new(1), alloc, store, entry)
+    }
+}
+
+/// A store to which an event of name 0 at 1 and one of name 1 at 3 were offered, the latter in this way.
+fn offered(alloc: Global, until: bool) -> Result<Store, Fail> {
+    let mut store = Store::new(alloc, plan(alloc, 0, 1, 1)?, 3, false)?;
+    let first = shared(alloc, 0, 1, 0)?;
+    offer_either(alloc, &mut store, &first, false)??;
+    let second = shared(alloc, 1, 3, 1)?;
+    offer_either(alloc, &mut store, &second, until)??;
+    Ok(store)
+}
+
+/// How many recognitions are new at this date, with the store's number and this mark.
+fn new_at(alloc: Global, store: &mut Store, date: u32) -> Result<usize, StoreRefused> {
+    let mark = Mark::Clock(date as u64);
+    let answer = store.advance(&History::new(alloc), date as u64, mark)?;
+    if begins_well(&answer, mark) {
+        Ok(answer.len())
+    } else {
+        Ok(0)
+    }
+}
+
+/// Whether an instance that such a store made whole is counted, is lent or isn't, and is answered once.
+fn answers_once(alloc: Global, until: bool) -> Result<bool, Fail> {
+    let mut store = offered(alloc, until)?;
+    if store.held() != 3 || store.instance(2).is_some() == until {
+        return Ok(false);
+    }
+    let new = new_at(alloc, &mut store, 5)?;
+    let again = new_at(alloc, &mut store, 6)?;
+    Ok(new == 1 && again == 0 && store.held() == 2)
+}
+
+#[test]
+fn answers_once_what_has_no_place(rt: HostRuntime) -> Result<(), Fail> {
+    let placed = answers_once(rt.alloc(), false)?;
+    let kept = answers_once(rt.alloc(), true)?;
+    assert!(rt; placed && kept);
+    Ok(())
+}

@@ -1,14 +1,17 @@
 -- A store, from what is held.
-use Rattle.std.proofs.Common.{◌≡◌, ℕ, zero, suc, ◌≤◌, ◌+◌, ◌*◌, ◌^◌, List, [], ◌∷◌, ◌++◌, length, sym, ap, subst, ◌∙◌, inl, inr, arith}
+use Rattle.std.proofs.Common.{◌≡◌, ℕ, zero, suc, ◌≤◌, ◌+◌, ◌*◌, ◌^◌, List, [], ◌∷◌, ◌++◌, length, sym, ap, subst, ◌∙◌, inl, inr, arith, append-nil}
+use Rattle.std.proofs.lemmas.List.{length-append, length-map, nil_from_length}
 use Rattle.std.specs.Prelude.{Option, Some, None, slice_get}
 use Rattle.std.proofs.Math.Nat.{mul_assoc, mul_comm}
 use Rattle.crs_agenda.specs.declared.timed.Handle.{Handle}
 use Rattle.crs_base.specs.Sifted.{Sifts}
+use Rattle.crs_base.proofs.Alls.{all_append, all_right}
 use Rattle.crs_base.proofs.Words.{each_from_in}
 use Rattle.crs_index.specs.Indexes.{IndexState}
 use Rattle.crs_instance.specs.Instances.{InstanceState, IsOf}
 use Rattle.crs_model.specs.Bindings.{look_of}
 use Rattle.crs_model.specs.declared.plan.Plan.{Plan}
+use Rattle.crs_model.specs.declared.recognition.Recognition.{Recognition}
 use Rattle.crs_model.specs.Plans.{chronicle}
 use Rattle.crs_model.proofs.Options.{of_some, some_if}
 use Rattle.crs_store.specs.declared.holding.Holding.{Holding}
@@ -17,6 +20,7 @@ use Rattle.crs_store.specs.Forkings.{KeepsStanding}
 use Rattle.std.specs.Prelude.{Bool, false}
 use Rattle.crs_store.specs.Hooks.{AreHooks, key_of}
 use Rattle.crs_store.specs.Orders.{AreOrdered}
+use Rattle.crs_store.specs.Found.{found_state, founds, held_in}
 use Rattle.crs_store.specs.Joins.{ComesTo, Renews}
 use Rattle.crs_store.specs.Links.{linked_by, AreLinked, hook_at}
 use Rattle.crs_store.specs.Ripenings.{AreLeft, LeftAt}
@@ -110,6 +114,35 @@ root_held i old new none c = by c.0 c.1 (sym c.2 ∙ none) c.3
 
 -- ---- what is true of a store that goes on
 
-module _ (plan : Plan) (hooks : Hooks) (number : ℕ) (focus stopped : Bool) (was : List InstanceState) (since : ℕ) (is : IsStore (record { plan = plan; number = number; focus = focus; ranks = hooks.ranks.value.items; held = was; date = since; stopped = stopped })) (are : AreHooks plan hooks.events.items hooks.windows.items) (order : AreOrdered plan focus hooks.ranks.value.items hooks.events.items) (holding : Holding) (d : ℕ) where
-  pub tidy_at_mark : d ≤ 2 ^ 42 → IsTidyHolding plan focus hooks holding d → IsStore (record { plan = plan; number = number; focus = focus; ranks = hooks.ranks.value.items; held = members holding.slots.slots; date = d; stopped = stopped }) × AreHooks plan hooks.events.items hooks.windows.items × AreOrdered plan focus hooks.ranks.value.items hooks.events.items × (stopped ≡ false → IsTidyHolding plan focus hooks holding d)
-  tidy_at_mark small tidy = (record { proper = is.proper; instances = tidy_all plan focus hooks holding d tidy; early = small; flat = is.flat }, are, order, λ e. tidy)
+module _ (plan : Plan) (hooks : Hooks) (number : ℕ) (focus stopped : Bool) (was : List InstanceState) (placed since : ℕ) (is : IsStore (record { plan = plan; number = number; focus = focus; ranks = hooks.ranks.value.items; held = was; placed = placed; date = since; stopped = stopped })) (are : AreHooks plan hooks.events.items hooks.windows.items)
+    (order : AreOrdered plan focus hooks.ranks.value.items hooks.events.items) (holding : Holding) (found : List Recognition) (d : ℕ) where
+  pub tidy_at_mark : d ≤ 2 ^ 42 → IsTidyHolding plan focus hooks holding d → AllOf plan (founds plan found) → IsStore (record { plan = plan; number = number; focus = focus; ranks = hooks.ranks.value.items; held = held_in plan holding.slots found; placed = length (members holding.slots.slots); date = d; stopped = stopped }) × AreHooks plan hooks.events.items hooks.windows.items
+      × AreOrdered plan focus hooks.ranks.value.items hooks.events.items × (stopped ≡ false → IsTidyHolding plan focus hooks holding d)
+  tidy_at_mark small tidy all = (record { proper = is.proper; instances = all_append (IsOf plan) (members holding.slots.slots) (founds plan found) (tidy_all plan focus hooks holding d tidy) all; early = small; flat = is.flat }, are, order, λ e. tidy)
+
+-- what was kept, of what is held
+pub founds_of : (plan : Plan) (slots : SlotsState) (found : List Recognition) → AllOf plan (held_in plan slots found) → AllOf plan (founds plan found)
+founds_of plan slots found all = all_right (IsOf plan) (members slots.slots) (founds plan found) all
+
+-- ---- how many have places
+
+-- where all have, nothing was kept without one
+nothing_kept : (plan : Plan) (slots : SlotsState) (found : List Recognition) → length (members slots.slots) ≡ length (held_in plan slots found) → found ≡ []
+nothing_kept plan slots found e = nil_from_length found (let a = length-append (members slots.slots) (founds plan found) in let b = length-map found (found_state plan) in omega arith)
+
+-- all have places where nothing was kept
+pub all_placed : (plan : Plan) (slots : SlotsState) (found : List Recognition) → found ≡ [] → length (members slots.slots) ≡ length (held_in plan slots found)
+all_placed plan slots found e = ap length (sym (append-nil (members slots.slots)) ∙ ap (λ (t : List Recognition). held_in plan slots t) (sym e))
+
+pub still_placed : (plan : Plan) (old new : SlotsState) (was now : List Recognition) → now ≡ was → length (members old.slots) ≡ length (held_in plan old was) → length (members new.slots) ≡ length (held_in plan new now)
+still_placed plan old new was now same e = all_placed plan new now (same ∙ nothing_kept plan old was e)
+
+-- a bound by those in places is one by all
+pub more_ticks : (events start now : ℕ) (plan : Plan) (slots : SlotsState) (found : List Recognition) → now ≤ start + 2 * events * length (members slots.slots) → now ≤ start + 2 * events * length (held_in plan slots found)
+more_ticks events start now plan slots found few =
+    let more = times_more (2 * events) (length (members slots.slots)) (length (held_in plan slots found)) (let a = length-append (members slots.slots) (founds plan found) in omega arith) in
+    omega arith
+
+-- one alone in a place is all that is held
+pub held_alone : (plan : Plan) (slots : SlotsState) (found : List Recognition) (i : InstanceState) → found ≡ [] → members slots.slots ≡ i ∷ [] → held_in plan slots found ≡ i ∷ []
+held_alone plan slots found i none is = ap (λ (rs : List Recognition). held_in plan slots rs) none ∙ append-nil (members slots.slots) ∙ is

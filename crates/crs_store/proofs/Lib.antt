@@ -36,5 +36,6 @@ pub mod Registering
 pub mod Settling
 pub mod Held
 pub mod Assembled
+pub mod Born
 pub mod Passing
 pub mod Choosing

@@ -39,7 +39,7 @@ use Rattle.crs_store.proofs.Standing.{zip_all, parts_same, zip_of, over_of, foll
 
 -- ---- images
 
-all_stay : (Fine : Partial Sym → Type 0) (xs : List (Partial Sym)) → Ordered (λ a b. a ≡ b → ⊥) xs → ((a : Partial Sym) → IsIn a xs → Fine a) → IsImage (GoesOn Fine) xs xs
+pub all_stay : (Fine : Partial Sym → Type 0) (xs : List (Partial Sym)) → Ordered (λ a b. a ≡ b → ⊥) xs → ((a : Partial Sym) → IsIn a xs → Fine a) → IsImage (GoesOn Fine) xs xs
 all_stay Fine xs apart fine = record {
   distinct = apart;
   sound = λ y i. (y, i, (refl, fine y i));

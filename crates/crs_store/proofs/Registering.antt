@@ -1,6 +1,6 @@
 -- What is found again of an instance that comes.
 use Rattle.std.proofs.Common.{Bool, ◌≡◌, ℕ, List, [], ◌∷◌, ◌++◌, refl, sym, ap, subst, ◌∙◌, inl, arith, append-nil, append_assoc, inr}
-use Rattle.std.specs.Prelude.{Some, None, slice_get}
+use Rattle.std.specs.Prelude.{Some, None, slice_get, false}
 use Rattle.std.proofs.lemmas.Int.{ints}
 use Rattle.crs_agenda.specs.declared.timed.Handle.{Handle}
 use Rattle.crs_agenda.specs.declared.timed.Timed.{Timed}
@@ -15,10 +15,13 @@ use Rattle.crs_store.specs.declared.holding.Holding.{Holding}
 use Rattle.crs_store.specs.declared.waiting.hooks.Hook.{Hook}
 use Rattle.crs_store.specs.declared.waiting.hooks.Hooks.{Hooks}
 use Rattle.crs_store.specs.Dues.{AreDue, AreKept}
+use Rattle.crs_store.specs.Found.{founds, held_in}
+use Rattle.crs_store.specs.Stores.{AllOf}
+use Rattle.crs_model.specs.declared.recognition.Recognition.{Recognition}
 use Rattle.crs_store.specs.Links.{linked_by, Grows, IsLinkedAnew, IsArmedAnew, hook_at}
 use Rattle.crs_store.specs.Hooks.{key_of}
 use Rattle.crs_model.specs.Bindings.{look_of}
-use Rattle.crs_store.specs.Slots.{SlotsState, slot_at, handle_at, members, Puts}
+use Rattle.crs_store.specs.Slots.{SlotsState, slot_at, handle_at, Puts}
 use Rattle.crs_store.specs.Sweeps.{IsDone}
 use Rattle.crs_store.specs.Tidy.{IsKnown, IsTidy, IsTidyHolding, Registers}
 use Rattle.crs_store.specs.Windows.{IsAble}
@@ -83,43 +86,50 @@ held_registered plan focus hooks h old slots p i puts new r of able undone tidy 
 -- ---- one after another
 
 -- those behind the rest have come
-pub record IsHeldTo (plan : Plan) (focus : Bool) (hooks : Hooks) (h : ℕ) (Out : InstanceState → Type 0) (old : Holding) (born rest : List InstanceState) (now : Holding) : Type 0 where
+pub record IsHeldTo (plan : Plan) (focus : Bool) (hooks : Hooks) (h : ℕ) (Out : InstanceState → Type 0) (finds : Bool) (old : Holding) (first : List Recognition) (born rest : List InstanceState) (now : Holding) (found : List Recognition) : Type 0 where
   pub tidy : IsTidyHolding plan focus hooks now h
+  pub kept : AllOf plan (founds plan found)
+  pub placed : finds ≡ false → found ≡ first
   pub met : List InstanceState
   pub all : born ≡ rest ++ met
   pub come : List InstanceState
   pub left : LeavesOut Out met come
-  pub joins : Joins (members old.slots.slots) come (members now.slots.slots)
+  pub joins : Joins (held_in plan old.slots first) come (held_in plan now.slots found)
 
-module _ (plan : Plan) (focus : Bool) (hooks : Hooks) (h : ℕ) (Out : InstanceState → Type 0) (old : Holding) (born : List InstanceState) where
-  pub held_none : IsTidyHolding plan focus hooks old h → IsHeldTo plan focus hooks h Out old born born old
-  held_none tidy = record { tidy = tidy; met = []; all = sym (append-nil born); come = []; left = refl; joins = joins_none (members old.slots.slots) }
+module _ (plan : Plan) (focus : Bool) (hooks : Hooks) (h : ℕ) (Out : InstanceState → Type 0) (finds : Bool) (old : Holding) (first : List Recognition) (born : List InstanceState) where
+  pub held_none : IsTidyHolding plan focus hooks old h → AllOf plan (founds plan first) → IsHeldTo plan focus hooks h Out finds old first born born old first
+  held_none tidy all = record { tidy = tidy; kept = all; placed = λ e. refl; met = []; all = sym (append-nil born); come = []; left = refl; joins = joins_none (held_in plan old.slots first) }
 
-  pub held_more : (rest left : List InstanceState) (now new : Holding) (i : InstanceState) → IsHeldTo plan focus hooks h Out old born rest now → rest ≡ left ++ i ∷ [] → IsTidyHolding plan focus hooks new h → ComesOrGoes Out i (members now.slots.slots) (members new.slots.slots) → IsHeldTo plan focus hooks h Out old born left new
-  held_more rest left now new i held is tidy comes = elim comes [
+  pub held_more : (rest left : List InstanceState) (now new : Holding) (found more : List Recognition) (i : InstanceState) → IsHeldTo plan focus hooks h Out finds old first born rest now found → rest ≡ left ++ i ∷ [] → IsTidyHolding plan focus hooks new h → AllOf plan (founds plan more) → (finds ≡ false → more ≡ found) → ComesOrGoes Out i (held_in plan now.slots found) (held_in plan new.slots more)
+      → IsHeldTo plan focus hooks h Out finds old first born left new more
+  held_more rest left now new found more i held is tidy all_more same comes = elim comes [
     | inl c ↦ record {
       tidy = tidy;
+      kept = all_more;
+      placed = λ e. same e ∙ held.placed e;
       met = i ∷ held.met;
       all = longer;
       come = i ∷ held.come;
       left = inl (held.come, refl, held.left);
-      joins = joins_more (members old.slots.slots) held.come (members now.slots.slots) i c.0 c.1 (members new.slots.slots) held.joins c.2 c.3;
+      joins = joins_more (held_in plan old.slots first) held.come (held_in plan now.slots found) i c.0 c.1 (held_in plan new.slots more) held.joins c.2 c.3;
     }
     | inr g ↦ record {
       tidy = tidy;
+      kept = all_more;
+      placed = λ e. same e ∙ held.placed e;
       met = i ∷ held.met;
       all = longer;
       come = held.come;
       left = inr (g.0, held.left);
-      joins = subst (λ (t : List InstanceState). Joins (members old.slots.slots) held.come t) (sym g.1) held.joins;
+      joins = subst (λ (t : List InstanceState). Joins (held_in plan old.slots first) held.come t) (sym g.1) held.joins;
     }
   ]
     where
       longer : born ≡ left ++ i ∷ held.met
       longer = held.all ∙ ap (λ (t : List InstanceState). t ++ held.met) is ∙ append_assoc left (i ∷ []) held.met
 
-  pub held_each : (P : InstanceState → Type 0) (rest left : List InstanceState) (now : Holding) (i : InstanceState) → IsHeldTo plan focus hooks h Out old born rest now → rest ≡ left ++ i ∷ [] → AllByRecursion P born → P i
-  held_each P rest left now i held is all = in_from_each P born all i (subst (IsIn i) (sym (held.all ∙ ap (λ (t : List InstanceState). t ++ held.met) is)) (in_append_left (left ++ i ∷ []) held.met i (in_append_right left (i ∷ []) i (inl refl))))
+  pub held_each : (P : InstanceState → Type 0) (rest left : List InstanceState) (now : Holding) (found : List Recognition) (i : InstanceState) → IsHeldTo plan focus hooks h Out finds old first born rest now found → rest ≡ left ++ i ∷ [] → AllByRecursion P born → P i
+  held_each P rest left now found i held is all = in_from_each P born all i (subst (IsIn i) (sym (held.all ∙ ap (λ (t : List InstanceState). t ++ held.met) is)) (in_append_left (left ++ i ∷ []) held.met i (in_append_right left (i ∷ []) i (inl refl))))
 
-  pub held_whole : (rest : List InstanceState) (now : Holding) → IsHeldTo plan focus hooks h Out old born rest now → rest ≡ [] → JoinsSome Out (members old.slots.slots) born (members now.slots.slots)
-  held_whole rest now held is = (held.come, subst (λ (t : List InstanceState). LeavesOut Out t held.come) (sym (held.all ∙ ap (λ (t : List InstanceState). t ++ held.met) is)) held.left, held.joins)
+  pub held_whole : (rest : List InstanceState) (now : Holding) (found : List Recognition) → IsHeldTo plan focus hooks h Out finds old first born rest now found → rest ≡ [] → JoinsSome Out (held_in plan old.slots first) born (held_in plan now.slots found)
+  held_whole rest now found held is = (held.come, subst (λ (t : List InstanceState). LeavesOut Out t held.come) (sym (held.all ∙ ap (λ (t : List InstanceState). t ++ held.met) is)) held.left, held.joins)

@@ -19,6 +19,7 @@ pub mod Joins
 pub mod Forkings
 pub mod Scannings
 pub mod Scans
+pub mod Found
 pub mod Moments
 pub mod Orders
 pub mod PlaceWalks

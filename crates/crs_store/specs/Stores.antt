@@ -17,13 +17,14 @@ use Rattle.crs_store.specs.Hooks.{LooksFor}
 use Rattle.crs_store.specs.Orders.{AreBehind}
 use Rattle.crs_store.specs.PlanLevels.{levels_in}
 
--- a store, as contracts see it
+-- a store, as contracts see it: of what is held, the first ones have places, as many as `placed` says
 pub record StoreState : Type 0 where
   pub plan : Plan
   pub number : ℕ
   pub focus : Bool
   pub ranks : List ℕ
   pub held : List InstanceState
+  pub placed : ℕ
   pub date : ℕ
   pub stopped : Bool
 
@@ -57,6 +58,10 @@ pub record IsSameStore (old new : StoreState) : Type 0 where
   pub number : new.number ≡ old.number
   pub focus : new.focus ≡ old.focus
   pub ranks : new.ranks ≡ old.ranks
+
+-- where each that is held had a place, each has one
+abbrev pub KeepsPlaces : StoreState → StoreState → Type 0
+KeepsPlaces old new = old.placed ≡ length old.held → new.placed ≡ length new.held
 
 -- The same where the later entries come next, up to h: what can't be recognised with them may be left out.
 pub record StandsAhead (s : StoreState) (was pool entries later : List (Entry Sym)) (d g h : ℕ) : Type 0 where

@@ -1,5 +1,5 @@
 //! What hangs on the plan alone.
-ghost use Rattle.std.specs.Prelude.{◌≡◌, ◌<◌, length};
+ghost use Rattle.std.specs.Prelude.{◌≡◌, ◌<◌, IsTrue, length};
 ghost use Rattle.crs_store.specs.Links.{hook_at, linked_by};
 
 use crate::waiting::hooks::{Hook, Hooks};
@@ -56,6 +56,14 @@ impl<'a> Chart<'a> {
         ensures { result ≡ length self.now.plan.chronicle.windows }
     {
         self.plan.chronicle.windows.len() as u8
+    }
+
+    /// Whether it has none.
+    pub(crate) fn is_windowless(&self) -> bool
+        ensures none { IsTrue result → length self.now.plan.chronicle.windows ≡ 0 }
+        ensures is { IsChart self.now }
+    {
+        self.plan.chronicle.windows.len() == 0
     }
 
     /// By which date an event can come that an instance waits for, where it was judged at `h`: those of

@@ -1,5 +1,5 @@
 //! The instances that are held, and what finds them again.
-ghost use Rattle.std.specs.Prelude.{◌≡◌, ◌≤◌, ◌<◌, ◌^◌, [], Some, length, map, OnOk};
+ghost use Rattle.std.specs.Prelude.{◌≡◌, ◌≤◌, ◌<◌, ◌^◌, [], Some, length, map, false, OnOk};
 ghost use Rattle.std.specs.List.{AllByRecursion};
 ghost use Rattle.std.specs.List.Sorted.{IsStrictlySortedBy};
 ghost use Rattle.std.specs.Ordering.{nat_cmp};
@@ -8,6 +8,7 @@ ghost use Rattle.crs_instance.specs.Instances.{IsOf};
 ghost use Rattle.crs_store.specs.Ahead.{MayGo};
 ghost use Rattle.crs_store.specs.Hooks.{KeepsFresh};
 ghost use Rattle.crs_store.specs.Dues.{KeepsFreshPairs};
+ghost use Rattle.crs_store.specs.Found.{founds, held_in};
 ghost use Rattle.crs_store.specs.Joins.{ComesTo, ComesOrGoes, JoinsSome, Renews};
 ghost use Rattle.crs_store.specs.Slots.{members, slot_at};
 ghost use Rattle.crs_store.specs.Stores.{AllOf};
@@ -15,9 +16,11 @@ ghost use Rattle.crs_store.specs.Tidy.{IsTidyHolding, Registers, SettlesPlace, S
 ghost use Rattle.crs_store.specs.Windows.{IsAble, IsFollowed, IsPassed};
 
 use crate::chart::Chart;
+use crate::found::find;
 use crate::living::hope::is_hopeful;
 use crate::living::judging::{Judging, Passing};
 use crate::living::windows::is_done;
+use crate::moment::Birth;
 use crate::places::slots::Slots;
 use crate::places::sort_places;
 use crate::places::walking::{follow_places, pass_places};
@@ -29,7 +32,7 @@ use crs_base::Entry;
 use crs_history::History;
 use crs_index::Index;
 use crs_instance::Instance;
-use crs_model::Body;
+use crs_model::{Body, Recognition};
 use std::alloc::{AllocError, Global};
 use std::rc::Rc;
 
@@ -174,27 +177,55 @@ fn hold_hopeful(
     hold(holding, chart, instance, h)
 }
 
-/// Adds the instances, which were judged at `h`, but for those that the entries ahead leave no hope
-/// where levels aren't read.
+/// Adds an instance that comes of others, unless it may be left out. Where it is done and the chronicle
+/// has no windows, it may be added as its recognition: nothing can happen to it before the mark.
+#[inline(always)]
+fn hold_born(
+    holding: &mut Holding,
+    found: &mut Vec<Recognition>,
+    chart: &Chart<'_>,
+    instance: Instance,
+    birth: &Birth<'_>,
+) -> Result<(), AllocError>
+    requires of { IsOf chart.now.plan instance }
+    requires able { IsAble chart.now.plan chart.now.focus birth.now.h instance }
+    requires tidy { IsTidyHolding chart.now.plan chart.now.focus chart.now.hooks holding.old birth.now.h }
+    requires kept { AllOf chart.now.plan (founds chart.now.plan found.old.items) }
+    requires near { birth.now.beyond ≤ 2 ^ 42 }
+    requires small { birth.now.h ≤ 2 ^ 42 }
+    ensures tidy { OnOk result (IsTidyHolding chart.now.plan chart.now.focus chart.now.hooks holding.new birth.now.h) }
+    ensures kept { OnOk result (AllOf chart.now.plan (founds chart.now.plan found.new.items)) }
+    ensures comes { OnOk result (ComesOrGoes (MayGo chart.now.plan chart.now.focus (map (λ r. entry_of r.value) birth.now.ahead.now) birth.now.beyond) instance (held_in chart.now.plan holding.old.slots found.old.items) (held_in chart.now.plan holding.new.slots found.new.items)) }
+    ensures placed { birth.now.finds ≡ false → found.new.items ≡ found.old.items }
+{
+    if birth.finds && chart.is_windowless() && instance.is_whole() {
+        return find(found, &instance);
+    }
+    hold_hopeful(holding, chart, instance, birth.ahead, birth.beyond, birth.h)
+}
+
+/// Adds the instances that come of others, but for those that may be left out.
 #[inline(always)]
 pub(crate) fn hold_all(
     holding: &mut Holding,
+    found: &mut Vec<Recognition>,
     chart: &Chart<'_>,
     born: &mut Vec<Instance>,
-    ahead: &[Rc<Entry>],
-    beyond: u64,
-    h: u64,
+    birth: &Birth<'_>,
 ) -> Result<(), AllocError>
     requires of { AllOf chart.now.plan born.old.items }
-    requires able { AllByRecursion (IsAble chart.now.plan chart.now.focus h) born.old.items }
-    requires tidy { IsTidyHolding chart.now.plan chart.now.focus chart.now.hooks holding.old h }
-    requires near { beyond ≤ 2 ^ 42 }
-    requires small { h ≤ 2 ^ 42 }
-    ensures tidy { OnOk result (IsTidyHolding chart.now.plan chart.now.focus chart.now.hooks holding.new h) }
-    ensures joins { OnOk result (JoinsSome (MayGo chart.now.plan chart.now.focus (map (λ r. entry_of r.value) ahead.now) beyond) (members holding.old.slots.slots) born.old.items (members holding.new.slots.slots)) }
+    requires able { AllByRecursion (IsAble chart.now.plan chart.now.focus birth.now.h) born.old.items }
+    requires tidy { IsTidyHolding chart.now.plan chart.now.focus chart.now.hooks holding.old birth.now.h }
+    requires kept { AllOf chart.now.plan (founds chart.now.plan found.old.items) }
+    requires near { birth.now.beyond ≤ 2 ^ 42 }
+    requires small { birth.now.h ≤ 2 ^ 42 }
+    ensures tidy { OnOk result (IsTidyHolding chart.now.plan chart.now.focus chart.now.hooks holding.new birth.now.h) }
+    ensures kept { OnOk result (AllOf chart.now.plan (founds chart.now.plan found.new.items)) }
+    ensures joins { OnOk result (JoinsSome (MayGo chart.now.plan chart.now.focus (map (λ r. entry_of r.value) birth.now.ahead.now) birth.now.beyond) (held_in chart.now.plan holding.old.slots found.old.items) born.old.items (held_in chart.now.plan holding.new.slots found.new.items)) }
+    ensures placed { OnOk result (birth.now.finds ≡ false → found.new.items ≡ found.old.items) }
 {
     while let Some(instance) = born.pop() {
-        hold_hopeful(holding, chart, instance, ahead, beyond, h)?;
+        hold_born(holding, found, chart, instance, birth)?;
     }
     Ok(())
 }

@@ -2,6 +2,7 @@
 #![tactic(auto)]
 
 mod chart;
+mod found;
 mod holding;
 mod living;
 mod moment;

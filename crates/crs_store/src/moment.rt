@@ -55,9 +55,21 @@ pub struct Coming<'a> {
     pub behind: bool,
 }
 
+/// What is held of the instances that come of others, which were judged at `h`. Those that the entries
+/// ahead and those from `beyond` on leave no hope aren't, and of those that are done the recognition
+/// alone is kept, where `finds` is true.
+#[derive(Drop)]
+pub(crate) struct Birth<'a> {
+    pub(crate) ahead: &'a [Rc<Entry>],
+    pub(crate) beyond: u64,
+    pub(crate) finds: bool,
+    pub(crate) h: u64,
+}
+
 /// The entry, which is the last of the history, the date at which all was judged before, and the one
 /// at which it is to be judged; the entries that come next, before all that are dated from `beyond` on,
-/// and whether all that comes later is behind it by date and rank.
+/// whether all that comes later is behind it by date and rank, and whether what is done at its birth is
+/// kept as a recognition.
 #[derive(Drop)]
 pub(crate) struct Moment<'a> {
     pub(crate) alloc: Global,
@@ -71,10 +83,12 @@ pub(crate) struct Moment<'a> {
     pub(crate) ahead: &'a [Rc<Entry>],
     pub(crate) beyond: u64,
     pub(crate) behind: bool,
+    pub(crate) finds: bool,
 }
 
 /// The entry of a prompt chronicle, which isn't settled yet, and the date at which all is judged and
-/// stays so; the entries that come next, before all that are dated from `beyond` on.
+/// stays so; the entries that come next, before all that are dated from `beyond` on, and whether what is
+/// done at its birth is kept as a recognition.
 #[derive(Drop)]
 pub(crate) struct PromptMoment<'a> {
     pub(crate) alloc: Global,
@@ -86,6 +100,7 @@ pub(crate) struct PromptMoment<'a> {
     pub(crate) since: u64,
     pub(crate) ahead: &'a [Rc<Entry>],
     pub(crate) beyond: u64,
+    pub(crate) finds: bool,
 }
 
 /// A horizon to which a store moves on, and the date at which all was judged before; the number of the

@@ -1,11 +1,12 @@
-ghost use Rattle.std.specs.Prelude.{◌≡◌, ◌+◌, ◌*◌, ◌<◌, ◌≤◌, ◌^◌, ◌↔◌, ◌⊎◌, [], ◌∷◌, length, replicate, None, slice_get, IsTrue, OnOk, IfOk, IfSome, Err, true, false, map};
+ghost use Rattle.std.specs.Prelude.{◌≡◌, ◌+◌, ◌*◌, ◌<◌, ◌≤◌, ◌^◌, ◌↔◌, ◌⊎◌, [], ◌∷◌, length, replicate, None, take, slice_get, IsTrue, OnOk, IfOk, IfSome, Err, true, false, map};
 ghost use Rattle.std.specs.Option.{option_copied};
 ghost use Rattle.crs_base.specs.Seen.{entry_of};
 ghost use Rattle.crs_history.specs.Histories.{EndsWith};
 ghost use Rattle.crs_model.specs.Plans.{IsProper, chronicle};
 ghost use Rattle.crs_model.specs.Levels.{reads_levels};
 ghost use Rattle.crs_instance.specs.Instances.{InstanceState, IsOf};
-ghost use Rattle.crs_store.specs.Stores.{Stands, IsStore, IsSameStore, IsOffered, IsOfferedAt, IsOfferedUntil, PassesOver, IsOfferedPrompt, IsOfferedPromptAhead, IsSettledWith, IsSettledComing};
+ghost use Rattle.crs_store.specs.Found.{founds, held_in};
+ghost use Rattle.crs_store.specs.Stores.{AllOf, KeepsPlaces, Stands, IsStore, IsSameStore, IsOffered, IsOfferedAt, IsOfferedUntil, PassesOver, IsOfferedPrompt, IsOfferedPromptAhead, IsSettledWith, IsSettledComing};
 ghost use Rattle.crs_store.specs.Sweeps.{TakesInSome, TakesPromptSome};
 ghost use Rattle.crs_store.specs.Answers.{IsAdvanced, MovesOn};
 ghost use Rattle.crs_store.specs.Hooks.{AreHooks};
@@ -16,9 +17,10 @@ ghost use Rattle.crs_store.specs.Tidy.{IsTidyHolding};
 ghost use Rattle.crs_store.specs.declared.refused.StoreRefused.TheVariants.{Stopped, Memory};
 
 use crate::chart::Chart;
+use crate::found::answered;
 use crate::holding::{Holding, follow, hold, hold_all, no_holding, pass};
 use crate::living::judging::Judging;
-use crate::moment::{Arrival, Coming, Horizon, Moment, PromptMoment};
+use crate::moment::{Arrival, Birth, Coming, Horizon, Moment, PromptMoment};
 use crate::order::put_in_order;
 use crate::places::ripening::take_ripe;
 use crate::refused::StoreRefused;
@@ -41,6 +43,8 @@ pub struct Store {
     focus: bool,
     hooks: Hooks,
     holding: Holding,
+    /// What was done at its birth since the last mark, as far as it has no place.
+    found: Vec<Recognition>,
     date: u64,
     stopped: bool,
     /// Filled anew at each entry, where they keep their memory.
@@ -50,7 +54,8 @@ pub struct Store {
 }
 
 impl Model for Store {
-    ghost use Rattle.std.specs.Prelude.{◌≡◌, false};
+    ghost use Rattle.std.specs.Prelude.{◌≡◌, false, length};
+    ghost use Rattle.crs_store.specs.Found.{held_in};
     ghost use Rattle.crs_store.specs.Hooks.{AreHooks};
     ghost use Rattle.crs_store.specs.Orders.{AreOrdered};
     ghost use Rattle.crs_store.specs.Slots.{members};
@@ -59,9 +64,9 @@ impl Model for Store {
 
     ghost Value = { StoreState };
 
-    ghost view = { λ s. record { plan = s.plan.value; number = s.number; focus = s.focus; ranks = s.hooks.ranks.value.items; held = members s.holding.slots.slots; date = s.date; stopped = s.stopped } };
+    ghost view = { λ s. record { plan = s.plan.value; number = s.number; focus = s.focus; ranks = s.hooks.ranks.value.items; held = held_in s.plan.value s.holding.slots s.found.items; placed = length (members s.holding.slots.slots); date = s.date; stopped = s.stopped } };
 
-    ghost invariant = { λ s. IsStore (record { plan = s.plan.value; number = s.number; focus = s.focus; ranks = s.hooks.ranks.value.items; held = members s.holding.slots.slots; date = s.date; stopped = s.stopped }) × AreHooks s.plan.value s.hooks.events.items s.hooks.windows.items × AreOrdered s.plan.value s.focus s.hooks.ranks.value.items s.hooks.events.items × (s.stopped ≡ false → IsTidyHolding s.plan.value s.focus s.hooks s.holding s.date) };
+    ghost invariant = { λ s. IsStore (record { plan = s.plan.value; number = s.number; focus = s.focus; ranks = s.hooks.ranks.value.items; held = held_in s.plan.value s.holding.slots s.found.items; placed = length (members s.holding.slots.slots); date = s.date; stopped = s.stopped }) × AreHooks s.plan.value s.hooks.events.items s.hooks.windows.items × AreOrdered s.plan.value s.focus s.hooks.ranks.value.items s.hooks.events.items × (s.stopped ≡ false → IsTidyHolding s.plan.value s.focus s.hooks s.holding s.date) };
 }
 
 /// Takes in the entry, and judges all at the date `until`: adds what comes of the instances by it, and
@@ -70,14 +75,18 @@ impl Model for Store {
 fn take_in<L: Ledger>(
     moment: &Moment<'_>,
     holding: &mut Holding,
+    found: &mut Vec<Recognition>,
     steps: &mut Steps<L>,
     places: &mut Vec<u32>,
     born: &mut Vec<Instance>,
 ) -> Result<(), AllocError>
     requires moment { IsMoment moment.now }
     requires tidy { IsTidyHolding moment.now.plan.now moment.now.focus moment.now.hooks.now holding.old moment.now.since }
+    requires kept { AllOf moment.now.plan.now (founds moment.now.plan.now found.old.items) }
     ensures tidy { OnOk result (IsTidyHolding moment.now.plan.now moment.now.focus moment.now.hooks.now holding.new moment.now.until) }
-    ensures taken { OnOk result (TakesInSome moment.now.plan.now moment.now.focus (IsOvertaken moment.now.plan.now moment.now.focus moment.now.hooks.now.events.items moment.now.behind (entry_of moment.now.entry.now.value)) moment.now.history.now (entry_of moment.now.entry.now.value) moment.now.until moment.now.since (map (λ r. entry_of r.value) moment.now.ahead.now) moment.now.beyond (members holding.old.slots.slots) (members holding.new.slots.slots)) }
+    ensures kept { OnOk result (AllOf moment.now.plan.now (founds moment.now.plan.now found.new.items)) }
+    ensures taken { OnOk result (TakesInSome moment.now.plan.now moment.now.focus (IsOvertaken moment.now.plan.now moment.now.focus moment.now.hooks.now.events.items moment.now.behind (entry_of moment.now.entry.now.value)) moment.now.history.now (entry_of moment.now.entry.now.value) moment.now.until moment.now.since (map (λ r. entry_of r.value) moment.now.ahead.now) moment.now.beyond (held_in moment.now.plan.now holding.old.slots found.old.items) (held_in moment.now.plan.now holding.new.slots found.new.items)) }
+    ensures placed { OnOk result (moment.now.finds ≡ false → found.new.items ≡ found.old.items) }
     ensures cost { moment.now.focus ≡ false → steps.new ≤ steps.old + 2 * length moment.now.plan.now.chronicle.events * length (members holding.old.slots.slots) }
 {
     let chart = Chart {
@@ -121,7 +130,13 @@ fn take_in<L: Ledger>(
         until,
         places,
     )?;
-    hold_all(holding, &chart, born, moment.ahead, moment.beyond, until)?;
+    let birth = Birth {
+        ahead: moment.ahead,
+        beyond: moment.beyond,
+        finds: moment.finds,
+        h: until,
+    };
+    hold_all(holding, found, &chart, born, &birth)?;
     Ok(())
 }
 
@@ -131,14 +146,18 @@ fn take_in<L: Ledger>(
 fn take_prompt<L: Ledger>(
     moment: &PromptMoment<'_>,
     holding: &mut Holding,
+    found: &mut Vec<Recognition>,
     steps: &mut Steps<L>,
     places: &mut Vec<u32>,
     born: &mut Vec<Instance>,
 ) -> Result<(), AllocError>
     requires moment { IsPromptMoment moment.now }
     requires tidy { IsTidyHolding moment.now.plan.now moment.now.focus moment.now.hooks.now holding.old moment.now.since }
+    requires kept { AllOf moment.now.plan.now (founds moment.now.plan.now found.old.items) }
     ensures tidy { OnOk result (IsTidyHolding moment.now.plan.now moment.now.focus moment.now.hooks.now holding.new moment.now.since) }
-    ensures taken { OnOk result (TakesPromptSome moment.now.plan.now moment.now.focus moment.now.history.now (entry_of moment.now.entry.now.value) moment.now.since (map (λ r. entry_of r.value) moment.now.ahead.now) moment.now.beyond (members holding.old.slots.slots) (members holding.new.slots.slots)) }
+    ensures kept { OnOk result (AllOf moment.now.plan.now (founds moment.now.plan.now found.new.items)) }
+    ensures taken { OnOk result (TakesPromptSome moment.now.plan.now moment.now.focus moment.now.history.now (entry_of moment.now.entry.now.value) moment.now.since (map (λ r. entry_of r.value) moment.now.ahead.now) moment.now.beyond (held_in moment.now.plan.now holding.old.slots found.old.items) (held_in moment.now.plan.now holding.new.slots found.new.items)) }
+    ensures placed { OnOk result (moment.now.finds ≡ false → found.new.items ≡ found.old.items) }
     ensures cost { steps.new ≤ steps.old + 2 * length moment.now.plan.now.chronicle.events * length (members holding.old.slots.slots) }
 {
     let arrival = Arrival {
@@ -166,7 +185,13 @@ fn take_prompt<L: Ledger>(
         focus: moment.focus,
     };
     let since = moment.since;
-    hold_all(holding, &chart, born, moment.ahead, moment.beyond, since)?;
+    let early = Birth {
+        ahead: moment.ahead,
+        beyond: moment.beyond,
+        finds: moment.finds,
+        h: since,
+    };
+    hold_all(holding, found, &chart, born, &early)?;
     Ok(())
 }
 
@@ -174,12 +199,15 @@ fn take_prompt<L: Ledger>(
 fn move_on(
     to: &Horizon<'_>,
     holding: &mut Holding,
+    found: &mut Vec<Recognition>,
     places: &mut Vec<u32>,
 ) -> Result<List<Recognition>, AllocError>
     requires to { IsHorizon to.now }
     requires tidy { IsTidyHolding to.now.plan.now to.now.focus to.now.hooks.now holding.old to.now.since }
+    requires kept { AllOf to.now.plan.now (founds to.now.plan.now found.old.items) }
     ensures tidy { IfOk result (λ _. IsTidyHolding to.now.plan.now to.now.focus to.now.hooks.now holding.new to.now.h) }
-    ensures moved { IfOk result (MovesOn to.now.plan.now to.now.focus to.now.history.now to.now.since to.now.h to.now.number to.now.mark (members holding.old.slots.slots) (members holding.new.slots.slots)) }
+    ensures none { IfOk result (λ _. found.new.items ≡ []) }
+    ensures moved { IfOk result (MovesOn to.now.plan.now to.now.focus to.now.history.now to.now.since to.now.h to.now.number to.now.mark (held_in to.now.plan.now holding.old.slots found.old.items) (held_in to.now.plan.now holding.new.slots found.new.items)) }
 {
     let chart = Chart {
         plan: to.plan,
@@ -192,7 +220,7 @@ fn move_on(
         focus: to.focus,
         h: to.h,
     };
-    let mut found = take_ripe(
+    let ripe = take_ripe(
         to.alloc,
         &judging,
         &mut holding.slots,
@@ -200,8 +228,21 @@ fn move_on(
         to.number,
         to.mark,
     )?;
-    put_in_order(&mut found);
-    Ok(List::from_vec(found))
+    let mut all = answered(found, ripe, to)?;
+    put_in_order(&mut all);
+    Ok(List::from_vec(all))
+}
+
+/// Holds nothing any more. It is kept apart, since what drops all that is held is long, and would keep
+/// the calls that end so from being inlined.
+#[cold]
+#[inline(never)]
+fn let_go(alloc: Global, holding: &mut Holding, found: &mut Vec<Recognition>)
+    ensures places { members holding.new.slots.slots ≡ [] }
+    ensures found { found.new.items ≡ [] }
+{
+    *holding = no_holding(alloc);
+    *found = Vec::new(alloc);
 }
 
 /// Whether levels are read: those of a prompt chronicle aren't.
@@ -241,6 +282,7 @@ impl Store {
         ensures focus { IfOk result (λ s. s.focus ≡ reads_levels (chronicle plan.value) focus) }
         ensures ranks { IfOk result (λ s. s.ranks ≡ []) }
         ensures running { IfOk result (λ s. s.stopped ≡ false) }
+        ensures placed { IfOk result (λ s. s.placed ≡ length s.held) }
         ensures stands { IfOk result (λ s. Stands s [] [] [] 0 0) }
     {
         let ranks = Rc::new(alloc, Vec::new(alloc))?;
@@ -267,6 +309,7 @@ impl Store {
         ensures focus { IfOk result (λ s. s.focus ≡ reads_levels (chronicle plan.value) focus) }
         ensures ranks { IfOk result (λ s. s.ranks ≡ ranks.value.items) }
         ensures running { IfOk result (λ s. s.stopped ≡ false) }
+        ensures placed { IfOk result (λ s. s.placed ≡ length s.held) }
         ensures stands { IfOk result (λ s. Stands s [] [] [] 0 0) }
     {
         let levels = reads_levels(&plan, focus);
@@ -291,15 +334,18 @@ impl Store {
         ensures focus { IfOk result (λ s. s.focus ≡ focus) }
         ensures ranks { IfOk result (λ s. s.ranks ≡ hooks.ranks.value.items) }
         ensures running { IfOk result (λ s. s.stopped ≡ false) }
+        ensures placed { IfOk result (λ s. s.placed ≡ length s.held) }
         ensures stands { IfOk result (λ s. Stands s [] [] [] 0 0) }
     {
         let holding = first_holding(alloc, &plan, focus, &hooks)?;
+        let found = Vec::new(alloc);
         Ok(Store {
             plan,
             number,
             focus,
             hooks,
             holding,
+            found,
             date: 0,
             stopped: false,
             places: Vec::new(alloc),
@@ -322,6 +368,7 @@ impl Store {
         ensures stopped { (result ≡ Err Stopped) ↔ IsTrue self.old.stopped }
         ensures raised { IsTrue self.new.stopped ↔ (IsTrue self.old.stopped ⊎ (result ≡ Err Memory)) }
         ensures same { IsSameStore self.old self.new }
+        ensures placed { OnOk result (KeepsPlaces self.old self.new) }
         ensures stands { OnOk result (IsOffered self.old history.now (entry_of entry.now.value) self.new) }
         ensures cost { self.old.focus ≡ false → steps.new ≤ steps.old + 2 * length self.old.plan.chronicle.events * length self.old.held }
     {
@@ -331,12 +378,14 @@ impl Store {
             beyond: entry.date,
             behind: false,
         };
-        self.take(history, entry, &coming, steps)
+        self.take(history, entry, &coming, false, steps)
     }
 
     /// Takes in an entry as `offer` does, and judges all that is held at the date until which nothing
     /// comes. What those that come can't complete it may leave out. An entry for which the chronicle
-    /// doesn't look may as well be passed over (`pass_over`).
+    /// doesn't look may as well be passed over (`pass_over`). What is done by it and has no windows it may
+    /// keep without a place: that is counted by `held`, and not lent by `instance`, until the next mark
+    /// answers it.
     pub fn offer_until<L: Ledger>(
         &mut self,
         history: &History,
@@ -353,15 +402,17 @@ impl Store {
         ensures stands { OnOk result (IsOfferedUntil self.old history.now (entry_of entry.now.value) coming.now.until (map (λ r. entry_of r.value) coming.now.ahead.now) coming.now.beyond coming.now.behind self.new) }
         ensures cost { self.old.focus ≡ false → steps.new ≤ steps.old + 2 * length self.old.plan.chronicle.events * length self.old.held }
     {
-        self.take(history, entry, coming, steps)
+        self.take(history, entry, coming, true, steps)
     }
 
     /// Takes in an entry of any name, and judges all that is held at the date until which nothing comes.
+    /// Each that is held gets a place, unless `finds` is true.
     fn take<L: Ledger>(
         &mut self,
         history: &History,
         entry: &Rc<Entry>,
         coming: &Coming<'_>,
+        finds: bool,
         steps: &mut Steps<L>,
     ) -> Result<(), StoreRefused>
         requires last { self.old.stopped ≡ false → EndsWith (entry_of entry.now.value) history.now.entries }
@@ -370,6 +421,7 @@ impl Store {
         ensures stopped { (result ≡ Err Stopped) ↔ IsTrue self.old.stopped }
         ensures raised { IsTrue self.new.stopped ↔ (IsTrue self.old.stopped ⊎ (result ≡ Err Memory)) }
         ensures same { IsSameStore self.old self.new }
+        ensures placed { OnOk result (finds ≡ false → KeepsPlaces self.old self.new) }
         ensures stands { OnOk result (IsOfferedAt self.old history.now (entry_of entry.now.value) coming.now.until (map (λ r. entry_of r.value) coming.now.ahead.now) coming.now.beyond coming.now.behind self.new) }
         ensures cost { self.old.focus ≡ false → steps.new ≤ steps.old + 2 * length self.old.plan.chronicle.events * length self.old.held }
     {
@@ -391,10 +443,12 @@ impl Store {
             ahead: coming.ahead,
             beyond: coming.beyond,
             behind: coming.behind,
+            finds,
         };
         match take_in(
             &moment,
             &mut self.holding,
+            &mut self.found,
             steps,
             &mut self.places,
             &mut self.born,
@@ -404,7 +458,7 @@ impl Store {
                 Ok(())
             }
             Err(_) => {
-                self.holding = no_holding(self.alloc);
+                let_go(self.alloc, &mut self.holding, &mut self.found);
                 self.stopped = true;
                 Err(StoreRefused::Memory)
             }
@@ -440,15 +494,17 @@ impl Store {
         ensures stopped { (result ≡ Err Stopped) ↔ IsTrue self.old.stopped }
         ensures raised { IsTrue self.new.stopped ↔ (IsTrue self.old.stopped ⊎ (result ≡ Err Memory)) }
         ensures same { IsSameStore self.old self.new }
+        ensures placed { OnOk result (KeepsPlaces self.old self.new) }
         ensures stands { OnOk result (IsOfferedPrompt self.old history.now (entry_of entry.now.value) self.new) }
         ensures cost { steps.new ≤ steps.old + 2 * length self.old.plan.chronicle.events * length self.old.held }
     {
-        self.offer_prompt_ahead(history, entry, &[], 0, steps)
+        self.take_early(history, entry, &[], 0, false, steps)
     }
 
     /// Takes in an entry as `offer_prompt` does. Where it is told of those that come next, `ahead`, before
     /// all that are dated at or after `beyond`, it may leave out what they can't complete. `beyond` is not
-    /// after the horizon of the next mark, nor after 2^42.
+    /// after the horizon of the next mark, nor after 2^42. What is done by it may be without a place, as with
+    /// `offer_until`.
     pub fn offer_prompt_ahead<L: Ledger>(
         &mut self,
         history: &History,
@@ -463,6 +519,30 @@ impl Store {
         ensures stopped { (result ≡ Err Stopped) ↔ IsTrue self.old.stopped }
         ensures raised { IsTrue self.new.stopped ↔ (IsTrue self.old.stopped ⊎ (result ≡ Err Memory)) }
         ensures same { IsSameStore self.old self.new }
+        ensures stands { OnOk result (IsOfferedPromptAhead self.old history.now (entry_of entry.now.value) (map (λ r. entry_of r.value) ahead.now) beyond self.new) }
+        ensures cost { steps.new ≤ steps.old + 2 * length self.old.plan.chronicle.events * length self.old.held }
+    {
+        self.take_early(history, entry, ahead, beyond, true, steps)
+    }
+
+    /// Takes in an entry of a prompt chronicle that isn't settled yet. Each that is held gets a place, unless
+    /// `finds` is true.
+    fn take_early<L: Ledger>(
+        &mut self,
+        history: &History,
+        entry: &Rc<Entry>,
+        ahead: &[Rc<Entry>],
+        beyond: u64,
+        finds: bool,
+        steps: &mut Steps<L>,
+    ) -> Result<(), StoreRefused>
+        requires prompt { self.old.plan.chronicle.prompt ≡ true }
+        requires date { entry.now.value.date < 2 ^ 40 }
+        requires near { beyond ≤ 2 ^ 42 }
+        ensures stopped { (result ≡ Err Stopped) ↔ IsTrue self.old.stopped }
+        ensures raised { IsTrue self.new.stopped ↔ (IsTrue self.old.stopped ⊎ (result ≡ Err Memory)) }
+        ensures same { IsSameStore self.old self.new }
+        ensures placed { OnOk result (finds ≡ false → KeepsPlaces self.old self.new) }
         ensures stands { OnOk result (IsOfferedPromptAhead self.old history.now (entry_of entry.now.value) (map (λ r. entry_of r.value) ahead.now) beyond self.new) }
         ensures cost { steps.new ≤ steps.old + 2 * length self.old.plan.chronicle.events * length self.old.held }
     {
@@ -482,17 +562,19 @@ impl Store {
             since: self.date,
             ahead,
             beyond,
+            finds,
         };
         match take_prompt(
             &moment,
             &mut self.holding,
+            &mut self.found,
             steps,
             &mut self.places,
             &mut self.born,
         ) {
             Ok(()) => Ok(()),
             Err(_) => {
-                self.holding = no_holding(self.alloc);
+                let_go(self.alloc, &mut self.holding, &mut self.found);
                 self.stopped = true;
                 Err(StoreRefused::Memory)
             }
@@ -507,6 +589,7 @@ impl Store {
         ensures stopped { (result ≡ Err Stopped) ↔ IsTrue self.old.stopped }
         ensures raised { IsTrue self.new.stopped ↔ (IsTrue self.old.stopped ⊎ (result ≡ Err Memory)) }
         ensures same { IsSameStore self.old self.new }
+        ensures placed { OnOk result (KeepsPlaces self.old self.new) }
         ensures stands { OnOk result (IsSettledWith self.old history.now (entry_of entry.now.value) self.new) }
         ensures coming { OnOk result (IsSettledComing self.old history.now (entry_of entry.now.value) self.new) }
     {
@@ -534,7 +617,7 @@ impl Store {
                 Ok(())
             }
             Err(_) => {
-                self.holding = no_holding(self.alloc);
+                let_go(self.alloc, &mut self.holding, &mut self.found);
                 self.stopped = true;
                 Err(StoreRefused::Memory)
             }
@@ -553,6 +636,7 @@ impl Store {
         ensures stopped { (result ≡ Err Stopped) ↔ IsTrue self.old.stopped }
         ensures raised { IsTrue self.new.stopped ↔ (IsTrue self.old.stopped ⊎ (result ≡ Err Memory)) }
         ensures same { IsSameStore self.old self.new }
+        ensures placed { IfOk result (λ _. self.old.date ≤ h → self.new.placed ≡ length self.new.held) }
         ensures advanced { IfOk result (λ a. IsAdvanced self.old history.now h mark self.new a) }
     {
         if self.stopped {
@@ -572,29 +656,31 @@ impl Store {
             number: self.number,
             mark,
         };
-        match move_on(&to, &mut self.holding, &mut self.places) {
+        match move_on(&to, &mut self.holding, &mut self.found, &mut self.places) {
             Ok(found) => {
                 self.date = h;
                 Ok(found)
             }
             Err(_) => {
-                self.holding = no_holding(self.alloc);
+                let_go(self.alloc, &mut self.holding, &mut self.found);
                 self.stopped = true;
                 Err(StoreRefused::Memory)
             }
         }
     }
 
-    /// How many instances are held.
+    /// How many instances are held, with and without a place.
     pub fn held(&self) -> usize
         ensures count { result ≡ length self.now.held }
     {
-        self.holding.slots.len()
+        self.holding.slots.len() + self.found.len()
     }
 
-    /// The instance at a place, from 0. None exactly where the place is not below their number.
+    /// The instance at a place, from 0. None exactly where the place is not below the number of those
+    /// that have one: what is recognised since the last mark, by an entry of `offer_until` or of
+    /// `offer_prompt_ahead`, may have none.
     pub fn instance(&self, i: usize) -> Option<&Instance>
-        ensures place { option_copied result ≡ slice_get self.now.held i }
+        ensures place { option_copied result ≡ slice_get (take self.now.placed self.now.held) i }
         ensures of { IfSome (option_copied result) (IsOf self.now.plan) }
     {
         self.holding.slots.nth(i)

@@ -90,7 +90,7 @@ pub(crate) fn take_ripe(
     ensures left { OnOk result (AreLeft judging.now.plan.now judging.now.h slots.old slots.new) }
     ensures empty { OnOk result (ripe.new.items ≡ []) }
 {
-    let mut found = Vec::new(alloc);
+    let mut found = Vec::with_capacity(alloc, ripe.len())?;
     // those that were ripe first are mostly the first in the order of the answer
     ripe.reverse();
     while let Some(place) = ripe.pop() {

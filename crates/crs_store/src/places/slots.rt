@@ -1,5 +1,5 @@
 //! Instances in places.
-ghost use Rattle.std.specs.Prelude.{◌≡◌, ◌≢◌, ◌<◌, [], length, IfOk, IfSome, IfNone, slice_get, slice_index_or};
+ghost use Rattle.std.specs.Prelude.{◌≡◌, ◌≢◌, ◌<◌, ◌^◌, [], length, IfOk, IfSome, IfNone, slice_get, slice_index_or};
 ghost use Rattle.std.specs.Option.{option_copied};
 ghost use Rattle.crs_base.specs.Seen.{entry_of};
 ghost use Rattle.crs_instance.specs.Instances.{IsOf};
@@ -117,7 +117,8 @@ impl Slots {
 
     /// How many instances there are.
     pub(crate) fn len(&self) -> usize
-        ensures { result ≡ length (members self.now.slots) }
+        ensures count { result ≡ length (members self.now.slots) }
+        ensures small { result < 2 ^ 63 }
     {
         self.count
     }

@@ -3,12 +3,14 @@ use Rattle.crs_base.specs.declared.entry.Entry.{Entry as CodeEntry}
 use Rattle.crs_base.specs.Seen.{entry_of}
 use Rattle.crs_store.specs.Ahead.{MayGo}
 use Rattle.crs_store.specs.Forkings.{AreForksOfAll}
+use Rattle.crs_store.specs.Found.{founds, held_in}
 use Rattle.crs_store.specs.Joins.{Renews}
 use Rattle.crs_store.specs.Orders.{IsOvertaken}
 use Rattle.crs_store.specs.Slots.{members}
 use Rattle.crs_store.specs.Tidy.{IsTidy}
 use Rattle.crs_store.specs.Windows.{IsAble, IsFollowed, IsPassed}
 use Rattle.crs_store.proofs.Assembled.{tidy_all, tidy_standing, tidy_linked, few_ticks}
+use Rattle.crs_store.proofs.Born.{forks_more, founds_all, founds_followed, founds_passed, founds_whole}
 use Rattle.crs_store.proofs.Linked.{within_linked}
 use Rattle.crs_store.proofs.Joined.{joins_both, part_of}
 use Rattle.crs_store.proofs.Taken.{taken_anew}
@@ -41,22 +43,29 @@ pub returns-in_err-hold_all-clause-cost : goal.returns-in_err-hold_all-clause-co
 returns-in_err-hold_all-clause-cost g c = λ flat.
     few_ticks (IsFollowed c.args.moment.now.plan.now c.args.moment.now.history.now (entry_of c.deref.result.now) c.args.moment.now.since) (IsAble c.args.moment.now.plan.now c.args.moment.now.focus c.deref.result.now.date) (length c.args.moment.now.plan.now.chronicle.events) c.args.steps.now c.forks.new.steps (members c.args.holding.now.slots.slots) (members c.follow.new.holding.slots.slots) ((c.in_ok-follow.ensures {u = tt}).renews) (c.forks.ensures.cost flat)
 
+pub hold_all-requires-clause-kept : goal.hold_all-requires-clause-kept
+hold_all-requires-clause-kept g c = c.requires.kept
+
 pub returns-clause-taken : goal.returns-clause-taken
 returns-clause-taken g c =
     let plan = c.args.moment.now.plan.now in
     let focus = c.args.moment.now.focus in
     let history = c.args.moment.now.history.now in
     let x = c.args.moment.now.entry.now.value in
+    let Out = IsOvertaken plan focus c.args.moment.now.hooks.now.events.items c.args.moment.now.behind (entry_of x) in
+    let rs = c.args.found.now.items in
     let held = members c.args.holding.now.slots.slots in
     let kept = members c.follow.new.holding.slots.slots in
     let stay = members c.pass.new.holding.slots.slots in
     let renews = subst (λ (e : CodeEntry). Renews (IsFollowed plan history (entry_of e) c.args.moment.now.since) (IsAble plan focus e.date) held kept) c.deref.ensures ((c.in_ok-follow.ensures {u = tt}).renews) in
     let passes = subst (λ (e : CodeEntry). Renews (IsPassed plan history e.date c.args.moment.now.until) (IsAble plan focus c.args.moment.now.until) kept stay) c.deref-3.ensures ((c.in_ok-pass.ensures {u = tt}).renews) in
     let more = c.forks.new.out.items in
-    let new = members c.hold_all.new.holding.slots.slots in (
-      stay ++ more,
-      taken_anew plan focus (IsOvertaken plan focus c.args.moment.now.hooks.now.events.items c.args.moment.now.behind (entry_of x)) c.requires.moment.proper history (entry_of x) c.args.moment.now.until c.args.moment.now.since held kept more stay (stay ++ more) (tidy_all plan focus c.args.moment.now.hooks.now c.args.holding.now c.args.moment.now.since c.requires.tidy) renews (free_stays plan focus c.args.moment.now.hooks.now.events.items c.args.moment.now.behind (entry_of x)) (subst (λ (e : CodeEntry). AreForksOfAll plan focus (IsOvertaken plan focus c.args.moment.now.hooks.now.events.items c.args.moment.now.behind (entry_of x)) history (entry_of x) e.date c.args.moment.now.until kept more) c.deref-2.ensures ((c.in_ok-forks.ensures {u = tt}).image)) passes (joins_both stay more),
-      part_of (MayGo plan focus (map (λ r. entry_of r.value) c.args.moment.now.ahead.now) c.args.moment.now.beyond) stay more new ((c.in_ok-hold_all.ensures {u = tt}).joins),
+    let forks = subst (λ (e : CodeEntry). AreForksOfAll plan focus Out history (entry_of x) e.date c.args.moment.now.until kept more) c.deref-2.ensures ((c.in_ok-forks.ensures {u = tt}).image) in
+    let all = held_in plan c.pass.new.holding.slots rs in (
+      all ++ more,
+      taken_anew plan focus Out c.requires.moment.proper history (entry_of x) c.args.moment.now.until c.args.moment.now.since (held_in plan c.args.holding.now.slots rs) (held_in plan c.follow.new.holding.slots rs) more all (all ++ more) (founds_all plan rs c.requires.kept c.args.holding.now.slots (tidy_all plan focus c.args.moment.now.hooks.now c.args.holding.now c.args.moment.now.since c.requires.tidy))
+          (founds_followed plan rs c.requires.kept focus history (entry_of x) c.args.moment.now.since x.date held kept renews) (free_stays plan focus c.args.moment.now.hooks.now.events.items c.args.moment.now.behind (entry_of x)) (forks_more plan focus Out history (entry_of x) x.date c.args.moment.now.until kept (founds plan rs) more (founds_whole plan rs c.requires.kept) forks) (founds_passed plan rs c.requires.kept focus history x.date c.args.moment.now.until kept stay passes) (joins_both all more),
+      part_of (MayGo plan focus (map (λ r. entry_of r.value) c.args.moment.now.ahead.now) c.args.moment.now.beyond) all more (held_in plan c.hold_all.new.holding.slots c.hold_all.new.found.items) ((c.in_ok-hold_all.ensures {u = tt}).joins),
     )
 
 pub returns-clause-cost : goal.returns-clause-cost

@@ -1,9 +1,13 @@
 use Rattle.std.proofs.Common.{◌++◌, length, map, refl, false}
 use Rattle.crs_base.specs.Seen.{entry_of}
 use Rattle.crs_store.specs.Ahead.{MayGo}
+use Rattle.crs_base.proofs.Alls.{all_append}
+use Rattle.crs_store.specs.Found.{founds, held_in}
 use Rattle.crs_store.specs.Orders.{IsOvertaken}
 use Rattle.crs_store.specs.Slots.{members}
+use Rattle.crs_store.specs.Windows.{IsAble}
 use Rattle.crs_store.proofs.Assembled.{flat_ticks, tidy_all, tidy_able, tidy_standing}
+use Rattle.crs_store.proofs.Born.{forks_more, founds_able, founds_all, founds_whole}
 use Rattle.crs_store.proofs.Joined.{part_of}
 use Rattle.crs_store.proofs.Prompting.{taken_prompt}
 use Rattle.crs_store.proofs.Overtaken.{none_skipped}
@@ -15,17 +19,25 @@ forks-requires-clause-of g c = tidy_all c.args.moment.now.plan.now c.args.moment
 pub hold_all-requires-clause-tidy : goal.hold_all-requires-clause-tidy
 hold_all-requires-clause-tidy g c = tidy_standing c.args.moment.now.plan.now c.args.moment.now.focus c.args.moment.now.hooks.now c.args.holding.now c.args.moment.now.since c.requires.tidy c.forks.new.waiting c.forks.ensures.standing
 
+pub hold_all-requires-clause-kept : goal.hold_all-requires-clause-kept
+hold_all-requires-clause-kept g c = c.requires.kept
+
 pub returns-clause-taken : goal.returns-clause-taken
 returns-clause-taken g c =
     let plan = c.args.moment.now.plan.now in
     let focus = c.args.moment.now.focus in
-    let held = members c.args.holding.now.slots.slots in
-    let born = c.forks.new.out.items in
-    let new = members c.hold_all.new.holding.slots.slots in (
+    let history = c.args.moment.now.history.now in
+    let x = entry_of c.args.moment.now.entry.now.value in
+    let since = c.args.moment.now.since in
+    let Out = IsOvertaken plan focus c.args.moment.now.hooks.now.events.items false x in
+    let rs = c.args.found.now.items in
+    let kept = members c.args.holding.now.slots.slots in
+    let held = held_in plan c.args.holding.now.slots rs in
+    let born = c.forks.new.out.items in (
       held ++ born,
-      taken_prompt plan focus (IsOvertaken plan focus c.args.moment.now.hooks.now.events.items false (entry_of c.args.moment.now.entry.now.value)) (none_skipped plan focus c.args.moment.now.hooks.now.events.items false (entry_of c.args.moment.now.entry.now.value) refl) c.requires.moment.proper c.requires.moment.flat c.args.moment.now.history.now (entry_of c.args.moment.now.entry.now.value) c.args.moment.now.since held born (tidy_all plan focus c.args.moment.now.hooks.now c.args.holding.now c.args.moment.now.since c.requires.tidy)
-          (tidy_able plan focus c.args.moment.now.hooks.now c.args.holding.now c.args.moment.now.since c.requires.tidy) ((c.in_ok-forks.ensures {u = tt}).image),
-      part_of (MayGo plan focus (map (λ r. entry_of r.value) c.args.moment.now.ahead.now) c.args.moment.now.beyond) held born new ((c.in_ok-hold_all.ensures {u = tt}).joins),
+      taken_prompt plan focus Out (none_skipped plan focus c.args.moment.now.hooks.now.events.items false x refl) c.requires.moment.proper c.requires.moment.flat history x since held born (founds_all plan rs c.requires.kept c.args.holding.now.slots (tidy_all plan focus c.args.moment.now.hooks.now c.args.holding.now since c.requires.tidy))
+          (all_append (IsAble plan focus since) kept (founds plan rs) (tidy_able plan focus c.args.moment.now.hooks.now c.args.holding.now since c.requires.tidy) (founds_able plan rs c.requires.kept focus since)) (forks_more plan focus Out history x since since kept (founds plan rs) born (founds_whole plan rs c.requires.kept) ((c.in_ok-forks.ensures {u = tt}).image)),
+      part_of (MayGo plan focus (map (λ r. entry_of r.value) c.args.moment.now.ahead.now) c.args.moment.now.beyond) held born (held_in plan c.hold_all.new.holding.slots c.hold_all.new.found.items) ((c.in_ok-hold_all.ensures {u = tt}).joins),
     )
 
 pub returns-in_err-forks-clause-cost : goal.returns-in_err-forks-clause-cost

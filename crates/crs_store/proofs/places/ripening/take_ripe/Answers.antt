@@ -6,7 +6,7 @@ use Rattle.crs_store.proofs.places.ripening.take_ripe.Goals as goal
 
 pub loop-place-init : goal.loop-place-init
 loop-place-init c = (
-  subst (λ (rs : List Recognition). AreTaken c.args.judging.now.plan.now c.args.judging.now.h c.args.number c.args.mark c.args.slots.now c.args.slots.now rs) (sym c.new-found.ensures.items) (taken_none c.args.judging.now.plan.now c.args.judging.now.h c.args.number c.args.mark c.args.slots.now),
+  subst (λ (rs : List Recognition). AreTaken c.args.judging.now.plan.now c.args.judging.now.h c.args.number c.args.mark c.args.slots.now c.args.slots.now rs) (sym c.in_ok-found.ensures.items) (taken_none c.args.judging.now.plan.now c.args.judging.now.h c.args.number c.args.mark c.args.slots.now),
   λ p i f done. moved_in _ _ c.reverse.ensures.permutation p (c.requires.ripe p i f done),
 )
 

@@ -20,7 +20,7 @@ returns-then-len-eq0-clause-forks g c =
     let a = c.args.arrival.now in
     let x = entry_of a.entry.now.value in
     adds_none a.plan.now a.focus a.until (AreForksOfEvent a.plan.now a.focus (IsOvertaken a.plan.now a.focus a.hooks.now.events.items a.skips x) a.history.now x a.since a.until c.args.slots.now c.args.sought.event) c.args.out.now.items
-    (none_held a.plan.now a.focus (IsOvertaken a.plan.now a.focus a.hooks.now.events.items a.skips x) a.history.now x a.since a.until c.args.slots.now c.args.sought.event c.requires.arrival.proper c.requires.of c.requires.event c.args.sought.hook.now c.requires.hook (sym c.len.ensures ∙ c.if-len-eq0.true))
+    (none_held a.plan.now a.focus (IsOvertaken a.plan.now a.focus a.hooks.now.events.items a.skips x) a.history.now x a.since a.until c.args.slots.now c.args.sought.event c.requires.arrival.proper c.requires.of c.requires.event c.args.sought.hook.now c.requires.hook (sym c.len.ensures.count ∙ c.if-len-eq0.true))
 
 pub returns-then-comes_to_none-clause-forks : goal.returns-then-comes_to_none-clause-forks
 returns-then-comes_to_none-clause-forks g c =
