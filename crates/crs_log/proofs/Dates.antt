@@ -1,15 +1,15 @@
 -- The date with which a line begins, as its digits are read.
-use Rattle.std.proofs.Common.{◌≡◌, ◌≤◌, ◌<◌, ◌+◌, ◌*◌, ◌-◌, ◌^◌, ℕ, true, cond, ◌&&◌, ◌||◌, ◌==◌, nat_le, List, [], ◌∷◌, ◌++◌, length, get_or, take, drop, refl, ap, add-one, pow-suc, ◌∙◌, arith, Some, None}
+use Rattle.std.proofs.Common.{◌≡◌, ◌≤◌, ◌<◌, ◌+◌, ◌*◌, ◌-◌, ◌^◌, ℕ, true, cond, ◌&&◌, ◌||◌, ◌==◌, nat_le, List, [], ◌∷◌, ◌++◌, length, get_or, take, refl, ap, add-one, pow-suc, ◌∙◌, arith, Some, None}
 use Rattle.std.specs.Prelude.{option_and_then}
-use Rattle.std.specs.List.{list_all, prefix_len}
+use Rattle.std.specs.List.{list_all}
 use Rattle.std.proofs.Math.Nat.{pow-le-pow_right}
-use Rattle.std.proofs.lemmas.List.{take_more, length-take-le}
+use Rattle.std.proofs.lemmas.List.{take_more}
 use Rattle.std.proofs.lemmas.List.Folds.{list_all-append}
 use Rattle.std.proofs.lemmas.Bool.{and_parts}
 use borrow.Author.Tests.{le-leb, leb-true}
 use Rattle.crs_base.specs.Numbers.{is_digit, value_on, number_on}
 use Rattle.crs_base.specs.Symbols.{is_symbol_byte}
-use Rattle.crs_log.specs.Dates.{AreDigitsTo, IsDateTo}
+use Rattle.crs_log.specs.Dates.{AreDigitsTo}
 use Rattle.crs_log.specs.Items.{in_dates, log_number_of}
 use Rattle.crs_log.proofs.Places.{word_step}
 
@@ -49,14 +49,3 @@ dated_by w n long few digits value small =
     ∙ (λ k. option_and_then in_dates (cond (le-leb (length w) 19 few k) (number_on 0 w) None))
     ∙ (λ k. option_and_then in_dates (cond (digits k) (Some (value_on 0 w)) None))
     ∙ ap in_dates value ∙ small
-
--- digits behind which no word goes on are a date, where it isn't too great
-pub date_whole : (line : List ℕ) (e n : ℕ) → AreDigitsTo line n e → 1 ≤ e → in_dates n ≡ Some n → prefix_len is_symbol_byte (drop e line) ≡ 0 → IsDateTo line n e
-date_whole line e n so long small stops =
-    let size : length (take e line) ≡ e = length-take-le e line so.within in
-    let few = so.few in
-    record {
-      word = let w = so.word in omega (arith, w, stops);
-      dated = dated_by (take e line) n (omega (arith, size)) (omega (arith, size, few)) so.digits so.value small;
-      within = so.within;
-    }

@@ -1,4 +1,4 @@
-use Rattle.std.proofs.Common.{rules, ◌∙◌, ◌≡◌, ◌∷◌, length, sym, ap}
+use Rattle.std.proofs.Common.{rules, ◌∙◌, ◌≡◌, length, sym, ap}
 use Rattle.std.specs.List.{insert}
 use Rattle.std.proofs.lemmas.List.Edits.{insert_end}
 use Rattle.crs_buffer.proofs.queue.insert_at.Goals as goal
