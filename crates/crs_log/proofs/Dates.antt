@@ -1,16 +1,14 @@
 -- The date with which a line begins, as its digits are read.
-use Rattle.std.proofs.Common.{◌≡◌, ◌≤◌, ◌<◌, ◌+◌, ◌*◌, ◌-◌, ◌^◌, ℕ, true, cond, ◌&&◌, ◌||◌, ◌==◌, nat_le, List, [], ◌∷◌, ◌++◌, length, get_or, take, refl, ap, add-one, pow-suc, ◌∙◌, arith, Some, None}
-use Rattle.std.specs.Prelude.{option_and_then}
+use Rattle.std.proofs.Common.{◌≡◌, ◌≤◌, ◌<◌, ◌+◌, ◌*◌, ◌-◌, ◌^◌, ℕ, true, ◌&&◌, ◌||◌, ◌==◌, nat_le, List, [], ◌∷◌, ◌++◌, length, get_or, take, refl, ap, add-one, pow-suc, ◌∙◌, arith}
 use Rattle.std.specs.List.{list_all}
 use Rattle.std.proofs.Math.Nat.{pow-le-pow_right}
 use Rattle.std.proofs.lemmas.List.{take_more}
 use Rattle.std.proofs.lemmas.List.Folds.{list_all-append}
 use Rattle.std.proofs.lemmas.Bool.{and_parts}
-use borrow.Author.Tests.{le-leb, leb-true}
-use Rattle.crs_base.specs.Numbers.{is_digit, value_on, number_on}
+use borrow.Author.Tests.{leb-true}
+use Rattle.crs_base.specs.Numbers.{is_digit, value_on}
 use Rattle.crs_base.specs.Symbols.{is_symbol_byte}
 use Rattle.crs_log.specs.Dates.{AreDigitsTo}
-use Rattle.crs_log.specs.Items.{in_dates, log_number_of}
 use Rattle.crs_log.proofs.Places.{word_step}
 
 -- one more digit, and at most 19 of them
@@ -42,10 +40,3 @@ digits_more line i n l few digit so =
       few = omega arith;
       within = omega arith;
     }
-
-dated_by : (w : List ℕ) (n : ℕ) → 1 ≤ length w → length w ≤ 19 → list_all is_digit w ≡ true → value_on 0 w ≡ n → in_dates n ≡ Some n → log_number_of w ≡ Some n
-dated_by w n long few digits value small =
-    (λ k. option_and_then in_dates (cond (le-leb 1 (length w) long k && nat_le (length w) 19) (number_on 0 w) None))
-    ∙ (λ k. option_and_then in_dates (cond (le-leb (length w) 19 few k) (number_on 0 w) None))
-    ∙ (λ k. option_and_then in_dates (cond (digits k) (Some (value_on 0 w)) None))
-    ∙ ap in_dates value ∙ small
