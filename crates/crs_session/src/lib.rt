@@ -11,4 +11,4 @@ pub use laws::{log_text_is_one, traces_without_emits_are_lone};
 pub use output::Output;
 pub use pieces::{take_piece, take_rest};
 pub use session::{Counts, Session};
-pub use step::take_line;
+pub use step::{Room, take_line};

@@ -282,6 +282,7 @@ pub struct Room {
 }
 
 impl Room {
+    /// Room for a line of any length. Nothing is read of what it holds before one is taken.
     pub fn new(alloc: Global) -> Room {
         Room {
             raw: Raw::new(alloc),
