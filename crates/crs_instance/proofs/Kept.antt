@@ -1,6 +1,6 @@
 -- What an instance keeps beside what contracts see.
-use Rattle.std.proofs.Common.{◌≡◌, ℕ, ◌<◌, ◌≤◌, ◌+◌, ◌^◌, List, length, refl, sym, ap, subst, ◌∙◌, arith, true, false}
-use Rattle.std.specs.Prelude.{ℤ, Option, None, Bool, is_some, replicate, ◌==◌}
+use Rattle.std.proofs.Common.{◌≡◌, ℕ, ◌<◌, ◌≤◌, ◌+◌, ◌^◌, List, length, refl, sym, ap, subst, ◌∙◌, arith, true, false, length-set}
+use Rattle.std.specs.Prelude.{ℤ, Option, Some, None, Bool, is_some, replicate, ◌==◌}
 use Rattle.std.specs.List.{list_all}
 use Rattle.std.proofs.Math.Pow.{pow_mono}
 use Rattle.std.proofs.lemmas.Nat.{pow_pos}
@@ -51,6 +51,14 @@ module _ (a : Partial Sym) (count bound : ℕ) (links : Links) (ws : List DateWi
     -- the bit of an unbound event can be added
     pub kept_room : bound + 2 ^ e < 2 ^ 16
     kept_room = let b = below in let m = pow_mono kept.few in omega arith
+
+    -- whether each event is bound then
+    pub kept_whole_with : (b : Bool) → b ≡ (bound + 2 ^ e + 1 == 2 ^ count) → b ≡ list_all (λ o. is_some o) (put a e x)
+    kept_whole_with b is =
+        let all : Partial Sym = put (partial_of count links) e x in
+        let l : length all ≡ count = length-set (partial_of count links) e (Some x) ∙ linked_len count links in
+        is ∙ ap (λ (k : ℕ). bound + 2 ^ e + 1 == 2 ^ k) (sym l) ∙ all_set all (bound + 2 ^ e) more_bits.bits (subst (λ (k : ℕ). bound + 2 ^ e < 2 ^ k) (sym l) below)
+        ∙ ap (λ (b : Partial Sym). list_all (λ o. is_some o) (put b e x)) same
 
     -- what is kept where the event is bound too
     pub kept_more : (new : Links) (entry : CodeEntry) (known : Known) (b : ℕ) (vs : List DateWindow) (l : Option ℤ) → IsLink count links e entry known new → x ≡ entry_of entry → entry.date < 2 ^ 40 → b ≡ bound + 2 ^ e → vs ≡ (windows_of known.spans.items) → count ≤ length vs → l ≡ last_of b count vs → IsStored count b new (windows_of (known_in new).spans.items) l

@@ -12,3 +12,4 @@ pub mod Pushes
 pub mod Stretches
 pub mod Waits
 pub mod Kept
+pub mod Completing

@@ -8,3 +8,4 @@ pub mod Extended
 pub mod Followed
 pub mod CurrentLevel
 pub mod Waits
+pub mod Completing

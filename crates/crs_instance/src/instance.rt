@@ -1,9 +1,11 @@
 ghost use Rattle.std.specs.Prelude.{◌≡◌, ◌+◌, ◌<◌, ◌≤◌, ◌^◌, ◌↔◌, length, replicate, IfOk, OnErr, IsTrue, None, Some, is_some, pos, ◌+ℤ◌, ◌≤ℤ◌, option_map, slice_set, true, false, cond};
 ghost use Rattle.std.specs.List.{list_all};
 ghost use Rattle.std.specs.Option.{option_copied};
-ghost use Rattle.crs_model.specs.Partial.{at, CanGoOn};
+ghost use Rattle.crs_model.specs.Partial.{at, put, CanGoOn};
 ghost use Rattle.crs_model.specs.Bits.{HasBits};
 ghost use Rattle.crs_model.specs.Plans.{chronicle, IsProper};
+ghost use Rattle.crs_base.specs.declared.symbols.Sym.{Sym};
+ghost use Rattle.crs_base.specs.Entry.{Entry as LogEntry};
 ghost use Rattle.crs_base.specs.Seen.{entry_of};
 ghost use Rattle.crs_model.specs.SeenModels.{pattern_of, chronicle_of};
 ghost use Rattle.crs_model.specs.Bindings.{PatternIsBelow};
@@ -18,7 +20,7 @@ ghost use Rattle.crs_instance.specs.Waits.{OthersCanCome, AnotherIsLate};
 use crate::bits::{are_all_set, with_bit};
 use crate::bound::body_is_bound;
 use crate::fit::Fit;
-use crate::links::{Known, Links, date_of, entry_at, gives, known_of, linked, listed};
+use crate::links::{Known, Links, date_of, entry_at, gives, known_of, linked, listed, listed_with};
 use crate::narrowing::{is_inside, is_not_before, narrowed};
 use crate::span::{NO_LEAST, NO_MOST, Span, most_at};
 use crate::waiting::{deadline_of_level, earliest_deadline, others_can_be_from};
@@ -31,6 +33,14 @@ use std::alloc::{AllocError, Global};
 use std::marker::Model;
 use std::rc::Rc;
 use std::sync::ledger::Ledger;
+
+/// What is told of an instance whose events are all bound: its entries, in event order, and the symbols
+/// of its variables.
+#[derive(Drop)]
+pub struct Completed {
+    pub entries: List<Rc<Entry>>,
+    pub binding: Binding,
+}
 
 /// A partial instance of a chronicle: some of its events bound to entries, with the symbols that
 /// this gives to variables, and the dates that it leaves to each point. What one instance has of
@@ -121,6 +131,7 @@ fn copied(alloc: Global, progress: &[Progress]) -> Result<Vec<Progress>, AllocEr
 }
 
 impl Instance {
+    ghost use Rattle.crs_instance.specs.Completing.{IsCompleted, IsTakenBy};
     ghost use Rattle.crs_instance.specs.Extended.{IsExtended};
 
     /// Nothing is bound.
@@ -153,6 +164,39 @@ impl Instance {
         known_of(&self.links)
     }
 
+    /// Whether the event can be bound to the entry too: the pattern's variables are then written into
+    /// the binding. It takes one step.
+    #[inline(always)]
+    fn takes<L: Ledger>(
+        &self,
+        plan: &Plan,
+        event: u8,
+        entry: &Entry,
+        binding: &mut Binding,
+        steps: &mut Steps<L>,
+    ) -> bool
+        requires proper { IsProper plan.now }
+        requires of { IsOf plan.now self.now }
+        requires event { event < length plan.now.chronicle.events }
+        requires unbound { at self.now.partial event ≡ None }
+        requires date { entry.now.date < 2 ^ 40 }
+        requires binding { binding.old ≡ self.now.binding }
+        ensures taken { IsTakenBy plan.now self.now event (entry_of entry.now) (cond result (Some binding.new) None) }
+        ensures step { steps.new ≡ steps.old + 1 }
+    {
+        let known = self.known();
+        if !is_inside(known.spans[event as usize], entry.date) {
+            steps.tick();
+            return false;
+        }
+        if gives(&self.links, entry.arrival) {
+            steps.tick();
+            return false;
+        }
+        let pattern = &plan.chronicle.events.as_slice()[event as usize].pattern;
+        matched(&plan.chronicle, pattern, binding, entry, steps)
+    }
+
     /// The binding and the windows, where the event is bound to the entry too.
     fn extended<L: Ledger>(
         &self,
@@ -170,17 +214,8 @@ impl Instance {
         ensures step { steps.new ≡ steps.old + 1 }
     {
         let known = self.known();
-        if !is_inside(known.spans[event as usize], entry.date) {
-            steps.tick();
-            return Ok(None);
-        }
-        if gives(&self.links, entry.arrival) {
-            steps.tick();
-            return Ok(None);
-        }
-        let pattern = &plan.chronicle.events.as_slice()[event as usize].pattern;
         let mut binding = known.binding.copy();
-        if !matched(&plan.chronicle, pattern, &mut binding, entry, steps) {
+        if !self.takes(plan, event, entry, &mut binding, steps) {
             return Ok(None);
         }
         let spans = narrowed(
@@ -257,6 +292,42 @@ impl Instance {
             last,
             alloc: self.alloc,
         }))
+    }
+
+    /// Whether no other event than this one is unbound.
+    pub fn lacks_only(&self, event: u8) -> bool
+        requires within { event < length self.now.partial }
+        requires unbound { at self.now.partial event ≡ None }
+        ensures { (x : LogEntry Sym) → result ≡ list_all (λ o. is_some o) (put self.now.partial event x) }
+    {
+        are_all_set(with_bit(self.bound, event), self.count)
+    }
+
+    /// What `fork` makes of an instance that lacks only this event: its entries and its binding alone,
+    /// without its date windows and the progress of its windows. It takes one step, and no memory before
+    /// it is known that there is such an instance.
+    pub fn complete<L: Ledger>(
+        &self,
+        plan: &Plan,
+        event: u8,
+        entry: &Rc<Entry>,
+        steps: &mut Steps<L>,
+    ) -> Result<Option<Completed>, AllocError>
+        requires proper { IsProper plan.now }
+        requires of { IsOf plan.now self.now }
+        requires event { event < length plan.now.chronicle.events }
+        requires unbound { at self.now.partial event ≡ None }
+        requires whole { list_all (λ o. is_some o) (put self.now.partial event (entry_of entry.now.value)) ≡ true }
+        requires date { entry.now.value.date < 2 ^ 40 }
+        ensures completed { IfOk result (IsCompleted plan.now self.now event (entry_of entry.now.value)) }
+        ensures step { steps.new ≡ steps.old + 1 }
+    {
+        let mut binding = self.binding().copy();
+        if !self.takes(plan, event, entry, &mut binding, steps) {
+            return Ok(None);
+        }
+        let entries = listed_with(self.alloc, &self.links, self.count, event, entry)?;
+        Ok(Some(Completed { entries, binding }))
     }
 
     /// Whether the bounds and the bound events' dates leave this date to the event.

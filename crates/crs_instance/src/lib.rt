@@ -11,4 +11,4 @@ mod span;
 mod waiting;
 
 pub use fit::Fit;
-pub use instance::{Instance, matched};
+pub use instance::{Completed, Instance, matched};

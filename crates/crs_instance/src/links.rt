@@ -1,6 +1,7 @@
 ghost use Rattle.std.specs.Prelude.{◌≡◌, ◌≢◌, ◌<◌, ◌≤◌, ◌^◌, ℕ, IfOk, IfSome, IsSomeAnd, IsTrue, ◌++◌, OnOk, pos, ◌≤ℤ◌, ◌+ℤ◌, option_map, false};
 ghost use Rattle.std.specs.Option.{option_copied, option_to_list};
-ghost use Rattle.crs_model.specs.Partial.{at};
+ghost use Rattle.crs_base.specs.Seen.{entry_of};
+ghost use Rattle.crs_model.specs.Partial.{at, put};
 ghost use Rattle.crs_instance.specs.Instances.{seen_entry};
 ghost use Rattle.crs_instance.specs.EntryLinks.{partial_of, AreLinked, AreEarly, AreListed, IsLink, seen_entries, known_in};
 
@@ -100,6 +101,40 @@ pub(crate) fn listed(alloc: Global, links: &Links, count: u8) -> Result<List<Rc<
     let mut all = List::new(alloc);
     for event in 0..count {
         push_some(&mut all, entry_at(links, event))?;
+    }
+    Ok(all)
+}
+
+/// The entry of the event `here`, where the event is bound to this entry too.
+#[inline(always)]
+fn entry_with<'a>(
+    links: &'a Links,
+    here: u8,
+    event: u8,
+    entry: &'a Rc<Entry>,
+) -> Option<&'a Rc<Entry>>
+    ensures { (n : ℕ) → here < n → AreLinked n links.now → seen_entry (option_copied result) ≡ at (put (partial_of n links.now) event (entry_of entry.now.value)) here }
+{
+    if here == event {
+        Some(entry)
+    } else {
+        entry_at(links, here)
+    }
+}
+
+/// The same, where the event is bound to this entry too.
+pub(crate) fn listed_with(
+    alloc: Global,
+    links: &Links,
+    count: u8,
+    event: u8,
+    entry: &Rc<Entry>,
+) -> Result<List<Rc<Entry>>, AllocError>
+    ensures { IfOk result (λ es. AreLinked count links.now → AreListed (put (partial_of count links.now) event (entry_of entry.now.value)) es) }
+{
+    let mut all = List::new(alloc);
+    for here in 0..count {
+        push_some(&mut all, entry_with(links, here, event, entry))?;
     }
     Ok(all)
 }

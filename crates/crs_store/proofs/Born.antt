@@ -35,7 +35,7 @@ use Rattle.crs_store.specs.PlanLevels.{levels_in}
 use Rattle.crs_store.specs.Slots.{SlotsState, members}
 use Rattle.crs_store.specs.Stores.{AllOf, parts}
 use Rattle.crs_store.specs.Sweeps.{is_whole, IsDone, IsFree}
-use Rattle.crs_store.specs.Windows.{IsAble, IsFollowed, IsOpenBut, IsOver, IsPassed}
+use Rattle.crs_store.specs.Windows.{IsAble, IsBegun, IsFollowed, IsOpenBut, IsOver, IsPassed}
 use Rattle.crs_store.proofs.Advancing.{all_some_of}
 use Rattle.crs_store.proofs.Finding.{all_some}
 use Rattle.crs_store.proofs.Gathered.{widen}
@@ -92,10 +92,13 @@ module _ (plan : Plan) (none : length plan.chronicle.windows ≡ 0) where
   followed_still : (history : HistoryState) (x : Entry Sym) (since : ℕ) (i : InstanceState) → IsFollowed plan history x since i i
   followed_still history x since i = record { same = record { same = refl; len = refl }; gains = λ k. omega arith; follows = λ settled up read low f k. windowless k _ }
 
-  passed_still : (history : HistoryState) (since h : ℕ) (i : InstanceState) → IsPassed plan history since h i i
+  pub passed_still : (history : HistoryState) (since h : ℕ) (i : InstanceState) → IsPassed plan history since h i i
   passed_still history since h i = record { same = record { same = refl; len = refl }; gains = λ k. omega arith; follows = λ settled up read low f k. windowless k _ }
 
-  whole_able : (focus : Bool) (h : ℕ) (i : InstanceState) → IsOf plan i → is_whole i.partial ≡ true → IsAble plan focus h i
+  pub begun_still : (history : HistoryState) (since : ℕ) (parent i : InstanceState) → IsBegun plan history since parent i i
+  begun_still history since parent i = record { same = record { same = refl; len = refl }; follows = λ entries kept few starts more f k. windowless k _ }
+
+  pub whole_able : (focus : Bool) (h : ℕ) (i : InstanceState) → IsOf plan i → is_whole i.partial ≡ true → IsAble plan focus h i
   whole_able focus h i of full =
       let m = of.dates in (
         (m.0, m.1, m.2, λ f w. absurd (all_some_of i.partial full f w.within w.unbound)),
@@ -140,6 +143,13 @@ apart_both (x ∷ xs) ys o a (inr i) j = apart_both xs ys o.1 a i j
 
 pub renews_more : (R : InstanceState → InstanceState → Type 0) (Able : InstanceState → Type 0) (old new more : List InstanceState) → AllByRecursion (λ i. R i i) more → AllByRecursion Able more → Renews R Able old new → Renews R Able (old ++ more) (new ++ more)
 renews_more R Able old new more still able r = (r.0 ++ more, zip_append R old r.0 more more r.1 (zip_still R more still), sifts_append Able r.0 new more more r.2 (sifts_whole Able more able))
+
+-- where no date passes all stay
+pub passed_nowhere : (plan : Plan) (focus : Bool) (history : HistoryState) (since h : ℕ) → since ≡ h → (is : List InstanceState) → AllByRecursion (IsAble plan focus since) is → Renews (IsPassed plan history since h) (IsAble plan focus h) is is
+passed_nowhere plan focus history since h same is able =
+    subst (λ (n : ℕ). Renews (IsPassed plan history since n) (IsAble plan focus n) is is) same
+    (renews_more (IsPassed plan history since since) (IsAble plan focus since) [] [] is
+    (each_from_in (λ i. IsPassed plan history since since i i) is (λ i k. record { same = record { same = refl; len = refl }; gains = λ k. omega arith; follows = λ settled up read low f. f })) able ([], tt, refl))
 
 -- one that comes in front of others does so before more
 pub comes_before : (i : InstanceState) (old new more : List InstanceState) → ComesTo i old new → ComesTo i (old ++ more) (new ++ more)

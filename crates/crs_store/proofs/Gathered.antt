@@ -169,12 +169,6 @@ pub record IsSwept (plan : Plan) (focus : Bool) (Out : Partial Sym → Type 0) (
   pub image : ComeOf (IsForkWith (levels_in plan focus) x e) plan focus Out history x since until (members slots.slots) done out
   pub cost : focus ≡ false → now ≤ start + length done
 
--- the list grew by that
-pub record AddsSwept (plan : Plan) (focus : Bool) (Out : Partial Sym → Type 0) (history : HistoryState) (x : Entry Sym) (since until : ℕ) (slots : SlotsState) (e : ℕ) (all rest : List ℕ) (old new : List InstanceState) (start now : ℕ) : Type 0 where
-  pub more : List InstanceState
-  pub grown : new ≡ old ++ more
-  pub swept : IsSwept plan focus Out history x since until slots e all rest more start now
-
 standing_back : (xs : List (Option InstanceState)) (ps : List ℕ) (i : InstanceState) → IsIn i (standing xs ps) → IsIn i (members xs)
 standing_back xs [] i j = absurd j
 standing_back xs (p ∷ ps) i j = elim (in_append (option_to_list (slice_index_or xs p None)) (standing xs ps) i j) [
@@ -260,33 +254,17 @@ module _ (plan : Plan) (focus : Bool) (Out : Partial Sym → Type 0) (history : 
   swept_whole all rest out start now s h =
       subst (λ (t : List InstanceState). ComeOf (IsForkWith (levels_in plan focus) x e) plan focus Out history x since until (members slots.slots) t out) (sym (h.split ∙ ap (λ (t : List ℕ). h.done ++ standing slots.slots t) s ∙ append-nil h.done)) h.image
 
-  -- ---- the same, where it is added to a list
-
-  pub adds_swept_none : (all : List ℕ) (old : List InstanceState) (start : ℕ) → AddsSwept plan focus Out history x since until slots e all all old old start start
-  adds_swept_none all old start = record {
-    more = [];
-    grown = sym (append-nil old);
-    swept = record {
-      done = [];
-      split = refl;
-      sorted = λ o. o;
-      of = tt;
-      able = tt;
-      image = λ pool entries now later over ready. (record { distinct = tt; sound = λ y k. absurd k; complete = λ a y k f. absurd k }, tt);
-      cost = λ flat. omega arith;
-    };
+  -- where none was looked at
+  pub swept_none : (all : List ℕ) (start : ℕ) → IsSwept plan focus Out history x since until slots e all all [] start start
+  swept_none all start = record {
+    done = [];
+    split = refl;
+    sorted = λ o. o;
+    of = tt;
+    able = tt;
+    image = λ pool entries now later over ready. (record { distinct = tt; sound = λ y k. absurd k; complete = λ a y k f. absurd k }, tt);
+    cost = λ flat. omega arith;
   }
-
-  pub adds_swept_more : (all : List ℕ) (p : ℕ) (rest left : List ℕ) (i : InstanceState) (old out new : List InstanceState) (start now next : ℕ) → rest ≡ p ∷ left → AllByRecursion (λ q. p < q) left → Ascends left → slot_at slots p ≡ Some i → (focus ≡ false → next ≤ now + 1)
-      → Adds plan focus until (AreForksBut plan focus Out history x since until i e) out new → AddsSwept plan focus Out history x since until slots e all rest old out start now → AddsSwept plan focus Out history x since until slots e all left old new start next
-  adds_swept_more all p rest left i old out new start now next s above ascends here step adds h = record {
-    more = h.more ++ adds.more;
-    grown = adds.grown ∙ ap (λ (t : List InstanceState). t ++ adds.more) h.grown ∙ append_assoc old h.more adds.more;
-    swept = swept_more all p rest left i h.more (h.more ++ adds.more) start now next s above ascends here step (record { more = adds.more; grown = refl; of = adds.of; able = adds.able; are = adds.are }) h.swept;
-  }
-
-  pub adds_swept_whole : (all rest : List ℕ) (old new : List InstanceState) (start now : ℕ) → rest ≡ [] → AddsSwept plan focus Out history x since until slots e all rest old new start now → Adds plan focus until (AreForksOfPlaces plan focus Out history x since until slots e all) old new
-  adds_swept_whole all rest old new start now s h = record { more = h.more; grown = h.grown; of = h.swept.of; able = h.swept.able; are = swept_whole all rest h.more start now s h.swept }
 
   -- ---- from the candidates to all
 

@@ -37,5 +37,6 @@ pub mod Settling
 pub mod Held
 pub mod Assembled
 pub mod Born
+pub mod Births
 pub mod Passing
 pub mod Choosing

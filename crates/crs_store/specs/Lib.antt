@@ -20,6 +20,7 @@ pub mod Forkings
 pub mod Scannings
 pub mod Scans
 pub mod Found
+pub mod Births
 pub mod Moments
 pub mod Orders
 pub mod PlaceWalks

@@ -1,5 +1,5 @@
 -- An entry that comes to the instances, what comes after it, the moments at which a store takes one in, and the horizon to which it moves on.
-use Rattle.std.specs.Prelude.{◌≡◌, ◌<◌, ◌≤◌, ◌^◌, ℕ, true, false}
+use Rattle.std.specs.Prelude.{◌≡◌, ◌<◌, ◌≤◌, ◌^◌, ℕ, length, true, false}
 use Rattle.crs_base.specs.Seen.{entry_of}
 use Rattle.crs_history.specs.Histories.{EndsWith}
 use Rattle.crs_model.specs.Plans.{IsProper}
@@ -11,11 +11,12 @@ use Rattle.crs_store.specs.declared.moment.Horizon.{Horizon}
 use Rattle.crs_store.specs.declared.moment.Moment.{Moment}
 use Rattle.crs_store.specs.declared.moment.PromptMoment.{PromptMoment}
 
--- the plan is proper, with its hooks; where levels are read the entry is the last of the history; the dates are within their limits
+-- the plan is proper, with its hooks; recognitions are made where it has no windows; where levels are read the entry is the last of the history; the dates are within their limits
 pub record IsArrival (a : Arrival) : Type 0 where
   pub proper : IsProper a.plan.now
   pub hooks : AreHooks a.plan.now a.hooks.now.events.items a.hooks.now.windows.items
   pub order : AreOrdered a.plan.now a.focus a.hooks.now.ranks.value.items a.hooks.now.events.items
+  pub windowless : a.finds ≡ true → length a.plan.now.chronicle.windows ≡ 0
   pub last : a.focus ≡ true → EndsWith (entry_of a.entry.now.value) a.history.now.entries
   pub date : a.entry.now.value.date < 2 ^ 40
   pub begun : a.since ≤ 2 ^ 42

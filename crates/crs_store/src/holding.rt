@@ -16,7 +16,7 @@ ghost use Rattle.crs_store.specs.Tidy.{IsTidyHolding, Registers, SettlesPlace, S
 ghost use Rattle.crs_store.specs.Windows.{IsAble, IsFollowed, IsPassed};
 
 use crate::chart::Chart;
-use crate::found::find;
+use crate::found::{Born, find};
 use crate::living::hope::is_hopeful;
 use crate::living::judging::{Judging, Passing};
 use crate::living::windows::is_done;
@@ -178,7 +178,8 @@ fn hold_hopeful(
 }
 
 /// Adds an instance that comes of others, unless it may be left out. Where it is done and the chronicle
-/// has no windows, it may be added as its recognition: nothing can happen to it before the mark.
+/// has no windows, it may be added as its recognition: nothing can happen to it before the mark. It comes
+/// so where levels are read alone, since else the event that completes it makes the recognition.
 #[inline(always)]
 fn hold_born(
     holding: &mut Holding,
@@ -198,7 +199,7 @@ fn hold_born(
     ensures comes { OnOk result (ComesOrGoes (MayGo chart.now.plan chart.now.focus (map (λ r. entry_of r.value) birth.now.ahead.now) birth.now.beyond) instance (held_in chart.now.plan holding.old.slots found.old.items) (held_in chart.now.plan holding.new.slots found.new.items)) }
     ensures placed { birth.now.finds ≡ false → found.new.items ≡ found.old.items }
 {
-    if birth.finds && chart.is_windowless() && instance.is_whole() {
+    if chart.focus() && birth.finds && chart.is_windowless() && instance.is_whole() {
         return find(found, &instance);
     }
     hold_hopeful(holding, chart, instance, birth.ahead, birth.beyond, birth.h)
@@ -208,24 +209,23 @@ fn hold_born(
 #[inline(always)]
 pub(crate) fn hold_all(
     holding: &mut Holding,
-    found: &mut Vec<Recognition>,
     chart: &Chart<'_>,
-    born: &mut Vec<Instance>,
+    born: &mut Born,
     birth: &Birth<'_>,
 ) -> Result<(), AllocError>
-    requires of { AllOf chart.now.plan born.old.items }
-    requires able { AllByRecursion (IsAble chart.now.plan chart.now.focus birth.now.h) born.old.items }
+    requires of { AllOf chart.now.plan born.old.instances.items }
+    requires able { AllByRecursion (IsAble chart.now.plan chart.now.focus birth.now.h) born.old.instances.items }
     requires tidy { IsTidyHolding chart.now.plan chart.now.focus chart.now.hooks holding.old birth.now.h }
-    requires kept { AllOf chart.now.plan (founds chart.now.plan found.old.items) }
+    requires kept { AllOf chart.now.plan (founds chart.now.plan born.old.found.items) }
     requires near { birth.now.beyond ≤ 2 ^ 42 }
     requires small { birth.now.h ≤ 2 ^ 42 }
     ensures tidy { OnOk result (IsTidyHolding chart.now.plan chart.now.focus chart.now.hooks holding.new birth.now.h) }
-    ensures kept { OnOk result (AllOf chart.now.plan (founds chart.now.plan found.new.items)) }
-    ensures joins { OnOk result (JoinsSome (MayGo chart.now.plan chart.now.focus (map (λ r. entry_of r.value) birth.now.ahead.now) birth.now.beyond) (held_in chart.now.plan holding.old.slots found.old.items) born.old.items (held_in chart.now.plan holding.new.slots found.new.items)) }
-    ensures placed { OnOk result (birth.now.finds ≡ false → found.new.items ≡ found.old.items) }
+    ensures kept { OnOk result (AllOf chart.now.plan (founds chart.now.plan born.new.found.items)) }
+    ensures joins { OnOk result (JoinsSome (MayGo chart.now.plan chart.now.focus (map (λ r. entry_of r.value) birth.now.ahead.now) birth.now.beyond) (held_in chart.now.plan holding.old.slots born.old.found.items) born.old.instances.items (held_in chart.now.plan holding.new.slots born.new.found.items)) }
+    ensures placed { OnOk result (birth.now.finds ≡ false → born.new.found.items ≡ born.old.found.items) }
 {
-    while let Some(instance) = born.pop() {
-        hold_born(holding, found, chart, instance, birth)?;
+    while let Some(instance) = born.instances.pop() {
+        hold_born(holding, &mut born.found, chart, instance, birth)?;
     }
     Ok(())
 }
@@ -385,6 +385,10 @@ pub(crate) fn pass(
 {
     let plan = chart.plan();
     sweep(holding);
+    // No date passes where the next entry has the date of this one: in a third of the drill's entries.
+    if since == h {
+        return Ok(());
+    }
     places.clear();
     collect_due(&mut holding.dues, h, places)?;
     if places.is_empty() {

@@ -13,13 +13,15 @@ use std::rc::Rc;
 
 /// An entry to which an event may be bound, the date at which all was judged last, and the one at
 /// which what comes of it is judged. Where `skips` is true, all that comes later is behind it, so that
-/// what awaits an event that comes before its own can't be recognised.
+/// what awaits an event that comes before its own can't be recognised. Where `finds` is true, the
+/// chronicle has no windows, and of what the entry completes the recognition alone is made.
 #[derive(Drop)]
 pub(crate) struct Arrival<'a> {
     pub(crate) alloc: Global,
     pub(crate) plan: &'a Plan,
     pub(crate) hooks: &'a Hooks,
     pub(crate) skips: bool,
+    pub(crate) finds: bool,
     pub(crate) focus: bool,
     pub(crate) history: &'a History,
     pub(crate) entry: &'a Rc<Entry>,

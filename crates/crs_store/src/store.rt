@@ -17,7 +17,7 @@ ghost use Rattle.crs_store.specs.Tidy.{IsTidyHolding};
 ghost use Rattle.crs_store.specs.declared.refused.StoreRefused.TheVariants.{Stopped, Memory};
 
 use crate::chart::Chart;
-use crate::found::answered;
+use crate::found::{Born, answered};
 use crate::holding::{Holding, follow, hold, hold_all, no_holding, pass};
 use crate::living::judging::Judging;
 use crate::moment::{Arrival, Birth, Coming, Horizon, Moment, PromptMoment};
@@ -43,13 +43,12 @@ pub struct Store {
     focus: bool,
     hooks: Hooks,
     holding: Holding,
-    /// What was done at its birth since the last mark, as far as it has no place.
-    found: Vec<Recognition>,
     date: u64,
     stopped: bool,
-    /// Filled anew at each entry, where they keep their memory.
+    /// Filled anew at each entry, where it keeps its memory.
     places: Vec<u32>,
-    born: Vec<Instance>,
+    /// So are its instances; its recognitions are those since the last mark.
+    born: Born,
     alloc: Global,
 }
 
@@ -64,9 +63,19 @@ impl Model for Store {
 
     ghost Value = { StoreState };
 
-    ghost view = { λ s. record { plan = s.plan.value; number = s.number; focus = s.focus; ranks = s.hooks.ranks.value.items; held = held_in s.plan.value s.holding.slots s.found.items; placed = length (members s.holding.slots.slots); date = s.date; stopped = s.stopped } };
+    ghost view = { λ s. record { plan = s.plan.value; number = s.number; focus = s.focus; ranks = s.hooks.ranks.value.items; held = held_in s.plan.value s.holding.slots s.born.found.items; placed = length (members s.holding.slots.slots); date = s.date; stopped = s.stopped } };
 
-    ghost invariant = { λ s. IsStore (record { plan = s.plan.value; number = s.number; focus = s.focus; ranks = s.hooks.ranks.value.items; held = held_in s.plan.value s.holding.slots s.found.items; placed = length (members s.holding.slots.slots); date = s.date; stopped = s.stopped }) × AreHooks s.plan.value s.hooks.events.items s.hooks.windows.items × AreOrdered s.plan.value s.focus s.hooks.ranks.value.items s.hooks.events.items × (s.stopped ≡ false → IsTidyHolding s.plan.value s.focus s.hooks s.holding s.date) };
+    ghost invariant = { λ s. IsStore (record { plan = s.plan.value; number = s.number; focus = s.focus; ranks = s.hooks.ranks.value.items; held = held_in s.plan.value s.holding.slots s.born.found.items; placed = length (members s.holding.slots.slots); date = s.date; stopped = s.stopped }) × AreHooks s.plan.value s.hooks.events.items s.hooks.windows.items × AreOrdered s.plan.value s.focus s.hooks.ranks.value.items s.hooks.events.items × (s.stopped ≡ false → IsTidyHolding s.plan.value s.focus s.hooks s.holding s.date) };
+}
+
+/// Whether what an entry completes becomes its recognition at once: that is so where the chronicle has no
+/// windows, if it may be so at all.
+#[inline(always)]
+fn makes_found(plan: &Plan, finds: bool) -> bool
+    ensures windowless { IsTrue result → length plan.now.chronicle.windows ≡ 0 }
+    ensures asked { finds ≡ false → result ≡ false }
+{
+    finds && plan.chronicle.windows.len() == 0
 }
 
 /// Takes in the entry, and judges all at the date `until`: adds what comes of the instances by it, and
@@ -75,18 +84,17 @@ impl Model for Store {
 fn take_in<L: Ledger>(
     moment: &Moment<'_>,
     holding: &mut Holding,
-    found: &mut Vec<Recognition>,
     steps: &mut Steps<L>,
     places: &mut Vec<u32>,
-    born: &mut Vec<Instance>,
+    born: &mut Born,
 ) -> Result<(), AllocError>
     requires moment { IsMoment moment.now }
     requires tidy { IsTidyHolding moment.now.plan.now moment.now.focus moment.now.hooks.now holding.old moment.now.since }
-    requires kept { AllOf moment.now.plan.now (founds moment.now.plan.now found.old.items) }
+    requires kept { AllOf moment.now.plan.now (founds moment.now.plan.now born.old.found.items) }
     ensures tidy { OnOk result (IsTidyHolding moment.now.plan.now moment.now.focus moment.now.hooks.now holding.new moment.now.until) }
-    ensures kept { OnOk result (AllOf moment.now.plan.now (founds moment.now.plan.now found.new.items)) }
-    ensures taken { OnOk result (TakesInSome moment.now.plan.now moment.now.focus (IsOvertaken moment.now.plan.now moment.now.focus moment.now.hooks.now.events.items moment.now.behind (entry_of moment.now.entry.now.value)) moment.now.history.now (entry_of moment.now.entry.now.value) moment.now.until moment.now.since (map (λ r. entry_of r.value) moment.now.ahead.now) moment.now.beyond (held_in moment.now.plan.now holding.old.slots found.old.items) (held_in moment.now.plan.now holding.new.slots found.new.items)) }
-    ensures placed { OnOk result (moment.now.finds ≡ false → found.new.items ≡ found.old.items) }
+    ensures kept { OnOk result (AllOf moment.now.plan.now (founds moment.now.plan.now born.new.found.items)) }
+    ensures taken { OnOk result (TakesInSome moment.now.plan.now moment.now.focus (IsOvertaken moment.now.plan.now moment.now.focus moment.now.hooks.now.events.items moment.now.behind (entry_of moment.now.entry.now.value)) moment.now.history.now (entry_of moment.now.entry.now.value) moment.now.until moment.now.since (map (λ r. entry_of r.value) moment.now.ahead.now) moment.now.beyond (held_in moment.now.plan.now holding.old.slots born.old.found.items) (held_in moment.now.plan.now holding.new.slots born.new.found.items)) }
+    ensures placed { OnOk result (moment.now.finds ≡ false → born.new.found.items ≡ born.old.found.items) }
     ensures cost { moment.now.focus ≡ false → steps.new ≤ steps.old + 2 * length moment.now.plan.now.chronicle.events * length (members holding.old.slots.slots) }
 {
     let chart = Chart {
@@ -107,6 +115,7 @@ fn take_in<L: Ledger>(
         plan: moment.plan,
         hooks: moment.hooks,
         skips: moment.behind,
+        finds: makes_found(moment.plan, moment.finds),
         focus: moment.focus,
         history: moment.history,
         entry: moment.entry,
@@ -136,7 +145,7 @@ fn take_in<L: Ledger>(
         finds: moment.finds,
         h: until,
     };
-    hold_all(holding, found, &chart, born, &birth)?;
+    hold_all(holding, &chart, born, &birth)?;
     Ok(())
 }
 
@@ -146,18 +155,17 @@ fn take_in<L: Ledger>(
 fn take_prompt<L: Ledger>(
     moment: &PromptMoment<'_>,
     holding: &mut Holding,
-    found: &mut Vec<Recognition>,
     steps: &mut Steps<L>,
     places: &mut Vec<u32>,
-    born: &mut Vec<Instance>,
+    born: &mut Born,
 ) -> Result<(), AllocError>
     requires moment { IsPromptMoment moment.now }
     requires tidy { IsTidyHolding moment.now.plan.now moment.now.focus moment.now.hooks.now holding.old moment.now.since }
-    requires kept { AllOf moment.now.plan.now (founds moment.now.plan.now found.old.items) }
+    requires kept { AllOf moment.now.plan.now (founds moment.now.plan.now born.old.found.items) }
     ensures tidy { OnOk result (IsTidyHolding moment.now.plan.now moment.now.focus moment.now.hooks.now holding.new moment.now.since) }
-    ensures kept { OnOk result (AllOf moment.now.plan.now (founds moment.now.plan.now found.new.items)) }
-    ensures taken { OnOk result (TakesPromptSome moment.now.plan.now moment.now.focus moment.now.history.now (entry_of moment.now.entry.now.value) moment.now.since (map (λ r. entry_of r.value) moment.now.ahead.now) moment.now.beyond (held_in moment.now.plan.now holding.old.slots found.old.items) (held_in moment.now.plan.now holding.new.slots found.new.items)) }
-    ensures placed { OnOk result (moment.now.finds ≡ false → found.new.items ≡ found.old.items) }
+    ensures kept { OnOk result (AllOf moment.now.plan.now (founds moment.now.plan.now born.new.found.items)) }
+    ensures taken { OnOk result (TakesPromptSome moment.now.plan.now moment.now.focus moment.now.history.now (entry_of moment.now.entry.now.value) moment.now.since (map (λ r. entry_of r.value) moment.now.ahead.now) moment.now.beyond (held_in moment.now.plan.now holding.old.slots born.old.found.items) (held_in moment.now.plan.now holding.new.slots born.new.found.items)) }
+    ensures placed { OnOk result (moment.now.finds ≡ false → born.new.found.items ≡ born.old.found.items) }
     ensures cost { steps.new ≤ steps.old + 2 * length moment.now.plan.now.chronicle.events * length (members holding.old.slots.slots) }
 {
     let arrival = Arrival {
@@ -165,6 +173,7 @@ fn take_prompt<L: Ledger>(
         plan: moment.plan,
         hooks: moment.hooks,
         skips: false,
+        finds: makes_found(moment.plan, moment.finds),
         focus: moment.focus,
         history: moment.history,
         entry: moment.entry,
@@ -191,7 +200,7 @@ fn take_prompt<L: Ledger>(
         finds: moment.finds,
         h: since,
     };
-    hold_all(holding, found, &chart, born, &early)?;
+    hold_all(holding, &chart, born, &early)?;
     Ok(())
 }
 
@@ -339,17 +348,17 @@ impl Store {
     {
         let holding = first_holding(alloc, &plan, focus, &hooks)?;
         let found = Vec::new(alloc);
+        let instances = Vec::new(alloc);
         Ok(Store {
             plan,
             number,
             focus,
             hooks,
             holding,
-            found,
             date: 0,
             stopped: false,
             places: Vec::new(alloc),
-            born: Vec::new(alloc),
+            born: Born { instances, found },
             alloc,
         })
     }
@@ -448,7 +457,6 @@ impl Store {
         match take_in(
             &moment,
             &mut self.holding,
-            &mut self.found,
             steps,
             &mut self.places,
             &mut self.born,
@@ -458,7 +466,7 @@ impl Store {
                 Ok(())
             }
             Err(_) => {
-                let_go(self.alloc, &mut self.holding, &mut self.found);
+                let_go(self.alloc, &mut self.holding, &mut self.born.found);
                 self.stopped = true;
                 Err(StoreRefused::Memory)
             }
@@ -567,14 +575,13 @@ impl Store {
         match take_prompt(
             &moment,
             &mut self.holding,
-            &mut self.found,
             steps,
             &mut self.places,
             &mut self.born,
         ) {
             Ok(()) => Ok(()),
             Err(_) => {
-                let_go(self.alloc, &mut self.holding, &mut self.found);
+                let_go(self.alloc, &mut self.holding, &mut self.born.found);
                 self.stopped = true;
                 Err(StoreRefused::Memory)
             }
@@ -617,7 +624,7 @@ impl Store {
                 Ok(())
             }
             Err(_) => {
-                let_go(self.alloc, &mut self.holding, &mut self.found);
+                let_go(self.alloc, &mut self.holding, &mut self.born.found);
                 self.stopped = true;
                 Err(StoreRefused::Memory)
             }
@@ -656,13 +663,18 @@ impl Store {
             number: self.number,
             mark,
         };
-        match move_on(&to, &mut self.holding, &mut self.found, &mut self.places) {
+        match move_on(
+            &to,
+            &mut self.holding,
+            &mut self.born.found,
+            &mut self.places,
+        ) {
             Ok(found) => {
                 self.date = h;
                 Ok(found)
             }
             Err(_) => {
-                let_go(self.alloc, &mut self.holding, &mut self.found);
+                let_go(self.alloc, &mut self.holding, &mut self.born.found);
                 self.stopped = true;
                 Err(StoreRefused::Memory)
             }
@@ -673,7 +685,7 @@ impl Store {
     pub fn held(&self) -> usize
         ensures count { result ≡ length self.now.held }
     {
-        self.holding.slots.len() + self.found.len()
+        self.holding.slots.len() + self.born.found.len()
     }
 
     /// The instance at a place, from 0. None exactly where the place is not below the number of those

@@ -5,7 +5,7 @@ ghost use Rattle.crs_base.specs.Entry.{Entry as LogEntry};
 ghost use Rattle.crs_base.specs.Values.{IsChange, NewIs};
 ghost use Rattle.crs_history.specs.Histories.{StandsFor};
 ghost use Rattle.crs_history.specs.Keyed.{HaveKnown};
-ghost use Rattle.crs_history.specs.Looking.{AllAgree};
+ghost use Rattle.crs_history.specs.Looking.{AllAgree, HasValueOver};
 ghost use Rattle.crs_model.specs.Models.{Hold as HoldBody};
 ghost use Rattle.crs_model.specs.Bindings.{look_of};
 ghost use Rattle.crs_model.specs.Matching.{PatternIs};
@@ -97,6 +97,27 @@ fn later(a: i64, b: i64) -> i64
     if a < b { b } else { a }
 }
 
+/// Whether the attribute has the value at each date from the one on and before the other, where the first
+/// isn't before the history's floor. Nothing is looked up where there is no such date: so it is where a
+/// window begins at the date of the event that it hangs on, and 2 % of the load that holds values.
+#[inline(always)]
+fn has_value_over(
+    history: &History,
+    name: Sym,
+    args: &SymList,
+    value: Sym,
+    from: i64,
+    to: i64,
+) -> bool
+    ensures yes { result ≡ true → history.now.floor ≤ℤ from → (settled : Items (LogEntry Sym)) → StandsFor settled history.now → HasValueOver (record { name = name; args = args.now }) settled value from to }
+    ensures no { result ≡ false → history.now.floor ≤ℤ from → (settled : Items (LogEntry Sym)) → StandsFor settled history.now → HasValueOver (record { name = name; args = args.now }) settled value from to → ⊥ }
+{
+    if to <= from {
+        return true;
+    }
+    history.value_over(name, args, value, from, to)
+}
+
 /// Whether the attribute keeps the value at each date of the stretch before h, and each change of it
 /// dated in the stretch brings the value.
 fn keeps_value(
@@ -113,7 +134,7 @@ fn keeps_value(
     ensures no { result ≡ false → history.now.floor ≤ℤ stretch.from → (settled : Items (LogEntry Sym)) → StandsFor settled history.now → Falls settled (record { name = name; args = args.now }) value stretch.from stretch.to h }
 {
     let until = earlier(stretch.to, h);
-    if !history.value_over(name, args, value, stretch.from, until) {
+    if !has_value_over(history, name, args, value, stretch.from, until) {
         return false;
     }
     let ahead = history.find(name, known, later(stretch.from, h), stretch.to);

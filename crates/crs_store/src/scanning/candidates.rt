@@ -1,12 +1,14 @@
 //! The forks of the instances that may come of an entry.
 ghost use Rattle.std.specs.Prelude.{◌≡◌, ◌⊎◌, ◌+◌, ◌*◌, ◌<◌, ◌≤◌, ◌^◌, [], length, None, true, false, OnOk};
-ghost use Rattle.std.specs.List.{AllByRecursion};
 ghost use Rattle.std.specs.List.Sorted.{IsStrictlySortedBy};
 ghost use Rattle.std.specs.Ordering.{nat_cmp};
 ghost use Rattle.crs_base.specs.Seen.{entry_of};
 ghost use Rattle.crs_base.specs.Words.{IsIn};
 ghost use Rattle.crs_index.specs.Indexes.{bucket_of};
 ghost use Rattle.crs_instance.specs.Instances.{IsOf};
+ghost use Rattle.crs_model.specs.Partial.{at, put};
+ghost use Rattle.crs_model.specs.Plans.{IsProper};
+ghost use Rattle.crs_store.specs.Births.{Brings, FindsFork};
 ghost use Rattle.crs_store.specs.Forkings.{HaveWindow, NoneWait, IsNoted, AreCandidates, AreCandidatesOf, KeepsStanding, IsHookAt, AreLinkedAt, HasAll, AreSought, AreForksBut, AreForksOfPlaces, AreForksOfEvent, AreForksOfAll};
 ghost use Rattle.crs_store.specs.Hooks.{KeepsFresh, picked_arguments};
 ghost use Rattle.crs_store.specs.Links.{hook_at, AreLinked};
@@ -14,9 +16,10 @@ ghost use Rattle.crs_store.specs.Moments.{IsArrival};
 ghost use Rattle.crs_store.specs.Orders.{IsOvertaken};
 ghost use Rattle.crs_store.specs.Slots.{members};
 ghost use Rattle.crs_store.specs.Stores.{AllOf};
-ghost use Rattle.crs_store.specs.Scannings.{Adds, AreForksAt};
-ghost use Rattle.crs_store.specs.Windows.{IsAble};
+ghost use Rattle.crs_store.specs.Scannings.{AreForksAt};
+ghost use Rattle.crs_store.specs.Sweeps.{is_whole};
 
+use crate::found::Born;
 use crate::living::levels::is_awaited;
 use crate::moment::Arrival;
 use crate::places::slots::Slots;
@@ -32,7 +35,7 @@ use crs_base::{Entry, Steps};
 use crs_focus::level_of;
 use crs_index::{Index, Key};
 use crs_instance::Instance;
-use crs_model::{Binding, Plan};
+use crs_model::{Binding, Mark, Plan, Recognition};
 use std::alloc::AllocError;
 use std::sync::ledger::Ledger;
 
@@ -43,12 +46,12 @@ fn push_forks<L: Ledger>(
     instance: &Instance,
     event: u8,
     steps: &mut Steps<L>,
-    out: &mut Vec<Instance>,
+    out: &mut Born,
 ) -> Result<(), AllocError>
     requires arrival { IsArrival arrival.now }
     requires of { IsOf arrival.now.plan.now instance.now }
     requires event { event < length arrival.now.plan.now.chronicle.events }
-    ensures forks { OnOk result (Adds arrival.now.plan.now arrival.now.focus arrival.now.until (AreForksBut arrival.now.plan.now arrival.now.focus (IsOvertaken arrival.now.plan.now arrival.now.focus arrival.now.hooks.now.events.items arrival.now.skips (entry_of arrival.now.entry.now.value)) arrival.now.history.now (entry_of arrival.now.entry.now.value) arrival.now.since arrival.now.until instance.now event) out.old.items out.new.items) }
+    ensures forks { OnOk result (Brings arrival.now.plan.now arrival.now.focus arrival.now.finds arrival.now.until (AreForksBut arrival.now.plan.now arrival.now.focus (IsOvertaken arrival.now.plan.now arrival.now.focus arrival.now.hooks.now.events.items arrival.now.skips (entry_of arrival.now.entry.now.value)) arrival.now.history.now (entry_of arrival.now.entry.now.value) arrival.now.since arrival.now.until instance.now event) out.old.instances.items out.new.instances.items out.old.found.items out.new.found.items) }
     ensures cost { arrival.now.focus ≡ false → steps.new ≤ steps.old + 1 }
 {
     let chart = arrival.chart();
@@ -57,6 +60,37 @@ fn push_forks<L: Ledger>(
         return Ok(());
     }
     push_open_forks(arrival, instance, event, steps, out)
+}
+
+/// Adds the recognition of what comes of the instance where the event is bound to the entry, where that
+/// is the only one that is unbound.
+#[inline(never)]
+fn push_done<L: Ledger>(
+    arrival: &Arrival<'_>,
+    instance: &Instance,
+    event: u8,
+    steps: &mut Steps<L>,
+    found: &mut Vec<Recognition>,
+) -> Result<(), AllocError>
+    requires proper { IsProper arrival.now.plan.now }
+    requires of { IsOf arrival.now.plan.now instance.now }
+    requires event { event < length arrival.now.plan.now.chronicle.events }
+    requires unbound { at instance.now.partial event ≡ None }
+    requires whole { is_whole (put instance.now.partial event (entry_of arrival.now.entry.now.value)) ≡ true }
+    requires date { arrival.now.entry.now.value.date < 2 ^ 40 }
+    ensures found { OnOk result (FindsFork arrival.now.plan.now instance.now event (entry_of arrival.now.entry.now.value) found.old.items found.new.items) }
+    ensures cost { steps.new ≡ steps.old + 1 }
+{
+    let Some(completed) = instance.complete(arrival.plan, event, arrival.entry, steps)? else {
+        return Ok(());
+    };
+    found.push(Recognition {
+        chronicle: 0,
+        mark: Mark::Finish,
+        entries: completed.entries,
+        binding: completed.binding,
+    })?;
+    Ok(())
 }
 
 /// Adds what comes of the instance where the event is bound to the entry: a copy with the event bound
@@ -68,16 +102,19 @@ fn push_open_forks<L: Ledger>(
     instance: &Instance,
     event: u8,
     steps: &mut Steps<L>,
-    out: &mut Vec<Instance>,
+    out: &mut Born,
 ) -> Result<(), AllocError>
     requires arrival { IsArrival arrival.now }
     requires of { IsOf arrival.now.plan.now instance.now }
     requires event { event < length arrival.now.plan.now.chronicle.events }
-    ensures forks { OnOk result (Adds arrival.now.plan.now arrival.now.focus arrival.now.until (AreForksAt arrival.now.plan.now arrival.now.focus arrival.now.history.now (entry_of arrival.now.entry.now.value) arrival.now.since arrival.now.until instance.now event) out.old.items out.new.items) }
+    ensures forks { OnOk result (Brings arrival.now.plan.now arrival.now.focus arrival.now.finds arrival.now.until (AreForksAt arrival.now.plan.now arrival.now.focus arrival.now.history.now (entry_of arrival.now.entry.now.value) arrival.now.since arrival.now.until instance.now event) out.old.instances.items out.new.instances.items out.old.found.items out.new.found.items) }
     ensures cost { arrival.now.focus ≡ false → steps.new ≤ steps.old + 1 }
 {
     if !is_awaited(arrival.plan, arrival.focus, instance, event) {
         return Ok(());
+    }
+    if arrival.finds && instance.lacks_only(event) {
+        return push_done(arrival, instance, event, steps, &mut out.found);
     }
     if !instance.can_wait_with(
         arrival.plan,
@@ -103,7 +140,7 @@ fn push_open_forks<L: Ledger>(
         since: arrival.since,
         until: arrival.until,
     };
-    decide(&scan, next, level, todo, steps, out)
+    decide(&scan, next, level, todo, steps, &mut out.instances)
 }
 
 /// An event, and what an instance has to leave to it that is to have an entry: its date, and the symbols
@@ -229,13 +266,13 @@ fn forks_at<L: Ledger>(
     places: &[u32],
     event: u8,
     steps: &mut Steps<L>,
-    out: &mut Vec<Instance>,
+    out: &mut Born,
 ) -> Result<(), AllocError>
     requires arrival { IsArrival arrival.now }
     requires of { AllOf arrival.now.plan.now (members slots.now.slots) }
     requires event { event < length arrival.now.plan.now.chronicle.events }
     requires ordered { IsStrictlySortedBy nat_cmp places.now }
-    ensures forks { OnOk result (Adds arrival.now.plan.now arrival.now.focus arrival.now.until (AreForksOfPlaces arrival.now.plan.now arrival.now.focus (IsOvertaken arrival.now.plan.now arrival.now.focus arrival.now.hooks.now.events.items arrival.now.skips (entry_of arrival.now.entry.now.value)) arrival.now.history.now (entry_of arrival.now.entry.now.value) arrival.now.since arrival.now.until slots.now event places.now) out.old.items out.new.items) }
+    ensures forks { OnOk result (Brings arrival.now.plan.now arrival.now.focus arrival.now.finds arrival.now.until (AreForksOfPlaces arrival.now.plan.now arrival.now.focus (IsOvertaken arrival.now.plan.now arrival.now.focus arrival.now.hooks.now.events.items arrival.now.skips (entry_of arrival.now.entry.now.value)) arrival.now.history.now (entry_of arrival.now.entry.now.value) arrival.now.since arrival.now.until slots.now event places.now) out.old.instances.items out.new.instances.items out.old.found.items out.new.found.items) }
     ensures cost { arrival.now.focus ≡ false → steps.new ≤ steps.old + length (members slots.now.slots) }
 {
     for place in places {
@@ -350,7 +387,7 @@ fn forks_of_event<L: Ledger>(
     waiting: &mut Index,
     steps: &mut Steps<L>,
     places: &mut Vec<u32>,
-    out: &mut Vec<Instance>,
+    out: &mut Born,
 ) -> Result<(), AllocError>
     requires arrival { IsArrival arrival.now }
     requires of { AllOf arrival.now.plan.now (members slots.now.slots) }
@@ -360,7 +397,7 @@ fn forks_of_event<L: Ledger>(
     requires linked { AreLinkedAt arrival.now.plan.now arrival.now.focus sought.hook.now slots.now waiting.old sought.event arrival.now.entry.now.value.date }
     ensures fresh { KeepsFresh slots.now.serials waiting.old waiting.new }
     ensures standing { KeepsStanding slots.now waiting.old waiting.new }
-    ensures forks { OnOk result (Adds arrival.now.plan.now arrival.now.focus arrival.now.until (AreForksOfEvent arrival.now.plan.now arrival.now.focus (IsOvertaken arrival.now.plan.now arrival.now.focus arrival.now.hooks.now.events.items arrival.now.skips (entry_of arrival.now.entry.now.value)) arrival.now.history.now (entry_of arrival.now.entry.now.value) arrival.now.since arrival.now.until slots.now sought.entry.event) out.old.items out.new.items) }
+    ensures forks { OnOk result (Brings arrival.now.plan.now arrival.now.focus arrival.now.finds arrival.now.until (AreForksOfEvent arrival.now.plan.now arrival.now.focus (IsOvertaken arrival.now.plan.now arrival.now.focus arrival.now.hooks.now.events.items arrival.now.skips (entry_of arrival.now.entry.now.value)) arrival.now.history.now (entry_of arrival.now.entry.now.value) arrival.now.since arrival.now.until slots.now sought.entry.event) out.old.instances.items out.new.instances.items out.old.found.items out.new.found.items) }
     ensures cost { arrival.now.focus ≡ false → steps.new ≤ steps.old + 2 * length (members slots.now.slots) }
 {
     if slots.len() == 0 {
@@ -399,19 +436,17 @@ pub(crate) fn forks<L: Ledger>(
     waiting: &mut Index,
     steps: &mut Steps<L>,
     places: &mut Vec<u32>,
-    out: &mut Vec<Instance>,
+    out: &mut Born,
 ) -> Result<(), AllocError>
     requires arrival { IsArrival arrival.now }
     requires of { AllOf arrival.now.plan.now (members slots.now.slots) }
     requires linked { AreLinked arrival.now.plan.now arrival.now.focus arrival.now.hooks.now.events.items slots.now waiting.old arrival.now.entry.now.value.date }
     ensures fresh { KeepsFresh slots.now.serials waiting.old waiting.new }
     ensures standing { KeepsStanding slots.now waiting.old waiting.new }
-    ensures of { OnOk result (AllOf arrival.now.plan.now out.new.items) }
-    ensures able { OnOk result (AllByRecursion (IsAble arrival.now.plan.now arrival.now.focus arrival.now.until) out.new.items) }
-    ensures image { OnOk result (AreForksOfAll arrival.now.plan.now arrival.now.focus (IsOvertaken arrival.now.plan.now arrival.now.focus arrival.now.hooks.now.events.items arrival.now.skips (entry_of arrival.now.entry.now.value)) arrival.now.history.now (entry_of arrival.now.entry.now.value) arrival.now.since arrival.now.until (members slots.now.slots) out.new.items) }
+    ensures forks { OnOk result (Brings arrival.now.plan.now arrival.now.focus arrival.now.finds arrival.now.until (AreForksOfAll arrival.now.plan.now arrival.now.focus (IsOvertaken arrival.now.plan.now arrival.now.focus arrival.now.hooks.now.events.items arrival.now.skips (entry_of arrival.now.entry.now.value)) arrival.now.history.now (entry_of arrival.now.entry.now.value) arrival.now.since arrival.now.until (members slots.now.slots)) [] out.new.instances.items out.old.found.items out.new.found.items) }
     ensures cost { arrival.now.focus ≡ false → steps.new ≤ steps.old + length arrival.now.plan.now.chronicle.events * (2 * length (members slots.now.slots)) }
 {
-    out.clear();
+    out.instances.clear();
     let chart = arrival.chart();
     let name = arrival.entry.name;
     for event in 0..arrival.plan.chronicle.events.len() as u8 {

@@ -8,8 +8,11 @@ use Rattle.crs_model.specs.declared.plan.Plan.{Plan}
 use Rattle.crs_store.specs.PlaceWalks.{Walks}
 use Rattle.crs_store.specs.Joins.{Renews}
 use Rattle.crs_store.specs.Slots.{SlotsState, members}
+use Rattle.crs_store.specs.Tidy.{IsTidyHolding}
 use Rattle.crs_store.specs.Windows.{IsPassed, IsAble}
 use Rattle.crs_store.specs.declared.holding.Holding.{Holding}
+use Rattle.crs_store.proofs.Assembled.{tidy_able}
+use Rattle.crs_store.proofs.Born.{passed_nowhere}
 use Rattle.crs_store.proofs.Held.{settles_none, walks_none, walked_of, all_tidy, all_renew, undue_there, stays_passed}
 use Rattle.crs_store.proofs.holding.pass.Goals as goal
 
@@ -58,3 +61,11 @@ returns-then-is_empty-clause-renews c =
     ((c.in_ok-collect_due.ensures {u = tt}).collected) (λ p i. subst (λ (ps : List ℕ). IsIn p ps) none i) ((c.in_ok-collect_due.ensures {u = tt}).later) c.collect_due.ensures.within c.sweep.new.holding.slots held (settles_none c.args.chart.now.plan c.args.chart.now.focus c.args.chart.now.hooks c.args.since c.args.h held) (IsPassed c.args.chart.now.plan c.args.history.now c.args.since c.args.h) (λ i j r. (r.same, r.gains)) (walks_none (IsPassed c.args.chart.now.plan c.args.history.now c.args.since c.args.h) (IsAble c.args.chart.now.plan c.args.chart.now.focus c.args.h) c.sweep.new.holding.slots)
     (λ p i apart is. stays_passed c.args.chart.now.plan c.args.chart.now.focus c.args.history.now c.args.since c.args.h c.requires.later i (undue_there c.args.chart.now.plan c.args.chart.now.focus c.plan-plan.ensures.is.proper c.args.chart.now.hooks c.args.since c.args.h c.requires.later c.requires.small c.sweep.new.holding c.sweep.ensures.len tidy c.collect_due.new.calendar c.sweep.new.holding.waiting (λ k g f w. w) c.collect_due.new.places.items []
     ((c.in_ok-collect_due.ensures {u = tt}).collected) (λ p i. subst (λ (ps : List ℕ). IsIn p ps) none i) ((c.in_ok-collect_due.ensures {u = tt}).later) c.collect_due.ensures.within c.sweep.new.holding.slots held (settles_none c.args.chart.now.plan c.args.chart.now.focus c.args.chart.now.hooks c.args.since c.args.h held) p i apart is)))
+
+pub returns-then-since-h-clause-tidy : goal.returns-then-since-h-clause-tidy
+returns-then-since-h-clause-tidy c = subst (λ (n : ℕ). IsTidyHolding c.args.chart.now.plan c.args.chart.now.focus c.args.chart.now.hooks c.sweep.new.holding n) c.if-since-h.true (c.sweep.ensures.tidy c.args.chart.now.plan c.args.chart.now.focus c.args.chart.now.hooks c.args.since c.requires.tidy)
+
+pub returns-then-since-h-clause-renews : goal.returns-then-since-h-clause-renews
+returns-then-since-h-clause-renews c =
+    subst (λ (s : SlotsState). Renews (IsPassed c.args.chart.now.plan c.args.history.now c.args.since c.args.h) (IsAble c.args.chart.now.plan c.args.chart.now.focus c.args.h) (members c.args.holding.now.slots.slots) (members s.slots)) (sym c.sweep.ensures.slots)
+    (passed_nowhere c.args.chart.now.plan c.args.chart.now.focus c.args.history.now c.args.since c.args.h c.if-since-h.true (members c.args.holding.now.slots.slots) (tidy_able c.args.chart.now.plan c.args.chart.now.focus c.args.chart.now.hooks c.args.holding.now c.args.since c.requires.tidy))

@@ -1,60 +1,17 @@
-use Rattle.std.proofs.Common.{rules, ◌<◌, arith, ◌≡◌, length, ap, ◌∙◌, sym, List, ℕ, subst, ◌≢◌}
-use Rattle.std.specs.Prelude.{pos, IsSomeAnd, IfSome, slice_index_or, cond, Some, None}
+use Rattle.std.proofs.Common.{rules, List, subst}
+use Rattle.std.specs.Prelude.{Some, pos}
 use Rattle.crs_stn.specs.Table.{most_of}
-use Rattle.crs_base.specs.declared.symbols.Sym.{Sym}
 use Rattle.crs_base.specs.Seen.{entry_of}
+use Rattle.crs_model.specs.declared.date_window.DateWindow.{DateWindow}
 use Rattle.crs_instance.specs.declared.span.Span.{Span}
-use Rattle.crs_model.specs.Partial.{Partial, at}
-use Rattle.crs_model.specs.SeenModels.{event_of}
-use Rattle.crs_instance.specs.declared.links.Links.{Links}
-use Rattle.crs_instance.specs.Instances.{InstanceState}
-use Rattle.crs_instance.specs.EntryLinks.{partial_of, AreLinked}
+use Rattle.crs_instance.specs.Completing.{IsTakenBy}
 use Rattle.crs_instance.specs.Narrowed.{IsNarrowed}
-use Rattle.crs_instance.proofs.BindAnswers.{the_state, answer_twice, answer_unmatched, answer_outside, answer_yes, event_as, pattern_as, inside_as}
 use Rattle.crs_instance.specs.Spans.{windows_of}
 use Rattle.crs_instance.proofs.instance.Instance.extended.Goals as goal
 
-pub returns-then-gives-clause-extended : goal.returns-then-gives-clause-extended
-returns-then-gives-clause-extended g c =
-    let i : InstanceState = the_state c.args.self.now.partial c.known-known.result.now.binding (windows_of c.known-known.result.now.spans.items) c.args.self.now.progress in
-    let same : i ≡ c.args.self.now = (λ t. the_state c.args.self.now.partial (c.known-known.ensures.binding t) (c.known-known.ensures.windows t) c.args.self.now.progress) in
-    let linked : AreLinked c.self.inside.count c.deref.result.now = subst (AreLinked c.self.inside.count) (sym c.deref.ensures) c.self.invariant.linked in
-    let seen : partial_of c.self.inside.count c.deref.result.now ≡ c.args.self.now.partial = ap (λ (l : Links). partial_of c.self.inside.count l) c.deref.ensures ∙ ap (λ (s : InstanceState). s.partial) c.self.view_is in
-    answer_twice c.args.plan.now c.requires.proper i c.args.self.now same c.requires.of c.args.event (entry_of c.args.entry.now) c.requires.event c.requires.unbound
-    (subst (λ (a : Partial Sym). (f : ℕ) × IsSomeAnd (at a f) (λ y. y.arrival ≡ c.args.entry.now.arrival)) seen (c.gives.ensures.present c.if-gives.true c.self.inside.count linked))
-
-pub matched-requires : goal.matched-requires
-matched-requires g c =
-    pattern_as (length c.args.plan.now.chronicle.variables) (length c.copy-binding.result) c.as_slice.result.now c.args.plan.now.chronicle.events c.args.event c.index-as_slice-event.result c.as_slice.ensures
-    (ap length c.copy-binding.ensures ∙ ap length c.known-known.ensures.binding ∙ c.requires.of.symbols) c.requires.event c.requires.proper.below
-
-pub returns-then-not-matched-clause-extended : goal.returns-then-not-matched-clause-extended
-returns-then-not-matched-clause-extended g c =
-    let binding : c.copy-binding.result ≡ c.args.self.now.binding = c.copy-binding.ensures ∙ c.known-known.ensures.binding in
-    let i : InstanceState = the_state c.args.self.now.partial c.copy-binding.result (windows_of c.known-known.result.now.spans.items) c.args.self.now.progress in
-    let same : i ≡ c.args.self.now = (λ t. the_state c.args.self.now.partial (binding t) (c.known-known.ensures.windows t) c.args.self.now.progress) in
-    answer_unmatched c.args.plan.now c.requires.proper i c.args.self.now same c.requires.of c.args.event (entry_of c.args.entry.now) c.requires.event c.requires.unbound
-    (event_of (slice_index_or c.as_slice.result.now c.args.event c.index-as_slice-event.result)) (event_as c.as_slice.result.now c.args.plan.now.chronicle.events c.args.event c.index-as_slice-event.result c.as_slice.ensures c.requires.event)
-    (cond c.matched.result (Some c.matched.new.binding) None) (search rules) c.matched.ensures.bound
-
-pub returns-then-not-is_inside-clause-extended : goal.returns-then-not-is_inside-clause-extended
-returns-then-not-is_inside-clause-extended g c =
-    let i : InstanceState = the_state c.args.self.now.partial c.known-known.result.now.binding (windows_of c.known-known.result.now.spans.items) c.args.self.now.progress in
-    let same : i ≡ c.args.self.now = (λ t. the_state c.args.self.now.partial (c.known-known.ensures.binding t) (c.known-known.ensures.windows t) c.args.self.now.progress) in
-    let within : c.args.event < length (windows_of c.known-known.result.now.spans.items) = (let a = ap length c.known-known.ensures.windows in let b = c.requires.of.window_count in let p = c.requires.proper.points in let e = c.requires.event in omega arith) in
-    answer_outside c.args.plan.now c.requires.proper i c.args.self.now same c.requires.of c.args.event (entry_of c.args.entry.now) c.requires.event c.requires.unbound c.is_inside.result (inside_as c.known-known.result.now.spans.items c.args.event c.index.result.now (pos c.args.entry.now.date) c.is_inside.result c.index.ensures within c.is_inside.ensures) (search rules)
-
 pub returns-clause-extended : goal.returns-clause-extended
 returns-clause-extended g c =
-    let binding : c.copy-binding.result ≡ c.args.self.now.binding = c.copy-binding.ensures ∙ c.known-known.ensures.binding in
-    let i : InstanceState = the_state c.args.self.now.partial c.copy-binding.result (windows_of c.known-known.result.now.spans.items) c.args.self.now.progress in
-    let same : i ≡ c.args.self.now = (λ t. the_state c.args.self.now.partial (binding t) (c.known-known.ensures.windows t) c.args.self.now.progress) in
-    let linked : AreLinked c.self.inside.count c.deref.result.now = subst (AreLinked c.self.inside.count) (sym c.deref.ensures) c.self.invariant.linked in
-    let seen : partial_of c.self.inside.count c.deref.result.now ≡ c.args.self.now.partial = ap (λ (l : Links). partial_of c.self.inside.count l) c.deref.ensures ∙ ap (λ (s : InstanceState). s.partial) c.self.view_is in
-    let within : c.args.event < length (windows_of c.known-known.result.now.spans.items) = (let a = ap length c.known-known.ensures.windows in let b = c.requires.of.window_count in let p = c.requires.proper.points in let e = c.requires.event in omega arith) in
-    answer_yes c.args.plan.now c.requires.proper i c.args.self.now same c.requires.of c.args.event (entry_of c.args.entry.now) c.requires.event c.requires.unbound
-    (event_of (slice_index_or c.as_slice.result.now c.args.event c.index-as_slice-event.result)) (event_as c.as_slice.result.now c.args.plan.now.chronicle.events c.args.event c.index-as_slice-event.result c.as_slice.ensures c.requires.event)
-    (cond c.matched.result (Some c.matched.new.binding) None) c.matched.new.binding (search rules) c.matched.ensures.bound
-    (subst (λ (a : Partial Sym). (f : ℕ) → IfSome (at a f) (λ y. y.arrival ≢ c.args.entry.now.arrival)) seen (λ f. c.gives.ensures.absent c.if-gives.false c.self.inside.count f linked))
-    c.is_inside.result (inside_as c.known-known.result.now.spans.items c.args.event c.index.result.now (pos c.args.entry.now.date) c.is_inside.result c.index.ensures within c.is_inside.ensures) (search rules) (windows_of c.in_ok-spans.spans.items)
-    (subst (λ (ss : List Span). IsNarrowed c.args.plan.now.network.points (most_of c.args.plan.now.network) c.args.event (pos c.args.entry.now.date) (windows_of ss) (windows_of c.in_ok-spans.spans.items)) c.as_slice-2.ensures.value (c.in_ok-spans.ensures {u = tt}))
+    let taken : IsTakenBy c.args.plan.now c.args.self.now c.args.event (entry_of c.args.entry.now) (Some c.takes.new.binding) = search rules in
+    taken (windows_of c.in_ok-spans.spans.items)
+    (subst (λ (old : List DateWindow). IsNarrowed c.args.plan.now.network.points (most_of c.args.plan.now.network) c.args.event (pos c.args.entry.now.date) old (windows_of c.in_ok-spans.spans.items)) c.known-known.ensures.windows
+    (subst (λ (ss : List Span). IsNarrowed c.args.plan.now.network.points (most_of c.args.plan.now.network) c.args.event (pos c.args.entry.now.date) (windows_of ss) (windows_of c.in_ok-spans.spans.items)) c.as_slice.ensures.value (c.in_ok-spans.ensures {u = tt})))

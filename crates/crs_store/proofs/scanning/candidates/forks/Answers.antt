@@ -1,6 +1,5 @@
-use Rattle.std.proofs.Common.{rules, not, eq-eqb, true≢false, ◌≡◌, ◌+◌, ◌*◌, ◌≤◌, ◌∙◌, [], length, sym, ap, subst, arith}
+use Rattle.std.proofs.Common.{rules, not, eq-eqb, true≢false, ◌≡◌, ◌+◌, ◌*◌, ◌≤◌, ◌∙◌, length, sym, ap, subst, arith}
 use Rattle.std.proofs.Math.Nat.{mul-le-mul_right}
-use Rattle.std.proofs.lemmas.List.{append-nil}
 use Rattle.crs_base.specs.Seen.{entry_of}
 use Rattle.crs_base.specs.declared.entry.Entry.{Entry as CodeEntry}
 use Rattle.crs_base.specs.declared.symbols.Sym.{Sym}
@@ -12,7 +11,8 @@ use Rattle.crs_store.specs.Hooks.{key_of}
 use Rattle.crs_store.specs.Links.{hook_at}
 use Rattle.crs_store.specs.Orders.{IsOvertaken}
 use Rattle.crs_store.specs.Slots.{members}
-use Rattle.crs_store.proofs.Gathered.{hook_there, none_named, gathered_none, gathered_more, gathered_all, events_cost}
+use Rattle.crs_store.proofs.Births.{brings_none, brings_gathered_none, brings_gathered_more, brings_gathered_all}
+use Rattle.crs_store.proofs.Gathered.{hook_there, none_named, events_cost}
 use Rattle.crs_store.proofs.scanning.candidates.forks.Goals as goal
 
 pub forks_of_event-requires-clause-hook : goal.forks_of_event-requires-clause-hook
@@ -28,7 +28,7 @@ returns-in_err-forks_of_event-clause-standing g c = λ k p i s w. c.forks_of_eve
 
 pub loop-event-init : goal.loop-event-init
 loop-event-init g c = record {
-  gathered = gathered_none c.args.arrival.now.plan.now c.args.arrival.now.focus (IsOvertaken c.args.arrival.now.plan.now c.args.arrival.now.focus c.args.arrival.now.hooks.now.events.items c.args.arrival.now.skips (entry_of c.args.arrival.now.entry.now.value)) c.args.arrival.now.history.now (entry_of c.args.arrival.now.entry.now.value) c.args.arrival.now.since c.args.arrival.now.until c.args.slots.now c.clear.new.self.items (search rules);
+  gathered = brings_gathered_none c.args.arrival.now.plan.now c.args.arrival.now.focus c.args.arrival.now.finds (IsOvertaken c.args.arrival.now.plan.now c.args.arrival.now.focus c.args.arrival.now.hooks.now.events.items c.args.arrival.now.skips (entry_of c.args.arrival.now.entry.now.value)) c.args.arrival.now.history.now (entry_of c.args.arrival.now.entry.now.value) c.args.arrival.now.since c.args.arrival.now.until c.args.slots.now c.clear.new.self.items c.args.out.now.found.items (search rules);
   fresh = λ k h f w. w;
   standing = λ k p i s w. w;
   cost = λ flat. omega arith;
@@ -36,8 +36,7 @@ loop-event-init g c = record {
 
 pub loop-event-preserved : goal.loop-event-preserved
 loop-event-preserved g c = record {
-  gathered = let adds = (c.in_ok-forks_of_event.ensures {u = tt}).forks in
-      gathered_more c.args.arrival.now.plan.now c.args.arrival.now.focus (IsOvertaken c.args.arrival.now.plan.now c.args.arrival.now.focus c.args.arrival.now.hooks.now.events.items c.args.arrival.now.skips (entry_of c.args.arrival.now.entry.now.value)) c.args.arrival.now.history.now (entry_of c.args.arrival.now.entry.now.value) c.args.arrival.now.since c.args.arrival.now.until c.args.slots.now c.loop-event.event c.loop-event.out.items adds.more c.forks_of_event.new.out.items adds.grown adds.of adds.able adds.are c.loop-event.invariant.gathered;
+  gathered = brings_gathered_more c.args.arrival.now.plan.now c.args.arrival.now.focus c.args.arrival.now.finds (IsOvertaken c.args.arrival.now.plan.now c.args.arrival.now.focus c.args.arrival.now.hooks.now.events.items c.args.arrival.now.skips (entry_of c.args.arrival.now.entry.now.value)) c.args.arrival.now.history.now (entry_of c.args.arrival.now.entry.now.value) c.args.arrival.now.since c.args.arrival.now.until c.args.slots.now c.loop-event.event c.loop-event.out.instances.items c.forks_of_event.new.out.instances.items c.args.out.now.found.items c.loop-event.out.found.items c.forks_of_event.new.out.found.items ((c.in_ok-forks_of_event.ensures {u = tt}).forks) c.loop-event.invariant.gathered;
   fresh = λ k h f w. c.forks_of_event.ensures.fresh k h f (c.loop-event.invariant.fresh k h f w);
   standing = λ k p i s w. c.forks_of_event.ensures.standing k p i s (c.loop-event.invariant.standing k p i s w);
   cost = events_cost c.args.arrival.now.focus c.args.steps.now c.loop-event.steps c.forks_of_event.new.steps c.loop-event.event (2 * length (members c.args.slots.now.slots)) c.loop-event.invariant.cost c.forks_of_event.ensures.cost;
@@ -51,17 +50,18 @@ loop-event-preserved-then-ne g c =
     let number : c.event_hook-hook.result.now.name.0 ≡ c.deref.result.now.name.0 = ap (λ (s : Sym). s.0) (is ∙ same ∙ sym (ap (λ (y : CodeEntry). y.name) c.deref.ensures)) in
     true≢false (sym c.if-ne.true ∙ c.ne.ensures ∙ ap not (eq-eqb c.event_hook-hook.result.now.name.0 c.deref.result.now.name.0 number))) in
     record {
-      gathered = gathered_more c.args.arrival.now.plan.now c.args.arrival.now.focus (IsOvertaken c.args.arrival.now.plan.now c.args.arrival.now.focus c.args.arrival.now.hooks.now.events.items c.args.arrival.now.skips (entry_of c.args.arrival.now.entry.now.value)) c.args.arrival.now.history.now x c.args.arrival.now.since c.args.arrival.now.until c.args.slots.now c.loop-event.event c.loop-event.out.items [] c.loop-event.out.items (sym (append-nil c.loop-event.out.items)) tt tt
-          (none_named c.args.arrival.now.plan.now c.args.arrival.now.focus (IsOvertaken c.args.arrival.now.plan.now c.args.arrival.now.focus c.args.arrival.now.hooks.now.events.items c.args.arrival.now.skips (entry_of c.args.arrival.now.entry.now.value)) c.args.arrival.now.history.now x c.args.arrival.now.since c.args.arrival.now.until c.args.slots.now c.loop-event.event c.requires.arrival.proper c.requires.of (search rules) (hook_at c.args.arrival.now.hooks.now.events.items c.loop-event.event) (hook_there c.args.arrival.now.plan.now c.args.arrival.now.hooks.now.events.items c.loop-event.event c.requires.arrival.hooks.of_events) other) c.loop-event.invariant.gathered;
+      gathered = brings_gathered_more c.args.arrival.now.plan.now c.args.arrival.now.focus c.args.arrival.now.finds (IsOvertaken c.args.arrival.now.plan.now c.args.arrival.now.focus c.args.arrival.now.hooks.now.events.items c.args.arrival.now.skips (entry_of c.args.arrival.now.entry.now.value)) c.args.arrival.now.history.now x c.args.arrival.now.since c.args.arrival.now.until c.args.slots.now c.loop-event.event c.loop-event.out.instances.items c.loop-event.out.instances.items c.args.out.now.found.items c.loop-event.out.found.items c.loop-event.out.found.items
+          (brings_none c.args.arrival.now.plan.now c.args.arrival.now.focus c.args.arrival.now.finds c.args.arrival.now.until _ c.loop-event.out.instances.items c.loop-event.out.found.items
+          (none_named c.args.arrival.now.plan.now c.args.arrival.now.focus (IsOvertaken c.args.arrival.now.plan.now c.args.arrival.now.focus c.args.arrival.now.hooks.now.events.items c.args.arrival.now.skips (entry_of c.args.arrival.now.entry.now.value)) c.args.arrival.now.history.now x c.args.arrival.now.since c.args.arrival.now.until c.args.slots.now c.loop-event.event c.requires.arrival.proper c.requires.of (search rules) (hook_at c.args.arrival.now.hooks.now.events.items c.loop-event.event) (hook_there c.args.arrival.now.plan.now c.args.arrival.now.hooks.now.events.items c.loop-event.event c.requires.arrival.hooks.of_events) other)) c.loop-event.invariant.gathered;
       fresh = c.loop-event.invariant.fresh;
       standing = c.loop-event.invariant.standing;
       cost = λ flat. let k = c.loop-event.invariant.cost flat in omega arith;
     }
 
-pub returns-clause-image : goal.returns-clause-image
-returns-clause-image g c =
+pub returns-clause-forks : goal.returns-clause-forks
+returns-clause-forks g c =
     let e : c.loop-event.event ≡ length c.args.arrival.now.plan.now.chronicle.events = search rules in
-    gathered_all c.args.arrival.now.plan.now c.args.arrival.now.focus (IsOvertaken c.args.arrival.now.plan.now c.args.arrival.now.focus c.args.arrival.now.hooks.now.events.items c.args.arrival.now.skips (entry_of c.args.arrival.now.entry.now.value)) c.args.arrival.now.history.now (entry_of c.args.arrival.now.entry.now.value) c.args.arrival.now.since c.args.arrival.now.until c.args.slots.now c.requires.of c.loop-event.event c.loop-event.out.items e c.loop-event.invariant.gathered
+    brings_gathered_all c.args.arrival.now.plan.now c.args.arrival.now.focus c.args.arrival.now.finds (IsOvertaken c.args.arrival.now.plan.now c.args.arrival.now.focus c.args.arrival.now.hooks.now.events.items c.args.arrival.now.skips (entry_of c.args.arrival.now.entry.now.value)) c.args.arrival.now.history.now (entry_of c.args.arrival.now.entry.now.value) c.args.arrival.now.since c.args.arrival.now.until c.args.slots.now c.requires.of c.loop-event.event c.loop-event.out.instances.items c.args.out.now.found.items c.loop-event.out.found.items e c.loop-event.invariant.gathered
 
 pub forks_of_event-requires-clause-linked : goal.forks_of_event-requires-clause-linked
 forks_of_event-requires-clause-linked g c =

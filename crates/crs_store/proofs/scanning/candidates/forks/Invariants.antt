@@ -4,12 +4,12 @@ use Rattle.crs_store.specs.Forkings.{KeepsStanding}
 use Rattle.crs_store.specs.Hooks.{KeepsFresh}
 use Rattle.crs_store.specs.Orders.{IsOvertaken}
 use Rattle.crs_store.specs.Slots.{members}
-use Rattle.crs_store.proofs.Gathered.{AreGathered}
+use Rattle.crs_store.proofs.Births.{BringsGathered}
 use Rattle.crs_store.proofs.scanning.candidates.forks.Given as goal
 
 abbrev pub invariant-loop-event : goal.invariant-loop-event
 invariant-loop-event g l = record {
-  gathered : AreGathered l.arrival.plan.now l.arrival.focus (IsOvertaken l.arrival.plan.now l.arrival.focus l.arrival.hooks.now.events.items l.arrival.skips (entry_of l.arrival.entry.now.value)) l.arrival.history.now (entry_of l.arrival.entry.now.value) l.arrival.since l.arrival.until l.slots l.event l.out.items;
+  gathered : BringsGathered l.arrival.plan.now l.arrival.focus l.arrival.finds (IsOvertaken l.arrival.plan.now l.arrival.focus l.arrival.hooks.now.events.items l.arrival.skips (entry_of l.arrival.entry.now.value)) l.arrival.history.now (entry_of l.arrival.entry.now.value) l.arrival.since l.arrival.until l.slots l.event l.out.instances.items l.fn.out.found.items l.out.found.items;
   fresh : KeepsFresh l.slots.serials l.fn.waiting l.waiting;
   standing : KeepsStanding l.slots l.fn.waiting l.waiting;
   cost : l.arrival.focus ≡ false → l.steps ≤ l.fn.steps + l.event * (2 * length (members l.slots.slots));

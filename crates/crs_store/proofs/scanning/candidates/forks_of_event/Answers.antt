@@ -7,7 +7,7 @@ use Rattle.crs_base.specs.Words.{IsIn}
 use Rattle.crs_store.specs.Agreeing.{IsTaken}
 use Rattle.crs_store.specs.Orders.{IsOvertaken}
 use Rattle.crs_store.specs.Forkings.{AreSought, AreForksOfPlaces, AreForksOfEvent}
-use Rattle.crs_store.proofs.Scanned.{adds_as, adds_none}
+use Rattle.crs_store.proofs.Births.{brings_as, brings_none}
 use Rattle.crs_store.proofs.Gathered.{have_window, sought_kept, all_found, none_held, none_taken, none_waits}
 use Rattle.crs_store.proofs.Overtaken.{held_back}
 use Rattle.crs_store.proofs.scanning.candidates.forks_of_event.Goals as goal
@@ -19,7 +19,7 @@ pub returns-then-len-eq0-clause-forks : goal.returns-then-len-eq0-clause-forks
 returns-then-len-eq0-clause-forks g c =
     let a = c.args.arrival.now in
     let x = entry_of a.entry.now.value in
-    adds_none a.plan.now a.focus a.until (AreForksOfEvent a.plan.now a.focus (IsOvertaken a.plan.now a.focus a.hooks.now.events.items a.skips x) a.history.now x a.since a.until c.args.slots.now c.args.sought.event) c.args.out.now.items
+    brings_none a.plan.now a.focus a.finds a.until (AreForksOfEvent a.plan.now a.focus (IsOvertaken a.plan.now a.focus a.hooks.now.events.items a.skips x) a.history.now x a.since a.until c.args.slots.now c.args.sought.event) c.args.out.now.instances.items c.args.out.now.found.items
     (none_held a.plan.now a.focus (IsOvertaken a.plan.now a.focus a.hooks.now.events.items a.skips x) a.history.now x a.since a.until c.args.slots.now c.args.sought.event c.requires.arrival.proper c.requires.of c.requires.event c.args.sought.hook.now c.requires.hook (sym c.len.ensures.count ∙ c.if-len-eq0.true))
 
 pub returns-then-comes_to_none-clause-forks : goal.returns-then-comes_to_none-clause-forks
@@ -27,7 +27,7 @@ returns-then-comes_to_none-clause-forks g c =
     let a = c.args.arrival.now in
     let x = entry_of a.entry.now.value in
     let none = c.comes_to_none.ensures c.if-comes_to_none.true in
-    adds_none a.plan.now a.focus a.until (AreForksOfEvent a.plan.now a.focus (IsOvertaken a.plan.now a.focus a.hooks.now.events.items a.skips x) a.history.now x a.since a.until c.args.slots.now c.args.sought.event) c.args.out.now.items
+    brings_none a.plan.now a.focus a.finds a.until (AreForksOfEvent a.plan.now a.focus (IsOvertaken a.plan.now a.focus a.hooks.now.events.items a.skips x) a.history.now x a.since a.until c.args.slots.now c.args.sought.event) c.args.out.now.instances.items c.args.out.now.found.items
     (none_waits a.plan.now a.focus (IsOvertaken a.plan.now a.focus a.hooks.now.events.items a.skips x) a.history.now x a.since a.until c.args.slots.now c.args.sought.event c.requires.arrival.proper c.requires.of c.requires.event c.args.sought.hook.now c.requires.hook c.args.waiting.now a.skips
     (held_back a.plan.now a.focus a.hooks.now.ranks.value.items a.hooks.now.events.items c.requires.arrival.order x a.skips c.args.sought.event c.args.sought.hook.now c.requires.same)
     c.requires.linked none.0 none.1)
@@ -38,7 +38,7 @@ returns-then-not-takes-clause-forks g c =
     let x = entry_of a.entry.now.value in
     let taken : IsTaken a.plan.now c.args.sought.event x None = subst (λ (e : CodeEntry). IsTaken a.plan.now c.args.sought.event (entry_of e) None) c.deref-2.ensures
     (subst (λ (b : Bool). IsTaken a.plan.now c.args.sought.event (entry_of c.deref-2.result.now) (cond b (Some c.takes.new.symbols) None)) c.if-not-takes.true c.takes.ensures.taken) in
-    adds_none a.plan.now a.focus a.until (AreForksOfEvent a.plan.now a.focus (IsOvertaken a.plan.now a.focus a.hooks.now.events.items a.skips x) a.history.now x a.since a.until c.args.slots.now c.args.sought.event) c.args.out.now.items
+    brings_none a.plan.now a.focus a.finds a.until (AreForksOfEvent a.plan.now a.focus (IsOvertaken a.plan.now a.focus a.hooks.now.events.items a.skips x) a.history.now x a.since a.until c.args.slots.now c.args.sought.event) c.args.out.now.instances.items c.args.out.now.found.items
     (none_taken a.plan.now a.focus (IsOvertaken a.plan.now a.focus a.hooks.now.events.items a.skips x) a.history.now x a.since a.until c.args.slots.now c.args.sought.event c.requires.arrival.proper c.requires.of c.requires.event c.args.sought.hook.now c.requires.hook taken)
 
 pub returns-clause-forks : goal.returns-clause-forks
@@ -53,7 +53,7 @@ returns-clause-forks g c =
     let taken : IsTaken c.args.arrival.now.plan.now c.args.sought.event x (Some c.takes.new.symbols) = subst (λ (e : CodeEntry). IsTaken c.args.arrival.now.plan.now c.args.sought.event (entry_of e) (Some c.takes.new.symbols)) c.deref-2.ensures
     (subst (λ (b : Bool). IsTaken c.args.arrival.now.plan.now c.args.sought.event (entry_of c.deref-2.result.now) (cond b (Some c.takes.new.symbols) None)) c.if-not-takes.false c.takes.ensures.taken) in
     on_ok_weaker c.forks_at.result
-    (adds_as c.args.arrival.now.plan.now c.args.arrival.now.focus c.args.arrival.now.until (AreForksOfPlaces c.args.arrival.now.plan.now c.args.arrival.now.focus (IsOvertaken c.args.arrival.now.plan.now c.args.arrival.now.focus c.args.arrival.now.hooks.now.events.items c.args.arrival.now.skips x) c.args.arrival.now.history.now x c.args.arrival.now.since c.args.arrival.now.until c.args.slots.now c.args.sought.event places) (AreForksOfEvent c.args.arrival.now.plan.now c.args.arrival.now.focus (IsOvertaken c.args.arrival.now.plan.now c.args.arrival.now.focus c.args.arrival.now.hooks.now.events.items c.args.arrival.now.skips x) c.args.arrival.now.history.now x c.args.arrival.now.since c.args.arrival.now.until c.args.slots.now c.args.sought.event) c.args.out.now.items c.forks_at.new.out.items
+    (brings_as c.args.arrival.now.plan.now c.args.arrival.now.focus c.args.arrival.now.finds c.args.arrival.now.until (AreForksOfPlaces c.args.arrival.now.plan.now c.args.arrival.now.focus (IsOvertaken c.args.arrival.now.plan.now c.args.arrival.now.focus c.args.arrival.now.hooks.now.events.items c.args.arrival.now.skips x) c.args.arrival.now.history.now x c.args.arrival.now.since c.args.arrival.now.until c.args.slots.now c.args.sought.event places) (AreForksOfEvent c.args.arrival.now.plan.now c.args.arrival.now.focus (IsOvertaken c.args.arrival.now.plan.now c.args.arrival.now.focus c.args.arrival.now.hooks.now.events.items c.args.arrival.now.skips x) c.args.arrival.now.history.now x c.args.arrival.now.since c.args.arrival.now.until c.args.slots.now c.args.sought.event) c.args.out.now.instances.items c.forks_at.new.out.instances.items c.args.out.now.found.items c.forks_at.new.out.found.items
     (λ more d. all_found c.args.arrival.now.plan.now c.args.arrival.now.focus (IsOvertaken c.args.arrival.now.plan.now c.args.arrival.now.focus c.args.arrival.now.hooks.now.events.items c.args.arrival.now.skips x) c.args.arrival.now.history.now x c.args.arrival.now.since c.args.arrival.now.until c.args.slots.now c.args.sought.event c.requires.arrival.proper c.requires.of c.requires.event c.args.sought.hook.now c.requires.hook c.takes.new.symbols taken c.args.waiting.now skips places more
     (held_back c.args.arrival.now.plan.now c.args.arrival.now.focus c.args.arrival.now.hooks.now.ranks.value.items c.args.arrival.now.hooks.now.events.items c.requires.arrival.order x skips c.args.sought.event hook c.requires.same)
     c.requires.linked (sought_kept c.args.slots.now c.args.waiting.now hook skips x.args c.args.sought.event x.date c.takes.new.symbols found places still sought) d))

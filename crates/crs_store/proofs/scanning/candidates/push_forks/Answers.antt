@@ -8,7 +8,7 @@ use Rattle.crs_store.specs.Links.{hook_at}
 use Rattle.crs_store.specs.Orders.{IsOvertaken, IsUnboundBefore}
 use Rattle.crs_store.specs.Scannings.{AreForksAt}
 use Rattle.crs_store.proofs.Overtaken.{before_within, none_forked, all_forked}
-use Rattle.crs_store.proofs.Scanned.{adds_none, adds_as}
+use Rattle.crs_store.proofs.Births.{brings_none, brings_as}
 use Rattle.crs_store.proofs.scanning.candidates.push_forks.Goals as goal
 use Rattle.crs_store.proofs.scanning.candidates.push_forks.Goals.{else-arrival-via-then-arrival+else-is_held_back, else-arrival-via-else-arrival}
 
@@ -26,7 +26,7 @@ returns-then-is_held_back-clause-forks g c =
     let hooks = a.hooks.now.events.items in
     let is = c.event_hook-hook.ensures ∙ ap (λ (s : ChartState). hook_at s.hooks.events.items c.args.event) c.chart-chart.ensures in
     let back = subst (λ (h : Hook). IsUnboundBefore h c.args.instance.now.partial) is (c.is_held_back.ensures.0 c.if-is_held_back.true) in
-    adds_none a.plan.now a.focus a.until (AreForksBut a.plan.now a.focus (IsOvertaken a.plan.now a.focus hooks a.skips x) a.history.now x a.since a.until c.args.instance.now c.args.event) c.args.out.now.items
+    brings_none a.plan.now a.focus a.finds a.until (AreForksBut a.plan.now a.focus (IsOvertaken a.plan.now a.focus hooks a.skips x) a.history.now x a.since a.until c.args.instance.now c.args.event) c.args.out.now.instances.items c.args.out.now.found.items
     (none_forked a.plan.now a.focus a.hooks.now.ranks.value.items hooks c.requires.arrival.order a.history.now x a.since a.until c.args.instance.now c.requires.of.len c.args.event a.skips c.if-arrival.true back)
 
 pub returns-clause-forks : goal.returns-clause-forks
@@ -40,6 +40,6 @@ returns-clause-forks g c =
       | else-arrival-via-else-arrival w ↦ true≢false (sym skip ∙ w.if-arrival.false)
     ]) in
     on_ok_weaker c.push_open_forks.result
-    (adds_as a.plan.now a.focus a.until (AreForksAt a.plan.now a.focus a.history.now x a.since a.until c.args.instance.now c.args.event) (AreForksBut a.plan.now a.focus (IsOvertaken a.plan.now a.focus hooks a.skips x) a.history.now x a.since a.until c.args.instance.now c.args.event) c.args.out.now.items c.push_open_forks.new.out.items
+    (brings_as a.plan.now a.focus a.finds a.until (AreForksAt a.plan.now a.focus a.history.now x a.since a.until c.args.instance.now c.args.event) (AreForksBut a.plan.now a.focus (IsOvertaken a.plan.now a.focus hooks a.skips x) a.history.now x a.since a.until c.args.instance.now c.args.event) c.args.out.now.instances.items c.push_open_forks.new.out.instances.items c.args.out.now.found.items c.push_open_forks.new.out.found.items
     (λ more d. all_forked a.plan.now a.focus a.hooks.now.ranks.value.items hooks c.requires.arrival.order a.history.now x a.since a.until c.args.instance.now c.requires.of.len c.args.event a.skips free more d))
     c.push_open_forks.ensures.forks

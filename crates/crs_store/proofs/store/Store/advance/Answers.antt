@@ -11,11 +11,11 @@ use Rattle.crs_store.proofs.Advancing.{advanced_from}
 use Rattle.crs_store.proofs.store.Store.advance.Goals as goal
 
 pub move_on-requires-clause-kept : goal.move_on-requires-clause-kept
-move_on-requires-clause-kept c = subst (λ (p : Plan). AllOf p (founds p c.self.inside.found.items)) (sym c.deref.ensures) (founds_of c.self.inside.plan.value c.self.inside.holding.slots c.self.inside.found.items c.self.invariant.0.instances)
+move_on-requires-clause-kept c = subst (λ (p : Plan). AllOf p (founds p c.self.inside.born.found.items)) (sym c.deref.ensures) (founds_of c.self.inside.plan.value c.self.inside.holding.slots c.self.inside.born.found.items c.self.invariant.0.instances)
 
 pub invariant_of-self : goal.invariant_of-self
 invariant_of-self c =
-    tidy_at_mark c.self.inside.plan.value c.self.inside.hooks c.self.inside.number c.self.inside.focus c.self.inside.stopped (held_in c.self.inside.plan.value c.self.inside.holding.slots c.self.inside.found.items) (length (members c.self.inside.holding.slots.slots)) c.self.inside.date c.self.invariant.0 c.self.invariant.1 c.self.invariant.2 c.move_on.new.holding c.move_on.new.found.items c.args.h c.requires
+    tidy_at_mark c.self.inside.plan.value c.self.inside.hooks c.self.inside.number c.self.inside.focus c.self.inside.stopped (held_in c.self.inside.plan.value c.self.inside.holding.slots c.self.inside.born.found.items) (length (members c.self.inside.holding.slots.slots)) c.self.inside.date c.self.invariant.0 c.self.invariant.1 c.self.invariant.2 c.move_on.new.holding c.move_on.new.found.items c.args.h c.requires
     (subst (λ (p : Plan). IsTidyHolding p c.self.inside.focus c.self.inside.hooks c.move_on.new.holding c.args.h) c.deref.ensures ((c.in-Ok.ensures {u = tt}).tidy))
     (subst (λ (rs : List Recognition). AllOf c.self.inside.plan.value (founds c.self.inside.plan.value rs)) (sym (c.in-Ok.ensures {u = tt}).none) tt)
 
@@ -25,7 +25,7 @@ returns-in-Ok-clause-placed c = λ later. all_placed c.self.inside.plan.value c.
 pub returns-in-Ok-clause-advanced : goal.returns-in-Ok-clause-advanced
 returns-in-Ok-clause-advanced c =
     let p = c.deref.result.now in
-    let moves = subst (λ (q : Plan). MovesOn p c.self.inside.focus c.args.history.now c.self.inside.date c.args.h c.self.inside.number c.args.mark (held_in q c.self.inside.holding.slots c.self.inside.found.items) (held_in q c.move_on.new.holding.slots c.move_on.new.found.items) c.in-Ok.found) c.deref.ensures ((c.in-Ok.ensures {u = tt}).moved) in
-    advanced_from (record { plan = c.self.inside.plan.value; number = c.self.inside.number; focus = c.self.inside.focus; ranks = c.self.inside.hooks.ranks.value.items; held = held_in c.self.inside.plan.value c.self.inside.holding.slots c.self.inside.found.items; placed = length (members c.self.inside.holding.slots.slots); date = c.self.inside.date; stopped = c.self.inside.stopped }) c.args.self.now
+    let moves = subst (λ (q : Plan). MovesOn p c.self.inside.focus c.args.history.now c.self.inside.date c.args.h c.self.inside.number c.args.mark (held_in q c.self.inside.holding.slots c.self.inside.born.found.items) (held_in q c.move_on.new.holding.slots c.move_on.new.found.items) c.in-Ok.found) c.deref.ensures ((c.in-Ok.ensures {u = tt}).moved) in
+    advanced_from (record { plan = c.self.inside.plan.value; number = c.self.inside.number; focus = c.self.inside.focus; ranks = c.self.inside.hooks.ranks.value.items; held = held_in c.self.inside.plan.value c.self.inside.holding.slots c.self.inside.born.found.items; placed = length (members c.self.inside.holding.slots.slots); date = c.self.inside.date; stopped = c.self.inside.stopped }) c.args.self.now
     (record { plan = c.self.inside.plan.value; number = c.self.inside.number; focus = c.self.inside.focus; ranks = c.self.inside.hooks.ranks.value.items; held = held_in c.self.inside.plan.value c.move_on.new.holding.slots c.move_on.new.found.items; placed = length (members c.move_on.new.holding.slots.slots); date = c.args.h; stopped = c.self.inside.stopped }) c.args.history.now c.deref.result.now c.args.mark c.in-Ok.found c.args.h
     c.self.view_is c.self.invariant.0 c.deref.ensures (record { plan = refl; number = refl; focus = refl; ranks = refl }) refl moves
