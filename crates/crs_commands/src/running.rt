@@ -15,8 +15,10 @@ use crs_outcomes::{Limits, MODELS_LIMIT, MODELS_TOO_LONG, Status, load, refuse};
 use crs_report::Listener;
 use crs_session::Session;
 use std::alloc::Global;
+use std::mem::forget;
 
-/// Reads the models, and then the log, with the levels of events read or not.
+/// Reads the models, and then the log, with the levels of events read or not. The memory that the run
+/// still has at its end is left to the end of the process.
 pub fn recognise<D: Desk>(
     alloc: Global,
     desk: &mut D,
@@ -40,15 +42,21 @@ pub fn recognise<D: Desk>(
         Err(status) => return status,
     };
     match prepare(alloc, text.as_slice(), focus, cite, limits, desk.seed()) {
-        Ok(mut session) => follow(
-            alloc,
-            desk,
-            log,
-            limits.bytes,
-            &mut session,
-            summary,
-            listeners,
-        ),
+        Ok(mut session) => {
+            let status = follow(
+                alloc,
+                desk,
+                log,
+                limits.bytes,
+                &mut session,
+                summary,
+                listeners,
+            );
+            // The process ends behind a run, and gives all memory back at once. Piece by piece, with
+            // 10,000 instances alive, that took a tenth of all instructions.
+            forget(session);
+            status
+        }
         Err(refused) => refuse(alloc, desk, refused),
     }
 }

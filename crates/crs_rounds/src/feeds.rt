@@ -18,9 +18,10 @@ use crs_outcomes::{
     Limits, MODELS_LIMIT, MODELS_TOO_LONG, Status, end_status, load, refuse, write_text,
 };
 use std::alloc::Global;
+use std::mem::forget;
 
 /// Reads the models, and then the logs, of which there are one to eight, with the levels of events
-/// read or not.
+/// read or not. The memory that the run still has at its end is left to the end of the process.
 pub fn recognise_feeds<D: Desk>(
     alloc: Global,
     desk: &mut D,
@@ -44,7 +45,12 @@ pub fn recognise_feeds<D: Desk>(
     };
     let feeds = logs.len() as u8;
     match prepare_merged(alloc, text.as_slice(), focus, limits, desk.seed(), feeds) {
-        Ok(mut session) => follow_all(alloc, desk, logs, limits.bytes, &mut session),
+        Ok(mut session) => {
+            let status = follow_all(alloc, desk, logs, limits.bytes, &mut session);
+            // the process ends behind a run, and gives all memory back at once
+            forget(session);
+            status
+        }
         Err(refused) => refuse(alloc, desk, refused),
     }
 }

@@ -18,6 +18,9 @@ use std::alloc::Global;
 ///
 /// A run tells the listeners of each recognition that it prints, and writes the pages of those that
 /// stay last. First it drops those whose kind the words don't ask for.
+///
+/// What `run` and `feeds` hold at their end they leave to the end of the process: a caller that goes on
+/// keeps that memory.
 pub fn run_program<D: Desk>(
     alloc: Global,
     words: &[String],

@@ -19,11 +19,11 @@ pub returns-in-Ok-prepare-clause-told : goal.returns-in-Ok-prepare-clause-told
 returns-in-Ok-prepare-clause-told g c = λ t.
     let h = c.in-Ok.ensures.told t in
     let p = rw (c.as_slice.ensures.value, h.2) at c.in-Ok-prepare.ensures.ok in
-    let f = rw p.focus_is at (c.follow.ensures.told t p.frame p.represents) in
+    let f = rw p.focus_is at (c.follow-status.ensures.told t p.frame p.represents) in
     let k = ap length h.2 in
     run_followed _ _ _ _ _ (most_of c.args.limits) p.frame (g.D.Desk.told c.args.desk.now)
     (g.D.Desk.told c.load.new.desk)
-    (g.D.Desk.told c.follow.new.desk) c.args.models.now c.args.log.now _ f.0 f.1 f.2 h.0 f.3 c.follow.result h.1 k p.accepted f.4
+    (g.D.Desk.told c.follow-status.new.desk) c.args.models.now c.args.log.now _ f.0 f.1 f.2 h.0 f.3 c.follow-status.result h.1 k p.accepted f.4
 
 pub returns-clause-told : goal.returns-clause-told
 returns-clause-told g c = λ t.

@@ -17,8 +17,8 @@ returns-in-Err-clause-told g c = λ t.
     (ends_weaker (2 ^ 20) (λ text. ⊥) (λ text. ⊥) (IsTooLong (2 ^ 20) (codes "model line 0 size\n") models) (IsModelLine (IsFaulty symbols models)) (λ text p. p)
     (long_is_faulty symbols models) _ _ _ _ _ _ (c.in-Err.ensures.told t))
 
-pub follow_all-requires-clause-ready : goal.follow_all-requires-clause-ready
-follow_all-requires-clause-ready g c =
+pub follow_all-status-requires-clause-ready : goal.follow_all-status-requires-clause-ready
+follow_all-status-requires-clause-ready g c =
     let p = c.in-Ok-prepare_merged.ensures.ok in
     (p.frame, _, p.stands)
 
@@ -26,11 +26,11 @@ pub returns-in-Ok-prepare_merged-clause-told : goal.returns-in-Ok-prepare_merged
 returns-in-Ok-prepare_merged-clause-told g c = λ t.
     let h = c.in-Ok.ensures.told t in
     let p = rw (c.as_slice.ensures.value, h.2) at c.in-Ok-prepare_merged.ensures.ok in
-    let f = c.follow_all.ensures.told t p.frame p.stands in
+    let f = c.follow_all-status.ensures.told t p.frame p.stands in
     let k = ap length h.2 in
     feeds_followed _ _ _ (most_of c.args.limits) p.frame (g.D.Desk.told c.args.desk.now)
     (g.D.Desk.told c.load.new.desk)
-    (g.D.Desk.told c.follow_all.new.desk) c.args.models.now (map (λ n. n.now) c.args.logs.now) _ f.0 f.1 f.2 h.0 f.3 c.follow_all.result h.1 k p.accepted f.4
+    (g.D.Desk.told c.follow_all-status.new.desk) c.args.models.now (map (λ n. n.now) c.args.logs.now) _ f.0 f.1 f.2 h.0 f.3 c.follow_all-status.result h.1 k p.accepted f.4
 
 pub returns-clause-told : goal.returns-clause-told
 returns-clause-told g c = λ t.
