@@ -99,7 +99,7 @@ fn later(a: i64, b: i64) -> i64
 
 /// Whether the attribute has the value at each date from the one on and before the other, where the first
 /// isn't before the history's floor. Nothing is looked up where there is no such date: so it is where a
-/// window begins at the date of the event that it hangs on, and 2 % of the load that holds values.
+/// window begins at the date of the event that it hangs on, and 1 % of the load that holds values.
 #[inline(always)]
 fn has_value_over(
     history: &History,

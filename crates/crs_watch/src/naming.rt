@@ -62,5 +62,5 @@ pub(crate) fn args_of(terms: &[Term], binding: &Binding) -> SymList
     for (i, term) in terms.iter().enumerate() {
         all[i] = value_of(*term, binding);
     }
-    SymList::from_slice(&all[..terms.len()])
+    SymList::first_of(all, terms.len() as u8)
 }

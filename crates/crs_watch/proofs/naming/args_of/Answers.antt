@@ -23,9 +23,9 @@ returns c =
     let ts = c.args.terms.now in
     let all = c.loop-i.all in
     let n = length ts in
-    let eight : length all ≡ 8 = c.loop-i-test.array_long in
+    let eight : length all ≡ 8 = c.loop-i.invariant.0 in
     let few : n ≤ 8 = c.requires.few in
     let long : n ≡ length (take n all) = omega (arith, length-take n all) in
     let past : n ≤ c.loop-i.i = c.loop-i-test.false in
-    subst (λ w. AllZip (TermIs look) (map term_of ts) w) (sym c.from_slice.ensures)
+    subst (λ w. AllZip (TermIs look) (map term_of ts) w) (sym c.first_of.ensures)
     (zip_from (TermIs look) term_of ts (take n all) long (λ k d x l. subst (λ (y : Sym). TermIs look (term_of (get_or ts k d)) y) (sym (get_or-take n all k x l)) (c.loop-i.invariant.1 k d x (omega arith))))

@@ -1,27 +1,33 @@
-use Rattle.std.proofs.Common.{rules, not, eq-eqb, true≢false, ◌≡◌, ◌+◌, ◌*◌, ◌≤◌, ◌∙◌, length, sym, ap, subst, arith}
+use Rattle.std.proofs.Common.{rules, List, ◌<◌, not, eq-eqb, true≢false, ◌≡◌, ◌+◌, ◌*◌, ◌≤◌, ◌∙◌, length, sym, ap, subst, arith}
 use Rattle.std.proofs.Math.Nat.{mul-le-mul_right}
 use Rattle.crs_base.specs.Seen.{entry_of}
 use Rattle.crs_base.specs.declared.entry.Entry.{Entry as CodeEntry}
 use Rattle.crs_base.specs.declared.symbols.Sym.{Sym}
 use Rattle.crs_model.specs.Bindings.{look_of}
 use Rattle.crs_store.specs.declared.waiting.hooks.Hook.{Hook}
-use Rattle.crs_store.specs.Charts.{ChartState}
 use Rattle.crs_store.specs.Forkings.{IsHookAt, AreLinkedAt}
 use Rattle.crs_store.specs.Hooks.{key_of}
 use Rattle.crs_store.specs.Links.{hook_at}
 use Rattle.crs_store.specs.Orders.{IsOvertaken}
 use Rattle.crs_store.specs.Slots.{members}
 use Rattle.crs_store.proofs.Births.{brings_none, brings_gathered_none, brings_gathered_more, brings_gathered_all}
-use Rattle.crs_store.proofs.Gathered.{hook_there, none_named, events_cost}
+use Rattle.crs_store.proofs.Gathered.{hook_there, hooks_long, none_named, events_cost}
 use Rattle.crs_store.proofs.scanning.candidates.forks.Goals as goal
+
+pub hook_of-hook-requires : goal.hook_of-hook-requires
+hook_of-hook-requires g c =
+    let long = hooks_long c.args.arrival.now.plan.now c.args.arrival.now.hooks.now.events.items c.requires.arrival.hooks.of_events in
+    let same = ap length c.as_slice-hooks.ensures.value in
+    let inside : c.loop-event.event < length c.args.arrival.now.plan.now.chronicle.events = search rules in
+    omega arith
 
 pub forks_of_event-requires-clause-hook : goal.forks_of_event-requires-clause-hook
 forks_of_event-requires-clause-hook g c =
-    let is = c.event_hook-hook.ensures ∙ ap (λ (s : ChartState). hook_at s.hooks.events.items c.loop-event.event) c.chart-chart.ensures in
+    let is = c.hook_of-hook.ensures ∙ ap (λ (hs : List Hook). hook_at hs c.loop-event.event) c.as_slice-hooks.ensures.value in
     subst (IsHookAt c.args.arrival.now.plan.now c.loop-event.event) (sym is) (hook_there c.args.arrival.now.plan.now c.args.arrival.now.hooks.now.events.items c.loop-event.event c.requires.arrival.hooks.of_events)
 
 pub forks_of_event-requires-clause-same : goal.forks_of_event-requires-clause-same
-forks_of_event-requires-clause-same g c = c.event_hook-hook.ensures ∙ ap (λ (s : ChartState). hook_at s.hooks.events.items c.loop-event.event) c.chart-chart.ensures
+forks_of_event-requires-clause-same g c = c.hook_of-hook.ensures ∙ ap (λ (hs : List Hook). hook_at hs c.loop-event.event) c.as_slice-hooks.ensures.value
 
 pub returns-in_err-forks_of_event-clause-standing : goal.returns-in_err-forks_of_event-clause-standing
 returns-in_err-forks_of_event-clause-standing g c = λ k p i s w. c.forks_of_event.ensures.standing k p i s (c.loop-event.invariant.standing k p i s w)
@@ -46,9 +52,9 @@ pub loop-event-preserved-then-ne : goal.loop-event-preserved-then-ne
 loop-event-preserved-then-ne g c =
     let x = entry_of c.args.arrival.now.entry.now.value in
     let other : (hook_at c.args.arrival.now.hooks.now.events.items c.loop-event.event).name ≡ x.name → ⊥ = (λ same.
-    let is : c.event_hook-hook.result.now.name ≡ (hook_at c.args.arrival.now.hooks.now.events.items c.loop-event.event).name = ap (λ (h : Hook). h.name) (c.event_hook-hook.ensures ∙ ap (λ (s : ChartState). hook_at s.hooks.events.items c.loop-event.event) c.chart-chart.ensures) in
-    let number : c.event_hook-hook.result.now.name.0 ≡ c.deref.result.now.name.0 = ap (λ (s : Sym). s.0) (is ∙ same ∙ sym (ap (λ (y : CodeEntry). y.name) c.deref.ensures)) in
-    true≢false (sym c.if-ne.true ∙ c.ne.ensures ∙ ap not (eq-eqb c.event_hook-hook.result.now.name.0 c.deref.result.now.name.0 number))) in
+    let is : c.hook_of-hook.result.now.name ≡ (hook_at c.args.arrival.now.hooks.now.events.items c.loop-event.event).name = ap (λ (h : Hook). h.name) (c.hook_of-hook.ensures ∙ ap (λ (hs : List Hook). hook_at hs c.loop-event.event) c.as_slice-hooks.ensures.value) in
+    let number : c.hook_of-hook.result.now.name.0 ≡ c.deref.result.now.name.0 = ap (λ (s : Sym). s.0) (is ∙ same ∙ sym (ap (λ (y : CodeEntry). y.name) c.deref.ensures)) in
+    true≢false (sym c.if-ne.true ∙ c.ne.ensures ∙ ap not (eq-eqb c.hook_of-hook.result.now.name.0 c.deref.result.now.name.0 number))) in
     record {
       gathered = brings_gathered_more c.args.arrival.now.plan.now c.args.arrival.now.focus c.args.arrival.now.finds (IsOvertaken c.args.arrival.now.plan.now c.args.arrival.now.focus c.args.arrival.now.hooks.now.events.items c.args.arrival.now.skips (entry_of c.args.arrival.now.entry.now.value)) c.args.arrival.now.history.now x c.args.arrival.now.since c.args.arrival.now.until c.args.slots.now c.loop-event.event c.loop-event.out.instances.items c.loop-event.out.instances.items c.args.out.now.found.items c.loop-event.out.found.items c.loop-event.out.found.items
           (brings_none c.args.arrival.now.plan.now c.args.arrival.now.focus c.args.arrival.now.finds c.args.arrival.now.until _ c.loop-event.out.instances.items c.loop-event.out.found.items
@@ -67,7 +73,7 @@ pub forks_of_event-requires-clause-linked : goal.forks_of_event-requires-clause-
 forks_of_event-requires-clause-linked g c =
     let e = c.loop-event.event in
     let hooks = c.args.arrival.now.hooks.now.events.items in
-    let is = c.event_hook-hook.ensures ∙ ap (λ (s : ChartState). hook_at s.hooks.events.items e) c.chart-chart.ensures in
+    let is = c.hook_of-hook.ensures ∙ ap (λ (hs : List Hook). hook_at hs e) c.as_slice-hooks.ensures.value in
     subst (λ (h : Hook). AreLinkedAt c.args.arrival.now.plan.now c.args.arrival.now.focus h c.args.slots.now c.loop-event.waiting e c.args.arrival.now.entry.now.value.date) (sym is)
     (λ p i at_p next can. c.loop-event.invariant.standing (key_of e (hook_at hooks e) (look_of i.binding)) p i at_p (c.requires.linked p i at_p e next can))
 
