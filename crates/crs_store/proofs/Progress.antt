@@ -24,7 +24,7 @@ use Rattle.crs_model.specs.declared.chronicle.Window.{Window as CodeWindow}
 use Rattle.crs_model.specs.declared.progress.Verdict.{Verdict}
 use Rattle.crs_model.specs.declared.progress.Verdict.TheVariants.{Met, Lost, Waiting}
 use Rattle.crs_base.specs.Sifted.{Sifts}
-use Rattle.crs_watch.specs.Judged.{IsToldBy}
+use Rattle.crs_watch.specs.Judged.{HangsOnNoDate, IsToldBy}
 use Rattle.crs_model.proofs.Holding.{windows_hold}
 use Rattle.crs_model.proofs.Options.{of_some, some_if}
 use Rattle.crs_model.proofs.Opened.{in_place, same_stretch}
@@ -32,7 +32,7 @@ use Rattle.crs_model.proofs.Progressing.{progress_up}
 use Rattle.crs_instance.specs.Instances.{InstanceState, IsOf, progress_at}
 use Rattle.crs_instance.specs.Followed.{IsStretchAt}
 use Rattle.crs_store.specs.Windows.{HasAt, Settles, Passes, Begins, IsSameInstance, IsFollowed, IsPassed, IsBegun}
-use Rattle.crs_store.specs.JudgedWindows.{AreStepped, IsJudged}
+use Rattle.crs_store.specs.JudgedWindows.{AreStepped, IsJudged, IsNotLostAt}
 
 count_most : {A : Type 0} (P : A → Type 0) (xs : List A) (n : ℕ) → Count P xs n → n ≤ length xs
 count_most P [] n h = omega (arith, h)
@@ -266,3 +266,18 @@ judged_by plan h i k w is s o e st p sp v told =
         λ none f. of_some (slice_get (chronicle plan).windows k) w _ is none s.from s.to at.0 at.1 (told_of.lost.0 f),
       );
     }
+
+-- a window that is safe as its progress tells isn't lost
+pub not_lost_safely : (plan : Plan) (h : ℕ) (i : InstanceState) (k : ℕ) (w : Window Sym) → slice_get (chronicle plan).windows k ≡ Some w → (p : Progress) → p ≡ progress_at i.progress k → ((to g : ℤ) → IsLostBy w.body to g p.count p.broken → ⊥) → IsNotLostAt plan h i k
+not_lost_safely plan h i k w is p same safe =
+    subst (λ (o : Option (Window Sym)). IfSome o (λ v. (from to : ℤ) → IsStretch i.partial v from to → BodyIsBound (look_of i.binding) v.body → IsLostBy v.body to (pos h) (progress_at i.progress k).count (progress_at i.progress k).broken → ⊥)) (sym is)
+    (λ from to stretch bound lost. safe to (pos h) (subst (λ (q : Progress). IsLostBy w.body to (pos h) q.count q.broken) (sym same) lost))
+
+-- dates pass, and nothing of what is known of the window hangs on them
+pub passed_dateless : (plan : Plan) (k : ℕ) (w : Window Sym) → slice_get (chronicle plan).windows k ≡ Some w → HangsOnNoDate w.body → (i : InstanceState) (q : Progress) → q ≡ progress_at i.progress k → (history : HistoryState) (since h : ℕ) → Passes plan history since h i.partial i.binding k (progress_at i.progress k) q
+passed_dateless plan k w is dateless i q same history since h = (
+  λ entries up kept low has. subst (λ (o : Option (Window Sym)). IfSome o (λ v. (from to : ℤ) → IsStretch i.partial v from to → BodyIsBound (look_of i.binding) v.body → IsProgress entries (look_of i.binding) v.body from to (pos h) q.count q.broken)) (sym is)
+      (λ from to stretch bound. subst (λ (r : Progress). IsProgress entries (look_of i.binding) w.body from to (pos h) r.count r.broken) (sym same)
+      (dateless entries (look_of i.binding) from to (pos since) (pos h) (progress_at i.progress k).count (progress_at i.progress k).broken (of_some (slice_get (chronicle plan).windows k) w _ is has from to stretch bound))),
+  same_count (progress_at i.progress k) q same,
+)

@@ -1,11 +1,11 @@
-ghost use Rattle.std.specs.Prelude.{◌≡◌, ℕ, ◌≤◌, ◌<◌, pos, IfSome, IsSomeAnd, true, false, List as Items};
+ghost use Rattle.std.specs.Prelude.{◌≡◌, ℕ, ℤ, ◌≤◌, ◌<◌, pos, IfSome, IsSomeAnd, true, false, List as Items};
 ghost use Rattle.crs_base.specs.declared.symbols.Sym.{Sym};
 ghost use Rattle.crs_base.specs.Entry.{Entry as LogEntry};
 ghost use Rattle.crs_model.specs.Matching.{Binding};
 ghost use Rattle.crs_model.specs.Partial.{Partial};
 ghost use Rattle.crs_model.specs.SeenModels.{body_of, window_of};
 ghost use Rattle.crs_model.specs.Verdicts.{IsStretch, BodyIsBound};
-ghost use Rattle.crs_model.specs.HasProgress.{IsProgress, IsInRange, IsAbove};
+ghost use Rattle.crs_model.specs.HasProgress.{IsProgress, IsInRange, IsAbove, IsLostBy};
 ghost use Rattle.crs_watch.specs.Judged.{IsToldBy, IsVerdict};
 
 use crs_model::{Body, Progress, Stretch, Verdict, Window};
@@ -68,6 +68,18 @@ fn told_by(body: &Body, to: i64, p: Progress, h: i64) -> Verdict
     } else {
         Verdict::Lost
     }
+}
+
+/// Whether no date makes the window lost with the progress that it has: it isn't broken, and the count
+/// is one that the window wants. So its dates need not be looked up.
+#[inline(always)]
+pub fn is_safe(window: &Window, p: Progress) -> bool
+    ensures { result ≡ true → (to h : ℤ) → IsLostBy (body_of window.now.body) to h p.count p.broken → ⊥ }
+{
+    if p.broken {
+        return false;
+    }
+    is_in_range(&window.body, p.count)
 }
 
 /// The verdict of a window at h, by its progress then.

@@ -10,9 +10,9 @@ mod touched;
 mod watch;
 
 pub use beginning::begin;
-pub use judging::judge;
+pub use judging::{is_safe, judge};
 pub use naming::known_of;
-pub use passing::pass;
+pub use passing::{hangs_on_dates, pass};
 pub use settling::settle;
 pub use touched::Touched;
 pub use watch::Watch;

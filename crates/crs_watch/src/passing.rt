@@ -8,6 +8,7 @@ ghost use Rattle.crs_model.specs.SeenModels.{term_of, body_of};
 ghost use Rattle.crs_model.specs.Verdicts.{BodyIsBound};
 ghost use Rattle.crs_model.specs.HasProgress.{IsProgress, StartsWell, StartsIll};
 ghost use Rattle.crs_model.specs.Ready.{HoldsOne};
+ghost use Rattle.crs_watch.specs.Judged.{HangsOnNoDate};
 
 use crate::naming::{args_of, value_of};
 use crs_base::{List, Sym};
@@ -40,6 +41,18 @@ fn starts_well(
     let args = args_of(terms.as_slice(), binding);
     let wanted = value_of(value, binding);
     history.value_over(name, &args, wanted, from, next_date(from))
+}
+
+/// Whether dates that pass may change the progress of the window: that of a `hold` alone hangs on them.
+#[inline(always)]
+pub fn hangs_on_dates(window: &Window) -> bool
+    ensures { result ≡ false → HangsOnNoDate (body_of window.now.body) }
+{
+    match &window.body {
+        Body::NoEvent(_) => false,
+        Body::Occurs { .. } => false,
+        Body::Hold { .. } => true,
+    }
 }
 
 /// The progress at h of a window with this progress at an earlier date.

@@ -4,14 +4,14 @@ ghost use Rattle.crs_model.specs.Plans.{chronicle};
 ghost use Rattle.crs_instance.specs.Instances.{IsOf, progress_at};
 ghost use Rattle.crs_store.specs.Windows.{Settles, Passes, Begins, IsBegun};
 ghost use Rattle.crs_store.specs.Judgings.{IsJudging, IsPassing, IsAbleBy, IsDoneBy, IsPassedBy, IsFollowedBy};
-ghost use Rattle.crs_store.specs.JudgedWindows.{AreStepped, IsJudged, IsLostNowhere, IsMetTo};
+ghost use Rattle.crs_store.specs.JudgedWindows.{AreStepped, IsJudged, IsLostNowhere, IsMetTo, IsNotLostAt};
 
 use crate::living::judging::{Judging, Passing};
 use crate::living::levels::can_go_on;
 use crs_base::Entry;
 use crs_instance::Instance;
 use crs_model::{Progress, Verdict};
-use crs_watch::{begin, judge, pass, settle};
+use crs_watch::{begin, hangs_on_dates, is_safe, judge, pass, settle};
 
 /// The progress of a window once the entry is settled too.
 fn settled(judging: &Judging<'_>, instance: &Instance, k: u8, entry: &Entry) -> Progress
@@ -40,10 +40,15 @@ fn passed(passing: &Passing<'_>, instance: &Instance, k: u8) -> Progress
     requires window { k < length passing.now.judging.plan.now.chronicle.windows }
     ensures { Passes passing.now.judging.plan.now passing.now.history.now passing.now.since passing.now.judging.h instance.now.partial instance.now.binding k (progress_at instance.now.progress k) result }
 {
+    let window = &passing.judging.plan.chronicle.windows.as_slice()[k as usize];
+    // Looked at first: what is known of most windows hangs on no date, and where each event has sixteen
+    // of them their dates took a twentieth of all instructions.
+    if !hangs_on_dates(window) {
+        return instance.progress(k);
+    }
     let Some(stretch) = instance.stretch(passing.judging.plan, k) else {
         return instance.progress(k);
     };
-    let window = &passing.judging.plan.chronicle.windows.as_slice()[k as usize];
     pass(
         window,
         instance.binding(),
@@ -152,13 +157,27 @@ fn verdict(judging: &Judging<'_>, instance: &Instance, k: u8) -> Verdict
     judge(window, stretch, instance.progress(k), judging.h as i64)
 }
 
+/// Whether the window is lost. Its dates are looked up only where its progress leaves that open.
+#[inline(always)]
+fn is_lost(judging: &Judging<'_>, instance: &Instance, k: u8) -> bool
+    requires judging { IsJudging judging.now }
+    requires window { k < length judging.now.plan.now.chronicle.windows }
+    ensures { result ≡ false ↔ IsNotLostAt judging.now.plan.now judging.now.h instance.now k }
+{
+    let window = &judging.plan.chronicle.windows.as_slice()[k as usize];
+    if is_safe(window, instance.progress(k)) {
+        return false;
+    }
+    verdict(judging, instance, k) == Verdict::Lost
+}
+
 /// Whether some window is lost.
 fn has_lost(judging: &Judging<'_>, instance: &Instance) -> bool
     requires judging { IsJudging judging.now }
     ensures { result ≡ false ↔ IsLostNowhere judging.now.plan.now judging.now.h instance.now (length judging.now.plan.now.chronicle.windows) }
 {
     for k in 0..judging.plan.chronicle.windows.len() as u8 {
-        if verdict(judging, instance, k) == Verdict::Lost {
+        if is_lost(judging, instance, k) {
             return true;
         }
     }

@@ -5,11 +5,17 @@ use mir.Syntax.{w64}
 use Rattle.crs_model.specs.Plans.{chronicle}
 use Rattle.crs_model.specs.SeenModels.{window_of}
 use Rattle.crs_instance.proofs.Stretches.{window_as}
-use Rattle.crs_store.proofs.Progress.{holds_one, bound_of, passed_by, same_count, unbegun}
+use Rattle.crs_store.proofs.Progress.{holds_one, bound_of, passed_by, passed_dateless, same_count, unbegun}
 use Rattle.crs_store.proofs.living.windows.passed.Goals as goal
 
+pub returns-then-not-hangs_on_dates : goal.returns-then-not-hangs_on_dates
+returns-then-not-hangs_on_dates c =
+    let d = c.index-as_slice-k.result in
+    let is : slice_get (chronicle c.args.passing.now.judging.plan.now).windows c.args.k ≡ Some (window_of d) = window_as c.as_slice.result.now c.args.passing.now.judging.plan.now.chronicle.windows c.args.k d c.as_slice.ensures c.requires.window c.index-as_slice-k.is in
+    passed_dateless c.args.passing.now.judging.plan.now c.args.k (window_of d) is (c.hangs_on_dates.ensures c.if-not-hangs_on_dates.true) c.args.instance.now c.progress.result c.progress.ensures c.args.passing.now.history.now c.args.passing.now.since c.args.passing.now.judging.h
+
 pub returns-in_default : goal.returns-in_default
-returns-in_default c = (λ entries up kept low has. unbegun c.args.passing.now.judging.plan.now c.args.k c.args.instance.now c.stretch.result (search rules) c.stretch.ensures _ c.args.passing.now.judging.h c.progress.result, same_count _ c.progress.result c.progress.ensures)
+returns-in_default c = (λ entries up kept low has. unbegun c.args.passing.now.judging.plan.now c.args.k c.args.instance.now c.stretch.result (search rules) c.stretch.ensures _ c.args.passing.now.judging.h c.progress-in_default.result, same_count _ c.progress-in_default.result c.progress-in_default.ensures)
 
 pub pass-requires-clause-bound : goal.pass-requires-clause-bound
 pass-requires-clause-bound c =
