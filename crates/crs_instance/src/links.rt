@@ -122,7 +122,7 @@ fn entry_with<'a>(
     }
 }
 
-/// The same, where the event is bound to this entry too.
+/// The entries of all events, in event order, where the event is bound to this entry too.
 pub(crate) fn listed_with(
     alloc: Global,
     links: &Links,
