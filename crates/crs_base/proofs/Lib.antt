@@ -14,3 +14,4 @@ pub mod Feeds
 pub mod TokenSteps
 pub mod Deciding
 pub mod Tags
+pub mod Unique

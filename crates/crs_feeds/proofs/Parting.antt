@@ -13,7 +13,7 @@ use Rattle.crs_model.specs.Order.{arrived, put_in_order, put_all, in_key_order, 
 use Rattle.crs_model.proofs.Parted.{before_more, settled_is}
 use Rattle.crs_model.proofs.Ties.{ordered, ordered_members}
 use Rattle.crs_model.proofs.TwinPools.{arrived_is}
-use Rattle.crs_model.proofs.Unique.{same_members}
+use Rattle.crs_base.proofs.Unique.{same_members}
 use Rattle.crs_engine.specs.Engines.{since}
 
 module _ {S : Type 0} where

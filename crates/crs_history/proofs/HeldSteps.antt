@@ -14,28 +14,23 @@ use Rattle.crs_base.specs.Seen.{entry_of}
 use Rattle.crs_history.specs.Histories.{Shared, entries_of, attribute_of, IsAfterAll}
 use Rattle.crs_history.specs.Dropping.{Drops}
 use Rattle.crs_history.specs.Keyed.{KeyedState, AreKeyed}
-use Rattle.crs_history.specs.Tracks.{TracksState, track_of, TakesFirst, BeginsSince}
+use Rattle.crs_history.specs.Tracks.{TracksState, track_of, AreOwned, TakesFirst, BeginsSince}
 use Rattle.crs_history.specs.Holdings.{IsChanging, AreLatest, AreBefore, AreHoldings, IsPast, Extends}
-use Rattle.crs_history.proofs.Order.{in_order_push}
-use Rattle.crs_history.proofs.Ageing.{not_below_itself}
+use Rattle.crs_history.proofs.Order.{in_order_push, not_below_itself}
 use Rattle.crs_history.proofs.Telling.{change_told}
 use Rattle.crs_history.proofs.Left.{sifts_all, sifts_both, sifts_without, sifts_less, drops_none, drops_one, drops_append, drops_weaker, ordered_without, ordered_across}
 
-module _ (older later rest : List (Entry Sym)) (x : Entry Sym) (keyed more : KeyedState) (tracks : TracksState)
-    (held : AreHoldings older later (x ∷ rest) keyed tracks) (date : ℕ) (early : x.date < date) where
+module _ (older rest : List (Entry Sym)) (x : Entry Sym) (keyed more : KeyedState) (tracks : TracksState)
+    (held : AreHoldings older (x ∷ rest) keyed tracks) (date : ℕ) (early : x.date < date) where
   -- the first of the ring isn't a change
   module _ (put : AreKeyed (x ∷ rest) keyed → AreKeyed rest more) (plain : IsChanging x → ⊥) where
-    plain_changing : Sifts IsChanging (x ∷ rest) later → Sifts IsChanging rest later
-    plain_changing (inl h) = absurd (plain h.0)
-    plain_changing (inr h) = h.1
-
-    pub plain_held : AreHoldings older later rest more tracks
+    pub plain_held : AreHoldings older rest more tracks
     plain_held = record {
       in_order = ordered_without (λ d e. entry_cmp d e ≡ Less) older x rest held.in_order;
       latest = held.latest;
-      changing = plain_changing held.changing;
       found = put held.found;
       tracked = λ a. sifts_without (IsChange a) older x rest (track_of tracks a) (λ c. plain c.change) (held.tracked a);
+      owned = held.owned;
     }
 
     pub plain_past : Drops (IsPast (older ++ x ∷ rest) date) (older ++ x ∷ rest) (older ++ rest)
@@ -83,25 +78,13 @@ module _ (older later rest : List (Entry Sym)) (x : Entry Sym) (keyed more : Key
     all_same : (older ++ x ∷ []) ++ rest ≡ older ++ x ∷ rest
     all_same = append_assoc older (x ∷ []) rest
 
-    pub aged_later : (later2 : List (Entry Sym)) → later ≡ x ∷ later2 → Sifts IsChanging (x ∷ rest) later → Sifts IsChanging rest later2
-    aged_later later2 e (inl h) = subst (Sifts IsChanging rest) (tail_is later2 h.1 (sym e ∙ h.2)) h.3
-      where
-        tail_is : (us vs : List (Entry Sym)) → x ∷ us ≡ x ∷ vs → vs ≡ us
-        tail_is us vs e = cc
-    aged_later later2 e (inr h) = absurd (h.0 changing)
-
-    -- the first of the others is x
-    pub later_first : Sifts IsChanging (x ∷ rest) later → (later2 : List (Entry Sym)) × (later ≡ x ∷ later2)
-    later_first (inl h) = (h.1, h.2)
-    later_first (inr h) = absurd (h.0 changing)
-
-    pub aged_held : (later2 : List (Entry Sym)) → later ≡ x ∷ later2 → (AreKeyed (x ∷ rest) keyed → AreKeyed rest more) → AreHoldings (older ++ x ∷ []) later2 rest more tracks
-    aged_held later2 e put = record {
+    pub aged_held : (AreKeyed (x ∷ rest) keyed → AreKeyed rest more) → AreHoldings (older ++ x ∷ []) rest more tracks
+    aged_held put = record {
       in_order = subst IsInKeyOrder (sym all_same) held.in_order;
       latest = aged_latest;
-      changing = aged_later later2 e held.changing;
       found = put held.found;
       tracked = λ a. subst (λ (w : List (Entry Sym)). Sifts (IsChange a) w (track_of tracks a)) (sym all_same) (held.tracked a);
+      owned = held.owned;
     }
 
     pub aged_before : AreBefore date older → AreBefore date (older ++ x ∷ [])
@@ -165,13 +148,13 @@ module _ (older later rest : List (Entry Sym)) (x : Entry Sym) (keyed more : Key
           subst (Sifts Other (track_of tracks b)) (sym (takes.taken.others b (λ e. f (subst (λ (w : Attribute Sym). IsChange w y) (sym e) y_found.1))))
           (sifts_all Other (track_of tracks b) (λ d i e. f (subst (IsChange b) e ((sifted_in (IsChange b) (older ++ x ∷ rest) (track_of tracks b) d (held.tracked b) i).1))))
 
-      pub left_held : AreHoldings left later (x ∷ rest) keyed new
-      left_held = record {
+      pub left_held : AreOwned new → AreHoldings left (x ∷ rest) keyed new
+      left_held owned = record {
         in_order = sifts_ordered Other (λ d e. entry_cmp d e ≡ Less) (older ++ x ∷ rest) (left ++ x ∷ rest) all_others held.in_order;
         latest = left_latest;
-        changing = held.changing;
         found = held.found;
         tracked = λ b. sifts_both (IsChange b) Other (older ++ x ∷ rest) (track_of tracks b) (left ++ x ∷ rest) (track_of new b) (held.tracked b) all_others (track_left b (change_told b y));
+        owned = owned;
       }
 
       pub left_before : AreBefore date older → AreBefore date left
@@ -191,33 +174,20 @@ module _ (older later rest : List (Entry Sym)) (x : Entry Sym) (keyed more : Key
       left_shrinks = let l = sifts_less Other older left y others y_older (λ f. f refl) in omega arith
 
 -- an entry is added behind all others
-module _ (older later ring later2 : List (Entry Sym)) (e : Entry Sym) (keyed more : KeyedState) (tracks new : TracksState) (held : AreHoldings older later ring keyed tracks) where
-  pub all_after : IsAfterAll (older ++ ring) e → IsAfterAll (older ++ later) e
-  all_after h = each_after (older ++ later) (λ d i. in_from_each (λ d. entry_cmp d e ≡ Less) (older ++ ring) h d (in_all d i))
-    where
-      each_after : (xs : List (Entry Sym)) → ((d : Entry Sym) → IsIn d xs → entry_cmp d e ≡ Less) → IsAfterAll xs e
-      each_after [] f = tt
-      each_after (d ∷ xs) f = (f d (inl refl), each_after xs (λ z i. f z (inr i)))
-
-      in_all : (d : Entry Sym) → IsIn d (older ++ later) → IsIn d (older ++ ring)
-      in_all d i = elim (in_append older later d i) [
-        | inl j ↦ in_append_left older ring d j
-        | inr k ↦ in_append_right older ring d ((sifted_in IsChanging ring later d held.changing k).0)
-      ]
-
+module _ (older ring : List (Entry Sym)) (e : Entry Sym) (keyed more : KeyedState) (tracks new : TracksState) (held : AreHoldings older ring keyed tracks) where
   extended : (P : Entry Sym → Type 0) (xs ys zs : List (Entry Sym)) → Sifts P xs ys → Extends P e ys zs → Sifts P (xs ++ e ∷ []) zs
   extended P xs ys zs s h = subst (Sifts P (xs ++ e ∷ [])) (sym h.1) (sifts_append P xs ys (e ∷ []) h.0 s h.2)
 
-  pub pushed_held : IsAfterAll (older ++ ring) e → Extends IsChanging e later later2 → (AreKeyed ring keyed → AreKeyed (ring ++ e ∷ []) more)
-      → ((a : Attribute Sym) → Extends (IsChange a) e (track_of tracks a) (track_of new a)) → AreHoldings older later2 (ring ++ e ∷ []) more new
-  pushed_held after later_more put tracks_more =
+  pub pushed_held : IsAfterAll (older ++ ring) e → (AreKeyed ring keyed → AreKeyed (ring ++ e ∷ []) more)
+      → ((a : Attribute Sym) → Extends (IsChange a) e (track_of tracks a) (track_of new a)) → AreOwned new → AreHoldings older (ring ++ e ∷ []) more new
+  pushed_held after put tracks_more owned =
       let all : older ++ (ring ++ e ∷ []) ≡ (older ++ ring) ++ e ∷ [] = sym (append_assoc older ring (e ∷ [])) in
       record {
         in_order = subst IsInKeyOrder (sym all) (in_order_push (older ++ ring) e held.in_order after);
         latest = held.latest;
-        changing = extended IsChanging ring later later2 held.changing later_more;
         found = put held.found;
         tracked = λ a. subst (λ (w : List (Entry Sym)). Sifts (IsChange a) w (track_of new a)) (sym all) (extended (IsChange a) (older ++ ring) (track_of tracks a) (track_of new a) (held.tracked a) (tracks_more a));
+        owned = owned;
       }
 
 -- the ring's first

@@ -133,3 +133,9 @@ module _ (places : List (Option ℕ)) (ring : List (Entry Sym)) (e : Entry Sym) 
       | inr ne ↦ subst (Sifts (Of n) ring) (sym (put.1 n ne))
           (subst (λ (w : List (Entry Sym)). Sifts (Of n) w (lane_of old n)) (append-nil ring) (sifts_without (Of n) ring e [] (lane_of old n) (other k n is ne) (h n)))
     ]
+
+-- where none counts, the number stays
+pub none_counts : (n : ℕ) (known : List (Option Sym)) → digest_of 0 n known ≡ Some n
+none_counts n [] = refl
+none_counts n (None ∷ known) = none_counts n known
+none_counts n (Some s ∷ known) = none_counts n known

@@ -13,7 +13,7 @@ pub mod Over
 pub mod Left
 pub mod Keying
 pub mod Finding
-pub mod Ageing
+pub mod Older
 pub mod Trying
 pub mod RowEdits
 pub mod TrackEdits

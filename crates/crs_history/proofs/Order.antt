@@ -1,6 +1,6 @@
 -- An entry behind others in key order.
 use Rattle.std.proofs.Common.{◌≡◌, ℕ, ◌≤◌, ◌<◌, ◌+◌, ◌==◌, cond, List, [], ◌∷◌, ◌++◌, sym, ap, subst, ◌∙◌, inl, inr, arith, Less, Equal, Greater}
-use Rattle.std.specs.Ordering.{nat_cmp, ordering_then}
+use Rattle.std.specs.Ordering.{nat_cmp, ordering_then, ordering_reverse}
 use Rattle.std.specs.Cmp.Lexicographic.{slice_cmp}
 use Rattle.std.proofs.lemmas.Cmp.{tied_itself, nat_cmp_total}
 use Rattle.std.proofs.lemmas.Bool.{lt-ltb, cases_eq, cases_lt}
@@ -9,8 +9,16 @@ use Rattle.std.specs.List.{AllByRecursion}
 use Rattle.crs_base.specs.declared.symbols.Sym.{Sym}
 use Rattle.crs_base.specs.Entry.{Entry, entry_cmp, IsInKeyOrder}
 use Rattle.crs_base.proofs.Words.{in_from_each, ordered_append}
-use Rattle.crs_base.proofs.KeyOrder.{less_by_date}
+use Rattle.crs_base.proofs.KeyOrder.{entry_total, less_by_date}
 use Rattle.crs_history.specs.Histories.{IsAfterAll}
+
+-- no entry's key is below itself
+pub not_below_itself : (x : Entry Sym) → entry_cmp x x ≡ Less → ⊥
+not_below_itself x h = let e = tied_itself entry_total x in absurd (cc)
+
+-- what is behind isn't before
+pub turned : (x y : Entry Sym) → entry_cmp x y ≡ Less → entry_cmp y x ≡ Greater
+turned x y h = entry_total.antisymm y x ∙ ap ordering_reverse h
 
 pub in_order_push : (xs : List (Entry Sym)) (e : Entry Sym) → IsInKeyOrder xs → IsAfterAll xs e → IsInKeyOrder (xs ++ e ∷ [])
 in_order_push xs e h all = ordered_append (λ d e. entry_cmp d e ≡ Less) xs (e ∷ []) h (tt, tt)

@@ -1,10 +1,14 @@
 -- Lists of changes by attribute, where one is replaced or numbers are added.
-use Rattle.std.proofs.Common.{◌≡◌, ℕ, ◌≤◌, List, [], ◌∷◌, drop, Option, Some, None, refl, sym, ap, ◌∙◌, inl, inr, arith}
+use Rattle.std.proofs.Common.{◌≡◌, ℕ, ◌≤◌, List, [], ◌∷◌, ◌++◌, drop, Option, Some, None, refl, sym, ap, subst, ◌∙◌, inl, inr, arith}
+use Rattle.std.proofs.lemmas.Bool.{cases_eq}
 use Rattle.std.specs.Prelude.{slice_get}
 use Rattle.crs_base.specs.declared.symbols.Sym.{Sym}
 use Rattle.crs_base.specs.Entry.{Entry}
 use Rattle.crs_base.specs.Values.{Attribute}
-use Rattle.crs_history.specs.Lanes.{AreAlike, IsSetTo}
+use Rattle.crs_base.proofs.Words.{in_append}
+use Rattle.crs_base.specs.Words.{IsIn}
+use Rattle.crs_history.specs.Histories.{attribute_of}
+use Rattle.crs_history.specs.Lanes.{lane_of, AreAlike, IsSetTo}
 use Rattle.crs_history.specs.ListNumbers.{Steps, count_of, IsNumbering, Grows}
 use Rattle.crs_history.specs.Tracks.{TracksState, number_of, track_at, AreTracks, AreSame, IsTrackSetTo}
 use Rattle.crs_history.proofs.Numbering.{number_within, number_once, number_kept, number_fresh, some_not, cons_is}
@@ -25,6 +29,7 @@ module _ (old new : Steps) (lanes more : List (List (Entry Sym))) (ok : AreTrack
   pub tracks_more : AreTracks (record { steps = new; lanes = more })
   tracks_more = record {
     numbering = numbering;
+    owned = λ n e i. number_kept old new g (e.name ∷ e.args) 0 n (ok.owned n e (subst (IsIn e) (alike n) i));
     unused = λ n l. alike n ∙ ok.unused n (let m = g.more in omega arith);
   }
 
@@ -44,11 +49,26 @@ module _ (steps : Steps) (lanes more : List (List (Entry Sym))) (ok : AreTracks 
     others = λ b ne. by_number b ne (number_of steps b) refl;
   }
 
-  pub tracks_put : AreTracks (record { steps = steps; lanes = more })
-  tracks_put = record {
+  -- of which each entry is the attribute's
+  pub tracks_put : ((e : Entry Sym) → IsIn e track → attribute_of e ≡ a) → AreTracks (record { steps = steps; lanes = more })
+  tracks_put of = record {
     numbering = ok.numbering;
+    owned = λ n e i. elim (cases_eq n k) [
+      | inl same ↦ ap (number_of steps) (of e (subst (IsIn e) (ap (lane_of more) same ∙ put.0) i)) ∙ (is ∙ ap Some (sym same))
+      | inr ne ↦ ok.owned n e (subst (IsIn e) (put.1 n ne) i)
+    ];
     unused = λ n l. put.1 n (λ same. let w : k ≤ count_of steps = number_within steps ok.numbering (a.name ∷ a.args) 0 k (omega arith) is in absurd (omega arith)) ∙ ok.unused n l;
   }
+
+-- an entry of the track of an attribute may change it
+pub of_own : (t : TracksState) → AreTracks t → (a : Attribute Sym) (k : ℕ) → number_of t.steps a ≡ Some k → (e : Entry Sym) → IsIn e (lane_of t.lanes k) → attribute_of e ≡ a
+of_own t ok a k is e i = same_attribute a (attribute_of e) (number_once t.steps ok.numbering (e.name ∷ e.args) (a.name ∷ a.args) k (ok.owned k e i) is)
+
+pub of_pushed : (t : TracksState) → AreTracks t → (d : Entry Sym) (k : ℕ) → number_of t.steps (attribute_of d) ≡ Some k → (e : Entry Sym) → IsIn e (lane_of t.lanes k ++ d ∷ []) → attribute_of e ≡ attribute_of d
+of_pushed t ok d k is e i = elim (in_append (lane_of t.lanes k) (d ∷ []) e i) [
+  | inl j ↦ of_own t ok (attribute_of d) k is e j
+  | inr j ↦ elim j [ inl q ↦ ap attribute_of q | inr z ↦ absurd z ]
+]
 
 pub set_after : (old mid new : TracksState) (a : Attribute Sym) (track : List (Entry Sym)) → AreSame old mid → IsTrackSetTo mid a track new → IsTrackSetTo old a track new
 set_after old mid new a track same put = record { set = put.set; others = λ b ne. put.others b ne ∙ same b }

@@ -1,5 +1,5 @@
 -- What a history holds: older changes, and behind them the ring, with what finds them.
-use Rattle.std.specs.Prelude.{◌≡◌, ◌⊎◌, ◌≤◌, ◌<◌, ◌+◌, ◌*◌, ℕ, ℤ, pos, ◌≤ℤ◌, ◌<ℤ◌, List, [], ◌∷◌, ◌++◌, length, IsSome}
+use Rattle.std.specs.Prelude.{◌≡◌, ◌⊎◌, ◌≤◌, ◌<◌, ◌+◌, ◌*◌, ◌^◌, ℕ, ℤ, pos, ◌≤ℤ◌, ◌<ℤ◌, List, [], ◌∷◌, ◌++◌, length, IsSome}
 use Rattle.crs_base.specs.declared.symbols.Sym.{Sym}
 use Rattle.crs_base.specs.Words.{IsIn}
 use Rattle.crs_base.specs.Sifted.{Sifts}
@@ -7,7 +7,7 @@ use Rattle.crs_base.specs.Entry.{Entry, IsInKeyOrder}
 use Rattle.crs_base.specs.Values.{Attribute, IsChange}
 use Rattle.crs_history.specs.Histories.{attribute_of}
 use Rattle.crs_history.specs.Keyed.{KeyedState, AreKeyed}
-use Rattle.crs_history.specs.Tracks.{TracksState, track_of}
+use Rattle.crs_history.specs.Tracks.{TracksState, track_of, AreOwned}
 
 pub record HoldingsState : Type 0 where
   pub older : List (Entry Sym)
@@ -30,12 +30,17 @@ abbrev pub AreBefore : ℕ → List (Entry Sym) → Type 0
 AreBefore date es = (e : Entry Sym) → IsIn e es → e.date < date
 
 -- the older ones are the latest of their attributes, the ring's entries stand by number, and each attribute's track has its changes
-pub record AreHoldings (older later ring : List (Entry Sym)) (keyed : KeyedState) (tracks : TracksState) : Type 0 where
+pub record AreHoldings (older ring : List (Entry Sym)) (keyed : KeyedState) (tracks : TracksState) : Type 0 where
   pub in_order : IsInKeyOrder (older ++ ring)
   pub latest : AreLatest older
-  pub changing : Sifts IsChanging ring later
   pub found : AreKeyed ring keyed
   pub tracked : (a : Attribute Sym) → Sifts (IsChange a) (older ++ ring) (track_of tracks a)
+  pub owned : AreOwned tracks
+
+-- so many are the older ones, and a machine can count all that is held
+pub record AreCounted (count : ℕ) (older ring : List (Entry Sym)) : Type 0 where
+  pub older_ones : count ≡ length older
+  pub small : count + length ring < 2 ^ 63
 
 -- e is dated before the date, and isn't a change, or another change of its attribute is dated after it and before the date
 pub record IsPast (es : List (Entry Sym)) (date : ℕ) (e : Entry Sym) : Type 0 where

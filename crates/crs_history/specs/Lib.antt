@@ -5,9 +5,8 @@ pub mod Lanes
 pub mod ListNumbers
 pub mod Rows
 pub mod Tracks
-pub mod KeptOrder
 pub mod Dropping
-pub mod Changed
+pub mod Older
 pub mod Holdings
 pub mod Keyed
 pub mod Runs

@@ -1,8 +1,10 @@
 -- Lists of changes by attribute.
 use Rattle.std.specs.Prelude.{◌≡◌, ◌≤◌, ◌<◌, ℕ, List, [], ◌∷◌, Option, Some, None}
 use Rattle.crs_base.specs.declared.symbols.Sym.{Sym}
+use Rattle.crs_base.specs.Words.{IsIn}
 use Rattle.crs_base.specs.Entry.{Entry}
 use Rattle.crs_base.specs.Values.{Attribute}
+use Rattle.crs_history.specs.Histories.{attribute_of}
 use Rattle.crs_history.specs.Lanes.{lane_of}
 use Rattle.crs_history.specs.ListNumbers.{Steps, IsNumbering, count_of, number_from}
 
@@ -23,9 +25,14 @@ track_at lanes (Some n) = lane_of lanes n
 abbrev pub track_of : TracksState → Attribute Sym → List (Entry Sym)
 track_of t a = track_at t.lanes (number_of t.steps a)
 
--- no number is given twice, and a number that isn't given has no entries
+-- each entry stands in the list of the attribute that it may change
+abbrev pub AreOwned : TracksState → Type 0
+AreOwned t = (n : ℕ) (e : Entry Sym) → IsIn e (lane_of t.lanes n) → number_of t.steps (attribute_of e) ≡ Some n
+
+-- no number is given twice, a number that isn't given has no entries, and each entry has its attribute's
 pub record AreTracks (t : TracksState) : Type 0 where
   pub numbering : IsNumbering t.steps
+  pub owned : AreOwned t
   pub unused : (n : ℕ) → count_of t.steps < n → lane_of t.lanes n ≡ []
 
 -- each attribute has the list that it had

@@ -79,13 +79,13 @@ fn digest_of(places: u8, known: &[Option<Sym>], so_far: usize) -> Option<usize>
     requires { so_far < 1024 }
     ensures { result ≡ digest_of places so_far known.now }
 {
-    let Some((first, rest)) = known.split_first() else {
-        return if places == 0 { Some(so_far) } else { None };
-    };
-    match take_in(places, *first, so_far) {
-        None => None,
-        Some(next) => digest_of(places / 2, rest, next),
+    // of eight symbols mostly one or none counts: to go on to the last took 6 % of a load of many windows
+    if places == 0 {
+        return Some(so_far);
     }
+    let (first, rest) = known.split_first()?;
+    let next = take_in(places, *first, so_far)?;
+    digest_of(places / 2, rest, next)
 }
 
 /// Of which arguments the symbols count.

@@ -1,9 +1,7 @@
 //! The settled entries that are still needed.
 #![tactic(auto)]
 
-mod changed;
 mod found;
-mod held;
 mod history;
 mod holdings;
 mod keyed;

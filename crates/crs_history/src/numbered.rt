@@ -77,14 +77,4 @@ impl Numbered {
         }
         self.tracks[number].pop_first()
     }
-
-    /// Drops the last change of a track.
-    pub fn drop_last(&mut self, number: usize)
-        ensures { IsSetTo self.old number (take (length (lane_of self.old number) - 1) (lane_of self.old number)) self.new }
-    {
-        if self.tracks.len() <= number {
-            return;
-        }
-        self.tracks[number].drop_last();
-    }
 }

@@ -101,11 +101,4 @@ impl Track {
         let first = self.changes.pop_front()?;
         Some(first.entry)
     }
-
-    /// Drops the last change.
-    pub fn drop_last(&mut self)
-        ensures { self.new ≡ take (length self.old - 1) self.old }
-    {
-        let _ = self.changes.pop_back();
-    }
 }

@@ -6,7 +6,7 @@ ghost use Rattle.crs_base.specs.Values.{Attribute};
 ghost use Rattle.crs_history.specs.Histories.{attribute_of};
 ghost use Rattle.crs_history.specs.ListNumbers.{IsNumbering, Grows};
 ghost use Rattle.crs_history.specs.Rows.{has_row, named, told_of, AreRowsOf, TellsOnly};
-ghost use Rattle.crs_history.specs.Tracks.{number_of, track_of, AreSame, IsTrackSetTo, TakesFirst, BeginsSince};
+ghost use Rattle.crs_history.specs.Tracks.{number_of, track_of, AreOwned, AreSame, IsTrackSetTo, TakesFirst, BeginsSince};
 
 use crate::numbered::Numbered;
 use crate::numbers::{Step, add_from, number_from};
@@ -115,7 +115,8 @@ fn number_for(
 impl Tracks {
     /// No tracks, which take no memory.
     pub fn new(alloc: Global) -> Tracks
-        ensures { (a : Attribute Sym) → track_of result a ≡ [] }
+        ensures none { (a : Attribute Sym) → track_of result a ≡ [] }
+        ensures owned { AreOwned result }
     {
         Tracks {
             steps: BTreeMap::new(alloc),
@@ -148,6 +149,7 @@ impl Tracks {
     pub fn push(&mut self, entry: Rc<Entry>) -> Result<(), AllocError>
         ensures ok { OnOk result (IsTrackSetTo self.old (attribute_of (entry_of entry.value)) (track_of self.old (attribute_of (entry_of entry.value)) ++ entry_of entry.value ∷ []) self.new) }
         ensures err { OnErr result (AreSame self.old self.new) }
+        ensures owned { AreOwned self.new }
     {
         let number = number_for(
             &mut self.steps,
@@ -164,6 +166,7 @@ impl Tracks {
         ensures first { IfSome result (λ r. TakesFirst self.old (record { name = name; args = args.now }) (entry_of r.value) self.new) }
         ensures none { result ≡ None → BeginsSince date (track_of self.old (record { name = name; args = args.now })) }
         ensures same { result ≡ None → self.new ≡ self.old }
+        ensures owned { AreOwned self.new }
     {
         let number = self.number_of(name, args)?;
         let first = self.lanes.track(number).first()?;
@@ -171,14 +174,5 @@ impl Tracks {
             return None;
         }
         self.lanes.pop_first(number)
-    }
-
-    /// Drops the last entry of the track of the attribute.
-    pub fn drop_last(&mut self, name: Sym, args: &SymList)
-        ensures { (rest : Items (LogEntry Sym)) (e : LogEntry Sym) → track_of self.old (record { name = name; args = args.now }) ≡ rest ++ e ∷ [] → IsTrackSetTo self.old (record { name = name; args = args.now }) rest self.new }
-    {
-        if let Some(number) = self.number_of(name, args) {
-            self.lanes.drop_last(number);
-        }
     }
 }

@@ -9,7 +9,7 @@ use Rattle.crs_base.proofs.Words.{in_from_each}
 use Rattle.crs_model.specs.Models.{Chronicle}
 use Rattle.crs_model.specs.Order.{Lists, assignment_cmp}
 use Rattle.crs_model.specs.Scopes.{Scope, IsNewIn}
-use Rattle.crs_model.proofs.Unique.{same_members}
+use Rattle.crs_base.proofs.Unique.{same_members}
 use Rattle.crs_log.specs.Reading.{Given, number_of}
 use Rattle.crs_log.specs.Recognitions.{View, scope_in as scope_of_view}
 use Rattle.crs_log.specs.Run as run

@@ -9,7 +9,7 @@ use Rattle.crs_base.proofs.KeyOrder.{entry_total, less_by_date}
 use Rattle.crs_base.proofs.Words.{in_append, in_append_left, in_append_right, in_filter, in_filter_back, in_from_each, ordered_filter, ordered_append}
 use Rattle.crs_model.specs.Order.{dated_before}
 use Rattle.crs_model.proofs.Settled.{of_settled, settled_of, settled_in_order}
-use Rattle.crs_model.proofs.Unique.{same_members}
+use Rattle.crs_base.proofs.Unique.{same_members}
 use Rattle.crs_layers.specs.Strata.{taken, with_given, AreNumberedFrom}
 
 module _ {S : Type 0} where

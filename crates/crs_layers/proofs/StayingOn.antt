@@ -14,7 +14,7 @@ use Rattle.crs_model.proofs.Marks.{parted}
 use Rattle.crs_model.proofs.Settled.{of_settled, settled_of, settled_in_order}
 use Rattle.crs_model.proofs.Stays.{stays}
 use Rattle.crs_model.proofs.Ties.{ordered_members}
-use Rattle.crs_model.proofs.Unique.{same_members}
+use Rattle.crs_base.proofs.Unique.{same_members}
 use Rattle.crs_log.specs.Recognitions.{IsRecognisedIn, Stays}
 use Rattle.crs_log.specs.Reading.{Given}
 use Rattle.crs_log.specs.Run.{Outcome, Passed, Refused, Accepted, Marked}

@@ -17,7 +17,7 @@ use Rattle.crs_model.proofs.Marks.{parted}
 use Rattle.crs_model.proofs.Settled.{of_settled, settled_of, settled_in_order}
 use Rattle.crs_model.proofs.Stays.{stays}
 use Rattle.crs_model.proofs.Ties.{ordered_members}
-use Rattle.crs_model.proofs.Unique.{same_members}
+use Rattle.crs_base.proofs.Unique.{same_members}
 use Rattle.crs_base.specs.Numbers.{number_of}
 use Rattle.crs_base.specs.Lines.{is_passed_over}
 use Rattle.crs_log.proofs.ItemLaw.{item_sound, chained, guarded}

@@ -23,7 +23,6 @@ pub mod RenamedWindows
 pub mod RenamedAssignments
 pub mod RenamedLive
 pub mod Agreed
-pub mod Unique
 pub mod Twins
 pub mod PairedLists
 pub mod TwinLists

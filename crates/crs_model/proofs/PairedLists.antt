@@ -9,7 +9,7 @@ use Rattle.crs_base.proofs.KeyOrder.{entry_total}
 use Rattle.crs_base.proofs.Words.{in_from_each}
 use Rattle.crs_model.specs.Matching.{Assignment}
 use Rattle.crs_model.specs.Order.{Lists, assignment_cmp}
-use Rattle.crs_model.proofs.Unique.{same_members}
+use Rattle.crs_base.proofs.Unique.{same_members}
 use Rattle.crs_model.proofs.Twins.{Twins, flip, zip_turned, one_row, rows_cmp}
 
 module _ {S : Type 0} where

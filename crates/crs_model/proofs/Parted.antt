@@ -7,7 +7,7 @@ use Rattle.crs_base.proofs.Words.{in_filter, in_filter_back, ordered_filter, eac
 use Rattle.crs_base.proofs.KeyOrder.{entry_total}
 use Rattle.crs_model.specs.Order.{dated_before, HaveSameMembers}
 use Rattle.crs_model.specs.Open.{before}
-use Rattle.crs_model.proofs.Unique.{same_members}
+use Rattle.crs_base.proofs.Unique.{same_members}
 use Rattle.crs_model.proofs.Settled.{of_settled, settled_of, settled_in_order}
 
 module _ {S : Type 0} where

@@ -9,7 +9,7 @@ use Rattle.crs_base.specs.Words.{IsIn, Ordered}
 use Rattle.crs_base.specs.Entry.{Key, key_of, key_cmp, Entry, entry_cmp}
 use Rattle.crs_base.proofs.KeyOrder.{entry_total, both_tie}
 use Rattle.crs_base.proofs.Words.{in_from_each, in_filter, in_filter_back, ordered_filter}
-use Rattle.crs_model.proofs.Unique.{same_members}
+use Rattle.crs_base.proofs.Unique.{same_members}
 use Rattle.crs_model.specs.Matching.{AreDistinct}
 use Rattle.crs_model.specs.Open.{before}
 use Rattle.crs_model.specs.Order.{in_key_order, dated_before, arrived}

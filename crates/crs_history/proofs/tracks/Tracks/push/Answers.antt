@@ -7,7 +7,7 @@ use Rattle.crs_history.specs.Histories.{attribute_of}
 use Rattle.crs_history.specs.Lanes.{lane_of, AreAlike, IsSetTo}
 use Rattle.crs_history.specs.Tracks.{TracksState, number_of, track_at, track_of, AreSame, IsTrackSetTo}
 use Rattle.crs_history.proofs.Trying.{on_err, by_result}
-use Rattle.crs_history.proofs.TrackEdits.{tracks_same, tracks_more, track_put, tracks_put, set_after}
+use Rattle.crs_history.proofs.TrackEdits.{tracks_same, tracks_more, track_put, tracks_put, of_pushed, set_after}
 use Rattle.crs_history.proofs.tracks.Tracks.push.Goals as goal
 
 pub returns-in_err-number-clause-err : goal.returns-in_err-number-clause-err
@@ -33,7 +33,7 @@ invariant_of-self-2 c =
     subst (λ (w : List Sym). number_of new (record { name = e.name; args = w }) ≡ Some k) (c.as_slice.ensures ∙ ap (λ w. w.args) c.deref-2.ensures) named in
     let kept = tracks_more old new lanes lanes c.self.invariant.0 c.number_for.ensures.grows c.number_for.ensures.numbering (λ n. refl) in (
       by_result c.push.result c.push.ensures.ok c.push.ensures.err
-          (λ put. tracks_put new lanes c.push.new.self kept a k numbered (lane_of lanes k ++ e ∷ []) put)
+          (λ put. tracks_put new lanes c.push.new.self kept a k numbered (lane_of lanes k ++ e ∷ []) put (of_pushed (record { steps = new; lanes = lanes }) kept e k numbered))
           (λ alike. tracks_more old new lanes c.push.new.self c.self.invariant.0 c.number_for.ensures.grows c.number_for.ensures.numbering alike),
       c.number_for.ensures.rows,
     )
@@ -69,3 +69,14 @@ returns-clause-err c =
     on_err_weaker c.push.result
     (λ (alike : AreAlike lanes c.push.new.self). subst (λ (w : TracksState). AreSame w (record { steps = new; lanes = c.push.new.self })) c.self.view_is
     (tracks_same old new lanes c.push.new.self c.self.invariant.0 c.number_for.ensures.grows c.number_for.ensures.numbering alike)) c.push.ensures.err
+
+pub invariant_of-self : goal.invariant_of-self
+invariant_of-self c =
+    let lanes = c.self.inside.lanes in
+    (tracks_more c.self.inside.steps.entries c.number_for.new.steps.entries lanes lanes c.self.invariant.0 c.number_for.ensures.grows c.number_for.ensures.numbering (λ n. refl), c.number_for.ensures.rows)
+
+pub returns-in_err-number-clause-owned : goal.returns-in_err-number-clause-owned
+returns-in_err-number-clause-owned c = (invariant_of-self c).0.owned
+
+pub returns-clause-owned : goal.returns-clause-owned
+returns-clause-owned c = (invariant_of-self-2 c).0.owned
