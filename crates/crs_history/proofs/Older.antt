@@ -20,7 +20,7 @@ use Rattle.crs_history.specs.Histories.{attribute_of}
 use Rattle.crs_history.specs.Holdings.{AreCounted, AreHoldings}
 use Rattle.crs_history.specs.Keyed.{KeyedState}
 use Rattle.crs_history.specs.Lanes.{lane_of}
-use Rattle.crs_history.specs.Older.{is_ahead, in_key_order, older_of}
+use Rattle.crs_history.specs.Older.{is_ahead, by_key, older_of}
 use Rattle.crs_history.specs.Tracks.{TracksState, number_of, track_at, track_of}
 use Rattle.crs_history.proofs.Left.{sifts_all, drops_none, ordered_across}
 use Rattle.crs_history.proofs.Order.{not_below_itself, turned}
@@ -81,18 +81,18 @@ module _ (e : Entry Sym) where
           back : (x e : Entry Sym) → entry_cmp e x ≡ Greater → entry_cmp x e ≡ Less
           back x e is = entry_total.antisymm x e ∙ ap (λ o. Rattle.std.specs.Ordering.ordering_reverse o) is
 
-sorted : (es : List (Entry Sym)) → IsInKeyOrder (in_key_order es)
+sorted : (es : List (Entry Sym)) → IsInKeyOrder (by_key es)
 sorted [] = tt
-sorted (e ∷ es) = put_ordered e (in_key_order es) (sorted es)
+sorted (e ∷ es) = put_ordered e (by_key es) (sorted es)
 
-of_sorted : (es : List (Entry Sym)) (z : Entry Sym) → IsIn z (in_key_order es) → IsIn z es
+of_sorted : (es : List (Entry Sym)) (z : Entry Sym) → IsIn z (by_key es) → IsIn z es
 of_sorted [] z i = i
-of_sorted (e ∷ es) z i = elim (in_put e z (in_key_order es) i) [ inl q ↦ inl q | inr j ↦ inr (of_sorted es z j) ]
+of_sorted (e ∷ es) z i = elim (in_put e z (by_key es) i) [ inl q ↦ inl q | inr j ↦ inr (of_sorted es z j) ]
 
-to_sorted : (es : List (Entry Sym)) (z : Entry Sym) → IsIn z es → (y : Entry Sym) × IsIn y (in_key_order es) × (entry_cmp z y ≡ Equal)
+to_sorted : (es : List (Entry Sym)) (z : Entry Sym) → IsIn z es → (y : Entry Sym) × IsIn y (by_key es) × (entry_cmp z y ≡ Equal)
 to_sorted [] z i = absurd i
-to_sorted (e ∷ es) z (inl q) = let p = put_there e (in_key_order es) in (p.0, p.1, subst (λ (w : Entry Sym). entry_cmp w p.0 ≡ Equal) (sym q) p.2)
-to_sorted (e ∷ es) z (inr i) = let p = to_sorted es z i in (p.0, put_keeps e p.0 (in_key_order es) p.1, p.2)
+to_sorted (e ∷ es) z (inl q) = let p = put_there e (by_key es) in (p.0, p.1, subst (λ (w : Entry Sym). entry_cmp w p.0 ≡ Equal) (sym q) p.2)
+to_sorted (e ∷ es) z (inr i) = let p = to_sorted es z i in (p.0, put_keeps e p.0 (by_key es) p.1, p.2)
 
 -- two of a list in key order don't have the same key
 one_of_key : (es : List (Entry Sym)) → IsInKeyOrder es → (x y : Entry Sym) → IsIn x es → IsIn y es → entry_cmp x y ≡ Equal → x ≡ y
@@ -105,10 +105,10 @@ one_of_key (d ∷ es) o x y (inr i) (inl q) e =
 one_of_key (d ∷ es) o x y (inr i) (inr j) e = one_of_key es o.1 x y i j e
 
 -- entries in key order are those that they are, however they come
-sorted_is : (xs ys : List (Entry Sym)) → IsInKeyOrder xs → ((z : Entry Sym) → IsIn z xs → IsIn z ys) → ((z : Entry Sym) → IsIn z ys → IsIn z xs) → in_key_order ys ≡ xs
-sorted_is xs ys o there back = same_members entry_total (in_key_order ys) xs (sorted ys) o
+sorted_is : (xs ys : List (Entry Sym)) → IsInKeyOrder xs → ((z : Entry Sym) → IsIn z xs → IsIn z ys) → ((z : Entry Sym) → IsIn z ys → IsIn z xs) → by_key ys ≡ xs
+sorted_is xs ys o there back = same_members entry_total (by_key ys) xs (sorted ys) o
     (λ z i. back z (of_sorted ys z i))
-    (λ z i. let p = to_sorted ys z (there z i) in subst (λ (w : Entry Sym). IsIn w (in_key_order ys)) (sym (one_of_key xs o z p.0 i (back p.0 (of_sorted ys p.0 p.1)) p.2)) p.1)
+    (λ z i. let p = to_sorted ys z (there z i) in subst (λ (w : Entry Sym). IsIn w (by_key ys)) (sym (one_of_key xs o z p.0 i (back p.0 (of_sorted ys p.0 p.1)) p.2)) p.1)
 
 in_lanes : (lanes : List (List (Entry Sym))) (o : Option ℕ) (z : Entry Sym) → IsIn z (track_at lanes o) → IsIn z (flat_map (λ t. t) lanes)
 in_lanes lanes None z i = absurd i

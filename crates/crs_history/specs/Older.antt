@@ -11,11 +11,11 @@ abbrev pub is_ahead : List (Entry Sym) → Entry Sym → Bool
 is_ahead [] e = true
 is_ahead (x ∷ ring) e = is_lt (entry_cmp e x)
 
--- the entries in key order
-abbrev pub in_key_order : List (Entry Sym) → List (Entry Sym)
-in_key_order [] = []
-in_key_order (e ∷ es) = insert_key entry_cmp (in_key_order es) e
+-- the entries by their keys, each key once
+abbrev pub by_key : List (Entry Sym) → List (Entry Sym)
+by_key [] = []
+by_key (e ∷ es) = insert_key entry_cmp (by_key es) e
 
--- of all tracks' changes those that come before the ring, in key order
+-- those of all tracks' changes that come before the ring, in key order
 unfoldable pub older_of : List (List (Entry Sym)) → List (Entry Sym) → List (Entry Sym)
-older_of tracks ring = in_key_order (filter (is_ahead ring) (flat_map (λ track. track) tracks))
+older_of tracks ring = by_key (filter (is_ahead ring) (flat_map (λ track. track) tracks))

@@ -1,9 +1,9 @@
 -- Parts that stand one right behind the other in a line.
-use Rattle.std.proofs.Common.{◌≡◌, ◌≤◌, ◌<◌, ℕ, ◌+◌, ◌-◌, List, [], ◌∷◌, ◌++◌, length, get_or, map, take, drop, refl, sym, ap, ◌∙◌, arith, suc, zero, append_assoc, add-one, None, Some, Option, IfSome, is_some, false}
+use Rattle.std.proofs.Common.{◌≡◌, ◌≤◌, ◌<◌, ℕ, ◌+◌, ◌-◌, List, [], ◌∷◌, ◌++◌, length, get_or, map, take, drop, refl, sym, ap, ◌∙◌, arith, suc, zero, append_assoc, add-one, None, Some, Option, IfSome}
 use Rattle.std.proofs.lemmas.List.{append-nil, drop_all}
 use Rattle.std.proofs.Math.Seq.{drop-cons}
 use Rattle.crs_log.specs.declared.items.Span.{Span}
-use Rattle.crs_log.specs.SeenItems.{text_of, change_in}
+use Rattle.crs_log.specs.SeenItems.{text_of}
 use Rattle.std.proofs.lemmas.List.{drop-drop, drop-take}
 use Rattle.crs_base.specs.Entry.{more_text, args_text, canonical}
 use Rattle.crs_base.specs.SeenTokens.{word_at}
@@ -105,7 +105,3 @@ pub some_args : (line : List ℕ) (at p : ℕ) (first : Span) (more : List Span)
     → IfSome r (λ e. word_at line p (e - p) ≡ more_text (map (text_of line) more)) → IfSome r (λ e. p ≤ e) → IfSome r (λ e. word_at line at (e - at) ≡ args_text (map (text_of line) (first ∷ more)))
 some_args line at p first more within bracket start is None h k = tt
 some_args line at p first more within bracket start is (Some e) h k = args_on line at p e first more within bracket start is k h
-
-pub no_change : (line : List ℕ) (change : Option (Span × Span)) → is_some change ≡ false → change_in line change ≡ None
-no_change line None h = refl
-no_change line (Some c) h = cc

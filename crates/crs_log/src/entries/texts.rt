@@ -3,7 +3,7 @@ ghost use Rattle.crs_log.specs.SeenItems.{text_of, event_seen, change_in};
 ghost use Rattle.crs_base.specs.Entry.{canonical, args_text, more_text, change_text};
 ghost use Rattle.crs_log.specs.Known.{texts_of};
 
-use super::whole::whole_text;
+use super::whole::whole_head;
 use crate::items::parts::span_text;
 use crate::items::{Raw, Span};
 use crate::putting::put;
@@ -62,16 +62,21 @@ fn push_change(
     Ok(())
 }
 
+/// How many bytes the text of a change takes.
+fn change_len(change: Option<(Span, Span)>) -> usize {
+    match change {
+        Some((old, new)) => old.len as usize + new.len as usize + 4,
+        None => 0,
+    }
+}
+
 /// How many bytes the canonical text takes, or fewer where that is many.
 fn text_len(raw: &Raw) -> usize {
     let mut len = raw.name.len as usize + 1;
     for arg in raw.args.as_slice() {
         len = len.saturating_add(arg.len as usize + 1);
     }
-    match raw.change {
-        Some((old, new)) => len.saturating_add(old.len as usize + new.len as usize + 4),
-        None => len,
-    }
+    len.saturating_add(change_len(raw.change))
 }
 
 /// The canonical text of an event.
@@ -79,10 +84,28 @@ fn text_len(raw: &Raw) -> usize {
 pub fn canonical_text(alloc: Global, line: &[u8], raw: &Raw) -> Result<Text, AllocError>
     ensures { IfOk result (λ t. t ≡ canonical (text_of line.now raw.now.name) (map (text_of line.now) raw.now.args) (change_in line.now raw.now.change)) }
 {
-    match whole_text(line, raw) {
-        Some(text) => Text::new(alloc, text),
-        None => parted_text(alloc, line, raw),
+    match (whole_head(line, raw), raw.change) {
+        (Some(text), None) => Text::new(alloc, text),
+        (Some(head), Some(_)) => changed_text(alloc, line, head, raw.change),
+        (None, _) => parted_text(alloc, line, raw),
     }
+}
+
+/// The same of an event with a change, whose name and arguments stand so in the line. To put these together
+/// too took 1 % of a load that changes values, and 5 % of one that does nothing else.
+fn changed_text(
+    alloc: Global,
+    line: &[u8],
+    head: &[u8],
+    change: Option<(Span, Span)>,
+) -> Result<Text, AllocError>
+    ensures { IfOk result (λ t. t ≡ head.now ++ change_text (change_in line.now change)) }
+{
+    let len = head.len().saturating_add(change_len(change));
+    let mut out = SmallVec::with_capacity(alloc, len)?;
+    out.extend_from_slice(head)?;
+    push_change(line, change, &mut out)?;
+    Ok(Text::from_small(out))
 }
 
 /// The same, put together from its parts.

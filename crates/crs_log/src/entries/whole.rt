@@ -1,8 +1,8 @@
-//! The canonical text of an event that stands in its line: most lines have no blank between two parts.
-ghost use Rattle.std.specs.Prelude.{◌≡◌, ◌≤◌, ◌<◌, ◌+◌, ◌-◌, map, get_or, length, true, IfSome};
+//! The canonical text that stands in a line: most lines have no blank between the parts of a name and its arguments.
+ghost use Rattle.std.specs.Prelude.{◌≡◌, ◌≤◌, ◌<◌, ◌+◌, ◌-◌, map, get_or, length, true, None, IfSome};
 ghost use Rattle.crs_base.specs.Entry.{canonical, args_text, more_text};
 ghost use Rattle.crs_base.specs.SeenTokens.{word_at};
-ghost use Rattle.crs_log.specs.SeenItems.{text_of, change_in};
+ghost use Rattle.crs_log.specs.SeenItems.{text_of};
 
 use crate::items::parts::end_of;
 use crate::items::{Raw, Span};
@@ -49,20 +49,16 @@ fn args_end(line: &[u8], args: &[Span], at: usize) -> Option<usize>
     }
 }
 
-/// The canonical text of an event without a change, where it stands in the line.
-pub fn whole_text<'a>(line: &'a [u8], raw: &Raw) -> Option<&'a [u8]>
-    ensures { IfSome result (λ t. t.now ≡ canonical (text_of line.now raw.now.name) (map (text_of line.now) raw.now.args) (change_in line.now raw.now.change)) }
+/// The canonical text of the name and the arguments of an event, where it stands in the line: that of an
+/// event without a change.
+pub fn whole_head<'a>(line: &'a [u8], raw: &Raw) -> Option<&'a [u8]>
+    ensures { IfSome result (λ t. t.now ≡ canonical (text_of line.now raw.now.name) (map (text_of line.now) raw.now.args) None) }
 {
-    if raw.change.is_some() {
-        return None;
-    }
-    let Some(end) = args_end(line, raw.args.as_slice(), end_of(raw.name)) else {
-        return None;
-    };
+    let end = args_end(line, raw.args.as_slice(), end_of(raw.name))?;
     if line.len() < end {
         return None;
     }
     let (front, _) = line.split_at(end);
-    let (_, text) = front.split_at(raw.name.start as usize);
-    Some(text)
+    let (_, head) = front.split_at(raw.name.start as usize);
+    Some(head)
 }
