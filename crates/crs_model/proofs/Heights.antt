@@ -1,11 +1,10 @@
 -- The strata of chronicles, one by one.
-use Rattle.std.proofs.Common.{◌≡◌, ℕ, zero, suc, ◌+◌, ◌<◌, ◌≤◌, max, Bool, true, false, nat_lt, List, [], ◌∷◌, ◌++◌, map, zip, length, get_or, refl, sym, ap, subst, ◌∙◌, ◌⊎◌, inl, inr, arith, ltb-true, true≢false}
-use Rattle.std.specs.Prelude.{Option, Some, None, slice_get}
+use Rattle.std.proofs.Common.{◌≡◌, ℕ, zero, suc, ◌+◌, ◌<◌, ◌≤◌, max, Bool, true, false, nat_lt, List, [], ◌∷◌, ◌++◌, map, zip, length, get_or, refl, sym, ap, subst, ◌∙◌, ◌⊎◌, inl, inr, arith, ltb-true}
+use Rattle.std.specs.Prelude.{Option, Some, slice_get}
 use Rattle.std.specs.List.{AllZip, AllByRecursion}
 use Rattle.std.proofs.lemmas.Bool.{ltb-false}
 use Rattle.crs_base.specs.Words.{IsIn}
-use Rattle.crs_base.proofs.Words.{in_append}
-use Rattle.crs_model.specs.Hierarchy.{IsGreatest, IsAboveBy, IsAbove, Feeds, emitted, used, AreInOrder, AreStrata}
+use Rattle.crs_model.specs.Hierarchy.{IsGreatest, IsAboveBy, IsAbove, Feeds, emitted, used, AreInOrder}
 use Rattle.crs_model.specs.Models.{Chronicle}
 
 either_of : (a b : ℕ) → (max a b ≡ a) ⊎ (max a b ≡ b)

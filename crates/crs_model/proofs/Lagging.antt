@@ -1,10 +1,9 @@
 -- How far behind the date of one of its events a recognition can be new.
-use Rattle.std.proofs.Common.{◌≡◌, ℕ, zero, suc, ◌+◌, ◌<◌, ◌≤◌, Bool, true, false, nat_lt, List, [], ◌∷◌, ◌++◌, length, map, refl, sym, ap, subst, ◌∙◌, ◌⊎◌, inl, inr, arith, ltb-true}
-use Rattle.std.specs.Prelude.{ℤ, pos, ◌+ℤ◌, ◌-ℤ◌, ◌≤ℤ◌, ◌<ℤ◌, Option, Some, None, option_map, IsSomeAnd, slice_get}
+use Rattle.std.proofs.Common.{◌≡◌, ℕ, zero, suc, ◌+◌, ◌<◌, ◌≤◌, Bool, true, false, nat_lt, List, [], ◌∷◌, ◌++◌, length, map, refl, sym, ap, subst, ◌⊎◌, inl, inr, arith, ltb-true}
+use Rattle.std.specs.Prelude.{ℤ, pos, ◌+ℤ◌, ◌-ℤ◌, ◌≤ℤ◌, ◌<ℤ◌, Option, Some, None, option_map, slice_get}
 use Rattle.std.specs.List.{AllByRecursion, AllZip}
 use Rattle.std.proofs.lemmas.Bool.{ltb-false}
 use Rattle.std.proofs.lemmas.Int.{ints, by_lt_z}
-use Rattle.std.proofs.lemmas.List.{length-map}
 use Rattle.crs_base.specs.Words.{IsIn}
 use Rattle.crs_base.specs.Entry.{Entry}
 use Rattle.crs_base.proofs.Words.{in_map, each_from_in, in_from_each}
@@ -13,7 +12,7 @@ use Rattle.crs_stn.specs.Bound.{Meets}
 use Rattle.crs_stn.specs.Network.{IsMost, IsMinimal}
 use Rattle.crs_model.specs.Models.{Chronicle, Window}
 use Rattle.crs_model.specs.Matching.{Assignment}
-use Rattle.crs_model.specs.Partial.{Partial, at, dates_of}
+use Rattle.crs_model.specs.Partial.{at}
 use Rattle.crs_model.specs.Verdicts.{IsMet}
 use Rattle.crs_model.specs.Open.{IsRecognised, whole}
 use Rattle.crs_model.specs.Reach.{Bounds}

@@ -13,7 +13,7 @@ use Rattle.std.specs.List.{AllZip}
 use Rattle.crs_model.specs.Models.{Term, Value, Var, Any, Pattern, Body, NoEvent, Occurs, Hold}
 use Rattle.crs_model.specs.Matching.{Binding, TermIs, ChangeIs, PatternIs}
 use Rattle.crs_model.specs.Verdicts.{Count, IsDatedIn, IsCount, IsSo, IsSpoilt, BodyIsBound}
-use Rattle.crs_model.specs.HasProgress.{IsEnough, IsReached, IsCounted, IsBroken, IsWholeFor, IsUnbroken, IsProgress, IsInRange, IsAbove, IsMetBy, IsLostBy, Hits, Breaks, Spares, StartsWell, StartsIll}
+use Rattle.crs_model.specs.HasProgress.{IsEnough, IsDecisive, IsReached, IsCounted, IsBroken, IsWholeFor, IsUnbroken, IsProgress, IsInRange, IsAbove, IsMetBy, IsLostBy, Hits, Breaks, Spares, StartsWell, StartsIll}
 use Rattle.crs_model.proofs.Least.{Looser}
 use Rattle.crs_model.proofs.Lost.{count_unique, spoilt_grows, spoilt_not_so, spoilt_up, count_up, held_down}
 
@@ -32,16 +32,37 @@ count_miss P (y ∷ xs) x n (inr h) p = inr (h.0, count_miss P xs x n h.1 p)
 module _ {S : Type 0} (look : Binding S) (from to : ℤ) where
   -- ---- settle: one more entry, dated at or after h
 
+  above_more : (most : Option ℕ) (n k : ℕ) → n ≤ k → IsSomeAnd most (λ m. m < n) → IsSomeAnd most (λ m. m < k)
+  above_more None n k l a = a
+  above_more (Some m) n k l a = omega arith
+
+  -- a greater count decides too
+  decisive_more : (body : Body S) (n k : ℕ) → n ≤ k → IsDecisive body n → IsDecisive body k
+  decisive_more (NoEvent p) n k l (inl e) = absurd e
+  decisive_more (NoEvent p) n k l (inr a) = inr (omega arith)
+  decisive_more (Occurs least most p) n k l (inl e) = inl (e.0, let f = e.1 in omega arith)
+  decisive_more (Occurs least most p) n k l (inr a) = inr (above_more most n k l a)
+  decisive_more (Hold name terms value) n k l (inl e) = absurd e
+  decisive_more (Hold name terms value) n k l (inr a) = absurd a
+
+  reached_hit : (p : Pattern S) (entries : List (Entry S)) (x : Entry S) (n : ℕ) → IsReached entries look p from to n → IsDatedIn from to x × PatternIs look p x → IsReached (entries ++ x ∷ []) look p from to (suc n)
+  reached_hit p entries x n r hit = (suc r.0, count_hit _ entries x r.0 r.1 hit, let l = r.2 in omega arith)
+
+  reached_miss : (p : Pattern S) (entries : List (Entry S)) (x : Entry S) (n : ℕ) → IsReached entries look p from to n → (IsDatedIn from to x × PatternIs look p x → ⊥) → IsReached (entries ++ x ∷ []) look p from to n
+  reached_miss p entries x n r hit = (r.0, count_miss _ entries x r.0 r.1 hit, r.2)
+
   pub counted_hit : (body : Body S) (entries : List (Entry S)) (x : Entry S) (n : ℕ) → IsCounted entries look body from to n → Hits look body from to x → IsCounted (entries ++ x ∷ []) look body from to (suc n)
-  counted_hit (NoEvent p) entries x n h hit = count_hit _ entries x n h hit
+  counted_hit (NoEvent p) entries x n (inl h) hit = inl (count_hit _ entries x n h hit)
+  counted_hit (NoEvent p) entries x n (inr e) hit = inr (decisive_more (NoEvent p) n (suc n) (omega arith) e.0, reached_hit p entries x n e.1 hit)
   counted_hit (Occurs least most p) entries x n (inl h) hit = inl (count_hit _ entries x n h hit)
-  counted_hit (Occurs least most p) entries x n (inr e) hit = inr ((e.0.0, let a = e.0.1 in omega arith), (suc e.1.0, count_hit _ entries x e.1.0 e.1.1 hit, let a = e.1.2 in omega arith))
+  counted_hit (Occurs least most p) entries x n (inr e) hit = inr (decisive_more (Occurs least most p) n (suc n) (omega arith) e.0, reached_hit p entries x n e.1 hit)
   counted_hit (Hold name terms value) entries x n h hit = absurd hit
 
   pub counted_miss : (body : Body S) (entries : List (Entry S)) (x : Entry S) (n : ℕ) → IsCounted entries look body from to n → (Hits look body from to x → ⊥) → IsCounted (entries ++ x ∷ []) look body from to n
-  counted_miss (NoEvent p) entries x n h hit = count_miss _ entries x n h hit
+  counted_miss (NoEvent p) entries x n (inl h) hit = inl (count_miss _ entries x n h hit)
+  counted_miss (NoEvent p) entries x n (inr e) hit = inr (e.0, reached_miss p entries x n e.1 hit)
   counted_miss (Occurs least most p) entries x n (inl h) hit = inl (count_miss _ entries x n h hit)
-  counted_miss (Occurs least most p) entries x n (inr e) hit = inr (e.0, (e.1.0, count_miss _ entries x e.1.0 e.1.1 hit, e.1.2))
+  counted_miss (Occurs least most p) entries x n (inr e) hit = inr (e.0, reached_miss p entries x n e.1 hit)
   counted_miss (Hold name terms value) entries x n h hit = h
 
   module _ (entries : List (Entry S)) (x : Entry S) (h : ℕ) (late : h ≤ x.date) where
@@ -128,7 +149,7 @@ module _ {S : Type 0} (look : Binding S) (from to : ℤ) where
       | inl h ↦ elim (term_tells t.1 c.1) [ inl k ↦ inl (h, k) | inr n ↦ inr (λ z. n z.1) ]
     ]
 
-    pattern_tells : (p : Pattern S) (x : Entry S) → Either (PatternIs look p x)
+    pub pattern_tells : (p : Pattern S) (x : Entry S) → Either (PatternIs look p x)
     pattern_tells p x = elim (tells p.name x.name) [
       | inr n ↦ inr (λ h. n h.name)
       | inl a ↦ elim (terms_tell p.terms x.args) [
@@ -157,7 +178,7 @@ module _ {S : Type 0} (look : Binding S) (from to : ℤ) where
     enough_stays (NoEvent p) entries x h count broken e k = absurd e
     enough_stays (Hold name terms value) entries x h count broken e k = absurd e
     enough_stays (Occurs least most p) entries x h count broken e k = record {
-      counted = inr (e, elim k.counted [ inl c ↦ reached_more p entries x count count c (omega arith) | inr c ↦ reached_more p entries x count c.1.0 c.1.1 c.1.2 ]);
+      counted = inr (inl e, elim k.counted [ inl c ↦ reached_more p entries x count count c (omega arith) | inr c ↦ reached_more p entries x count c.1.0 c.1.1 c.1.2 ]);
       is_broken = k.is_broken;
       is_whole = k.is_whole;
     }
@@ -257,17 +278,32 @@ module _ {S : Type 0} (look : Binding S) (from to : ℤ) where
     none_above None P e s = s
     none_above (Some m) P e s = cc
 
+    -- what is above isn't in the range, nor is more
+    above_range : (most : Option ℕ) (n k : ℕ) → n ≤ k → IsSomeAnd most (λ m. m < n) → IfSome most (λ m. k ≤ m) → ⊥
+    above_range None n k l a r = a
+    above_range (Some m) n k l a r = omega arith
+
     pub so_by : (body : Body S) (count : ℕ) (broken : Bool) → IsProgress entries look body from to (pos h) count broken → IsMetBy body to (pos h) count broken → IsSo entries look body from to
-    so_by (NoEvent p) count broken k (l, r, b) = subst (λ (n : ℕ). IsCount entries look p from to n) r k.counted
+    so_by (NoEvent p) count broken k (l, r, b) = elim k.counted [
+      | inl c ↦ subst (λ (n : ℕ). IsCount entries look p from to n) r c
+      | inr e ↦ elim e.0 [ inl z ↦ absurd z | inr a ↦ (let z : count ≡ 0 = r in absurd (omega arith)) ]
+    ]
     so_by (Occurs least most p) count broken k (l, r, b) = elim k.counted [
       | inl c ↦ (count, c, r.0, r.1)
-      | inr e ↦ (e.1.0, e.1.1, (let m = r.0 in let n = e.1.2 in omega arith), none_most most e.1.0 e.0.0)
+      | inr e ↦ elim e.0 [
+        | inl f ↦ (e.1.0, e.1.1, (let m = r.0 in let n = e.1.2 in omega arith), none_most most e.1.0 f.0)
+        | inr a ↦ absurd (above_range most count count (omega arith) a r.1)
+      ]
     ]
     so_by (Hold name terms value) count broken k (l, r, b) = λ a v is t m n. (k.is_whole b a v is).values t m n (in_time t l n)
 
     in_range : (body : Body S) (count : ℕ) → IsCounted entries look body from to count → IsSo entries look body from to → IsInRange body count
-    in_range (NoEvent p) count k so = count_unique _ entries count 0 k so
-    in_range (Occurs least most p) count (inr e) so = (e.0.1, none_most most count e.0.0)
+    in_range (NoEvent p) count (inl k) so = count_unique _ entries count 0 k so
+    in_range (NoEvent p) count (inr e) so = let q = count_unique _ entries e.1.0 0 e.1.1 so in let l = e.1.2 in omega arith
+    in_range (Occurs least most p) count (inr e) so = elim e.0 [
+      | inl f ↦ (f.1, none_most most count f.0)
+      | inr a ↦ absurd (above_range most count so.0 (let q = count_unique _ entries e.1.0 so.0 e.1.1 so.1 in let l = e.1.2 in omega arith) a so.3)
+    ]
     in_range (Occurs least most p) count (inl k) so = let q = count_unique _ entries so.0 count so.1 k in (subst (λ (n : ℕ). least ≤ n) q so.2, subst (λ (n : ℕ). IfSome most (λ m. n ≤ m)) q so.3)
     in_range (Hold name terms value) count k so = tt
 
@@ -278,7 +314,7 @@ module _ {S : Type 0} (look : Binding S) (from to : ℤ) where
         spoilt_not_so entries [] h h (omega arith) (λ e i. absurd i) look (Hold name terms value) from to b
         (subst (λ (t : List (Entry S)). IsSo t look (Hold name terms value) from to) (sym (append-nil entries)) so)
 
-    above_of : (most : Option ℕ) (P : ℕ → Type 0) (count : ℕ) → ((n : ℕ) → P n → n ≡ count) → IsSomeAnd most (λ m. m < count) → IsSomeAnd most (λ m. (n : ℕ) → P n → m < n)
+    above_of : (most : Option ℕ) (P : ℕ → Type 0) (count : ℕ) → ((n : ℕ) → P n → count ≤ n) → IsSomeAnd most (λ m. m < count) → IsSomeAnd most (λ m. (n : ℕ) → P n → m < n)
     above_of None P count f l = l
     above_of (Some m) P count f l = λ n p. let q = f n p in omega arith
 
@@ -287,19 +323,16 @@ module _ {S : Type 0} (look : Binding S) (from to : ℤ) where
     below_of (Some m) P count p l = l count p
 
     above_spoilt : (body : Body S) (count : ℕ) → IsCounted entries look body from to count → IsAbove body count → IsSpoilt entries look body from to (pos h)
-    above_spoilt (NoEvent p) count k l = λ so. let q = count_unique _ entries count 0 k so in omega arith
-    above_spoilt (Occurs least most p) count (inr e) l = absurd (none_above most (λ m. m < count) e.0.0 l)
-    above_spoilt (Occurs least most p) count (inl k) l = above_of most (λ n. IsCount entries look p from to n) count (λ n q. count_unique _ entries n count q k) l
+    above_spoilt (NoEvent p) count (inl k) l = λ so. let q = count_unique _ entries count 0 k so in omega arith
+    above_spoilt (NoEvent p) count (inr e) l = λ so. let q = count_unique _ entries e.1.0 0 e.1.1 so in let r = e.1.2 in omega arith
+    above_spoilt (Occurs least most p) count (inr e) l = above_of most (λ n. IsCount entries look p from to n) count (λ n q. let u = count_unique _ entries n e.1.0 q e.1.1 in let r = e.1.2 in omega arith) l
+    above_spoilt (Occurs least most p) count (inl k) l = above_of most (λ n. IsCount entries look p from to n) count (λ n q. let u = count_unique _ entries n count q k in omega arith) l
     above_spoilt (Hold name terms value) count k l = absurd l
 
     broken_spoilt : (body : Body S) → IsBroken entries look body from to (pos h) → IsSpoilt entries look body from to (pos h)
     broken_spoilt (NoEvent p) b = absurd b
     broken_spoilt (Occurs least most p) b = absurd b
     broken_spoilt (Hold name terms value) b = b
-
-    above_range : (most : Option ℕ) (n : ℕ) → IsSomeAnd most (λ m. m < n) → IfSome most (λ m. n ≤ m) → ⊥
-    above_range None n l r = l
-    above_range (Some m) n l r = omega arith
 
     -- lost as the progress tells it: lost
     pub lost_by : (body : Body S) (count : ℕ) (broken : Bool) → IsProgress entries look body from to (pos h) count broken → IsLostBy body to (pos h) count broken
@@ -312,12 +345,13 @@ module _ {S : Type 0} (look : Binding S) (from to : ℤ) where
 
     -- not broken, and in the range or not settled and not above it: not lost
     spoilt_back : (body : Body S) (count : ℕ) → IsCounted entries look body from to count → IsUnbroken entries look body from to (pos h) → IsSpoilt entries look body from to (pos h) → IsAbove body count
-    spoilt_back (NoEvent p) count k u s = by count k
+    spoilt_back (NoEvent p) count (inr e) u s = elim e.0 [ inl z ↦ absurd z | inr a ↦ a ]
+    spoilt_back (NoEvent p) count (inl k) u s = by count k
       where
         by : (n : ℕ) → IsCount entries look p from to n → 0 < n
         by zero q = absurd (s q)
         by (suc n) q = omega arith
-    spoilt_back (Occurs least most p) count (inr e) u s = absurd (none_above most (λ m. (n : ℕ) → IsCount entries look p from to n → m < n) e.0.0 s)
+    spoilt_back (Occurs least most p) count (inr e) u s = elim e.0 [ inl f ↦ absurd (none_above most (λ m. (n : ℕ) → IsCount entries look p from to n → m < n) f.0 s) | inr a ↦ a ]
     spoilt_back (Occurs least most p) count (inl k) u s = below_of most (λ n. IsCount entries look p from to n) count k s
     spoilt_back (Hold name terms value) count k u (a, v, is, inl w) = w.4 ((u a v is).values w.0 w.1 w.2 w.3)
     spoilt_back (Hold name terms value) count k u (a, v, is, inr w) = w.4 ((u a v is).changes w.0 w.1 w.2 w.3)
@@ -345,7 +379,8 @@ module _ {S : Type 0} (look : Binding S) (from to : ℤ) where
 
 module _ {S : Type 0} (small look : Binding S) (looser : Looser small look) (entries : List (Entry S)) (from to : ℤ) where
   counted_up : (body : Body S) (n : ℕ) → BodyIsBound small body → IsCounted entries small body from to n → IsCounted entries look body from to n
-  counted_up (NoEvent p) n b k = count_up small look looser entries from to p n b k
+  counted_up (NoEvent p) n b (inl k) = inl (count_up small look looser entries from to p n b k)
+  counted_up (NoEvent p) n b (inr e) = inr (e.0, (e.1.0, count_up small look looser entries from to p e.1.0 b e.1.1, e.1.2))
   counted_up (Occurs least most p) n b (inl k) = inl (count_up small look looser entries from to p n b k)
   counted_up (Occurs least most p) n b (inr e) = inr (e.0, (e.1.0, count_up small look looser entries from to p e.1.0 b e.1.1, e.1.2))
   counted_up (Hold name terms value) n b k = k

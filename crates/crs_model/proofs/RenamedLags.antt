@@ -1,11 +1,11 @@
 -- Strata and lags of chronicles with other symbols in place of theirs.
 use Rattle.std.proofs.Common.{◌≡◌, ◌⊎◌, inl, inr, ℕ, suc, ◌≤◌, List, [], ◌∷◌, ◌++◌, map, zip, length, refl, sym, ap, subst, ◌∙◌}
-use Rattle.std.specs.Prelude.{ℤ, Option, Some, slice_get, option_map, ◌+◌}
+use Rattle.std.specs.Prelude.{ℤ, Option, option_map, ◌+◌}
 use Rattle.std.specs.List.{AllZip, AllByRecursion, flat_map}
 use Rattle.std.proofs.lemmas.List.{length-map, map-append}
 use Rattle.std.proofs.lemmas.Option.{slice_get-map}
 use Rattle.crs_base.specs.Words.{IsIn}
-use Rattle.crs_base.proofs.Alls.{all_append, all_each}
+use Rattle.crs_base.proofs.Alls.{all_append}
 use Rattle.crs_base.proofs.Words.{in_map, in_map_back, in_from_each}
 use Rattle.crs_stn.specs.Network.{IsMinimal}
 use Rattle.crs_model.specs.Models.{EventDef, Body, NoEvent, Occurs, Hold, Window, Emit, Chronicle}

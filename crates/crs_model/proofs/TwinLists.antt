@@ -1,5 +1,5 @@
 -- The lists of new assignments over entries that say the same under other arrival numbers.
-use Rattle.std.proofs.Common.{◌≡◌, ℕ, List, refl, sym}
+use Rattle.std.proofs.Common.{ℕ, List, refl, sym}
 use Rattle.std.specs.List.{AllZip}
 use Rattle.crs_base.specs.Entry.{Entry}
 use Rattle.crs_model.specs.Models.{Chronicle}

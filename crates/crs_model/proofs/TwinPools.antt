@@ -1,6 +1,6 @@
 -- Two lists of entries that say all as often, paired in key order.
 use Rattle.std.proofs.Common.{◌≡◌, ◌≢◌, ◌⊎◌, ℕ, Bool, true, false, cond, List, [], ◌∷◌, nat_lt, refl, sym, ap, subst, ◌∙◌, inl, inr, Less}
-use Rattle.std.proofs.Common.{Equal, Greater, Ordering, ◌<◌, ◌+◌, nat_cmp, arith, ltb-true, ltb-false}
+use Rattle.std.proofs.Common.{Equal, Greater, Ordering, ◌<◌, nat_cmp, arith, ltb-true, ltb-false}
 use Rattle.std.proofs.lemmas.Cmp.{ranked}
 use Rattle.std.specs.Ordering.{MatchOrdering, ordering_then}
 use Rattle.std.specs.List.{AllZip, AllByRecursion}

@@ -15,14 +15,24 @@ module _ {S : Type 0} where
   IsEnough (Occurs least most p) n = (most ≡ None) × (least ≤ n)
   IsEnough (Hold name terms value) n = ⊥
 
+  -- the count is above what the window wants
+  abbrev pub IsAbove : Body S → ℕ → Type 0
+  IsAbove (NoEvent p) n = 0 < n
+  IsAbove (Occurs least most p) n = IsSomeAnd most (λ m. m < n)
+  IsAbove (Hold name terms value) n = ⊥
+
+  -- the count decides, whatever comes: it is enough, or above what the window wants
+  abbrev pub IsDecisive : Body S → ℕ → Type 0
+  IsDecisive body n = IsEnough body n ⊎ IsAbove body n
+
   -- so many entries at least are of the pattern and dated in the stretch
   abbrev pub IsReached : List (Entry S) → Binding S → Pattern S → ℤ → ℤ → ℕ → Type 0
   IsReached entries look p from to n = (c : ℕ) × IsCount entries look p from to c × (n ≤ c)
 
-  -- how many entries count: those of the pattern dated in the stretch, or some of them that are enough, and none for a `hold`
+  -- how many entries count: those of the pattern dated in the stretch, or some of them that decide, and none for a `hold`
   abbrev pub IsCounted : List (Entry S) → Binding S → Body S → ℤ → ℤ → ℕ → Type 0
-  IsCounted entries look (NoEvent p) from to n = IsCount entries look p from to n
-  IsCounted entries look (Occurs least most p) from to n = IsCount entries look p from to n ⊎ (IsEnough (Occurs least most p) n × IsReached entries look p from to n)
+  IsCounted entries look (NoEvent p) from to n = IsCount entries look p from to n ⊎ (IsDecisive (NoEvent p) n × IsReached entries look p from to n)
+  IsCounted entries look (Occurs least most p) from to n = IsCount entries look p from to n ⊎ (IsDecisive (Occurs least most p) n × IsReached entries look p from to n)
   IsCounted entries look (Hold name terms value) from to n = n ≡ 0
 
   -- a `hold` whose value at some date of the stretch before h isn't the wanted one, or of which a change dated in the stretch brings another
@@ -53,12 +63,6 @@ module _ {S : Type 0} where
   IsInRange (NoEvent p) n = n ≡ 0
   IsInRange (Occurs least most p) n = (least ≤ n) × IfSome most (λ m. n ≤ m)
   IsInRange (Hold name terms value) n = Unit {0}
-
-  -- the count is above what the window wants
-  abbrev pub IsAbove : Body S → ℕ → Type 0
-  IsAbove (NoEvent p) n = 0 < n
-  IsAbove (Occurs least most p) n = IsSomeAnd most (λ m. m < n)
-  IsAbove (Hold name terms value) n = ⊥
 
   -- as the progress tells it: settled at h, in the range and not broken
   abbrev pub IsMetBy : Body S → ℤ → ℤ → ℕ → Bool → Type 0

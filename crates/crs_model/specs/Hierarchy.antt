@@ -1,5 +1,5 @@
 -- What chronicles emit and use, their strata, and their lags.
-use Rattle.std.specs.Prelude.{◌≡◌, ◌⊎◌, ℕ, zero, suc, ◌+◌, ◌≤◌, ◌<◌, ◌==◌, cond, max, ℤ, pos, negsuc, ◌+ℤ◌, ◌-ℤ◌, List, [], ◌∷◌, ◌++◌, length, map, zip, Option, Some, None, option_map}
+use Rattle.std.specs.Prelude.{◌≡◌, ◌⊎◌, ℕ, zero, suc, ◌+◌, ◌≤◌, ◌<◌, ◌==◌, cond, max, ℤ, pos, ◌+ℤ◌, ◌-ℤ◌, List, [], ◌∷◌, ◌++◌, length, map, zip, Option, Some, None, option_map}
 use Rattle.std.specs.List.{AllZip, flat_map}
 use Rattle.crs_base.specs.Words.{IsIn}
 use Rattle.crs_model.specs.Models.{Anchor, Body, NoEvent, Occurs, Hold, Chronicle}

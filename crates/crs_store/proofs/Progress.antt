@@ -40,7 +40,8 @@ count_most P (x ∷ xs) n (inl h) = let l = count_most P xs h.1 h.3 in let e = h
 count_most P (x ∷ xs) n (inr h) = let l = count_most P xs n h.1 in omega arith
 
 counted_most : {S : Type 0} (entries : List (Entry S)) (look : Binding S) (body : Body S) (from to : ℤ) (n : ℕ) → IsCounted entries look body from to n → n ≤ length entries
-counted_most entries look (NoEvent p) from to n h = count_most _ entries n h
+counted_most entries look (NoEvent p) from to n (inl h) = count_most _ entries n h
+counted_most entries look (NoEvent p) from to n (inr e) = let l = count_most _ entries e.1.0 e.1.1 in let m = e.1.2 in omega arith
 counted_most entries look (Occurs least most p) from to n (inl h) = count_most _ entries n h
 counted_most entries look (Occurs least most p) from to n (inr e) = let l = count_most _ entries e.1.0 e.1.1 in let m = e.1.2 in omega arith
 counted_most entries look (Hold name terms value) from to n h = omega (arith, h)

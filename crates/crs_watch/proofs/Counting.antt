@@ -1,8 +1,9 @@
 -- How many of a list there are.
-use Rattle.std.proofs.Common.{ℕ, ◌+◌, List, [], ◌∷◌, refl, subst, inl, inr, arith}
+use Rattle.std.proofs.Common.{◌⊎◌, ℕ, ◌+◌, List, [], ◌∷◌, refl, subst, inl, inr, arith}
 use Rattle.crs_base.specs.Words.{IsIn}
 use Rattle.crs_history.specs.Dropping.{Drops}
 use Rattle.crs_model.specs.Verdicts.{Count}
+use Rattle.crs_watch.specs.Counts.{CountsTo}
 
 module _ {A : Type 0} where
   pub count_more : (P : A → Type 0) (x : A) (xs : List A) (n : ℕ) → P x → Count P xs n → Count P (x ∷ xs) (n + 1)
@@ -21,3 +22,13 @@ module _ {A : Type 0} where
     | inr k ↦ inr (k.0, count_left P L xs d.0 n f d.2 k.1)
   ]
   count_left P L (x ∷ xs) ys n f (inr d) h = inr ((λ p. d.0 (f x p)), count_left P L xs ys n f d.1 h)
+
+  -- how many there are, where of each it is told whether it is such
+  pub count_told : (P : A → Type 0) → ((x : A) → P x ⊎ (P x → ⊥)) → (xs : List A) → (n : ℕ) × Count P xs n
+  count_told P f [] = (0, refl)
+  count_told P f (x ∷ xs) = let r = count_told P f xs in elim (f x) [ inl p ↦ (r.0 + 1, count_more P x xs r.0 p r.1) | inr q ↦ (r.0, inr (q, r.1)) ]
+
+  -- what counts to a number in one list counts to it in another, where counts of the one are counts of the other
+  pub counts_to : {B : Type 0} (P : A → Type 0) (Q : B → Type 0) (xs : List A) (ys : List B) (most n : ℕ) → ((c : ℕ) → Count P xs c → Count Q ys c) → CountsTo P xs most n → CountsTo Q ys most n
+  counts_to P Q xs ys most n f (inl c) = inl (f n c)
+  counts_to P Q xs ys most n f (inr h) = inr (h.0, h.1, f h.1 h.2, h.3)

@@ -2,3 +2,4 @@ pub mod Judged
 pub mod Begun
 pub mod Watching
 pub mod Known
+pub mod Counts

@@ -1,12 +1,10 @@
-use Rattle.std.proofs.Common.{◌≡◌, ◌∙◌, ◌<◌, ◌≤◌, ℕ, ap, sym, subst, ◌⊎◌, List, map, zip, length, Some, arith}
-use Rattle.std.specs.List.{AllByRecursion}
+use Rattle.std.proofs.Common.{◌≡◌, ◌∙◌, ℕ, ap, subst, ◌⊎◌, List, map, zip, arith}
 use Rattle.std.proofs.lemmas.List.{length-map}
 use Rattle.crs_base.specs.declared.symbols.Sym.{Sym}
 use Rattle.crs_model.specs.Hierarchy.{IsGreatest, used}
 use Rattle.crs_model.specs.Models.{Chronicle}
 use Rattle.crs_model.specs.Plans.{chronicle}
-use Rattle.crs_model.specs.SeenModels.{chronicle_of}
-use Rattle.crs_model.proofs.Heights.{AreSoFar, so_far_more, all_stand, item_at, low_below, IsAboveSome}
+use Rattle.crs_model.proofs.Heights.{so_far_more, all_stand, item_at, low_below, IsAboveSome}
 use Rattle.crs_model.proofs.strata.strata_of.Goals as goal
 
 pub above_all-stratum-requires : goal.above_all-stratum-requires

@@ -13,7 +13,7 @@ use Rattle.crs_model.specs.SeenModels.{term_of, pattern_of}
 use Rattle.crs_model.specs.Verdicts.{IsDatedIn}
 use Rattle.crs_model.proofs.Beginning.{count_sifted}
 use Rattle.crs_watch.specs.Known.{AreTold}
-use Rattle.crs_watch.proofs.Counting.{count_iff, count_left}
+use Rattle.crs_watch.proofs.Counting.{count_iff, count_left, counts_to}
 use Rattle.crs_watch.proofs.Telling.{have_told}
 use Rattle.crs_watch.proofs.beginning.count_over.Goals as goal
 
@@ -31,6 +31,8 @@ returns c = λ small low settled stands.
     let fits2 : SFits w64 g.to = search rules in
     let found : Finds L g.from g.to settled range = simp to_z-of_z at (c.find-found.ensures.stands (simp to_z-of_z low) settled stands) in
     let like : (e : Entry Sym) → PatternIs look p e → L e = λ e q. record { named = sym q.name; has = have_told look look p.terms known e.args told (λ v s is. is) q.terms } in
-    count_sifted (λ e. IsDatedIn g.from g.to e × PatternIs look p e) (IsBetween g.from g.to) (λ e d. record { since = (d.0).0; before = (d.0).1 }) settled found.0 c.count_of.result found.1
-    (count_left (λ e. IsDatedIn g.from g.to e × PatternIs look p e) L found.0 range c.count_of.result (λ e q. like e q.1) found.2
-    (count_iff (PatternIs look p) (λ e. IsDatedIn g.from g.to e × PatternIs look p e) range c.count_of.result (λ e i q. let m = (of_found L g.from g.to settled range found e i).1 in ((m.since, m.before), q)) (λ e i q. q.1) (c.count_of.ensures (omega arith))))
+    counts_to (PatternIs look p) (λ e. IsDatedIn g.from g.to e × PatternIs look p e) range settled c.args.most c.count_of.result
+    (λ n k. count_sifted (λ e. IsDatedIn g.from g.to e × PatternIs look p e) (IsBetween g.from g.to) (λ e d. record { since = (d.0).0; before = (d.0).1 }) settled found.0 n found.1
+    (count_left (λ e. IsDatedIn g.from g.to e × PatternIs look p e) L found.0 range n (λ e q. like e q.1) found.2
+    (count_iff (PatternIs look p) (λ e. IsDatedIn g.from g.to e × PatternIs look p e) range n (λ e i q. let m = (of_found L g.from g.to settled range found e i).1 in ((m.since, m.before), q)) (λ e i q. q.1) k)))
+    (c.count_of.ensures (omega arith))
