@@ -15,7 +15,7 @@ pub mod Keying
 pub mod Finding
 pub mod Older
 pub mod Trying
-pub mod RowEdits
+pub mod ToldEdits
 pub mod TrackEdits
 pub mod HeldSteps
 pub mod Stepping

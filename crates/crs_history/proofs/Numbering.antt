@@ -1,5 +1,6 @@
 -- Numbers of lists of symbols: no two lists have the same.
-use Rattle.std.proofs.Common.{◌≡◌, ◌⊎◌, ℕ, ◌≤◌, ◌<◌, ◌+◌, Bool, true, false, cond, List, [], ◌∷◌, length, suc, Option, Some, None, refl, sym, ap, subst, ◌∙◌, inl, inr, arith}
+use Rattle.std.proofs.Common.{◌≡◌, ◌⊎◌, ℕ, ◌≤◌, ◌<◌, ◌+◌, Bool, true, false, cond, List, [], ◌∷◌, ◌++◌, length, drop, get_or, drop-cons, add-one, suc, unwrap_or, Option, Some, None, refl, sym, ap, subst, ◌∙◌, inl, inr, arith}
+use Rattle.std.specs.Prelude.{is_some}
 use Rattle.std.specs.Ordering.{nat_cmp, is_eq}
 use Rattle.std.specs.declared.cmp.Ordering.{Ordering}
 use Rattle.std.specs.declared.cmp.Ordering.TheVariants.{Less, Equal, Greater}
@@ -182,8 +183,60 @@ module _ (old new : Steps) (ok : IsNumbering old) (n : ℕ) (s : Sym) (from : n 
     ];
   }
 
+-- one step written: that which was there, or where none was, one to a number that none led to
+module _ (old new : Steps) (ok : IsNumbering old) (n : ℕ) (s : Sym) (from : n ≤ count_of old) (w : ℕ)
+    (sets : (i : ℕ) (t : Sym) → step_of new i t ≡ cond (is_at (step_cmp (record { from = n; symbol = s.0 })) (record { from = i; symbol = t.0 })) (Some w) (step_of old i t)) where
+  stays : (i : ℕ) (t : Sym) → step_of old n s ≡ Some w → (b : Bool) → is_at (step_cmp (record { from = n; symbol = s.0 })) (record { from = i; symbol = t.0 }) ≡ b → cond b (Some w) (step_of old i t) ≡ step_of old i t
+  stays i t h true e =
+      let x = step_exact (record { from = n; symbol = s.0 }) (record { from = i; symbol = t.0 }) e in
+      sym h ∙ ap (λ j. step_of old j s) x.0 ∙ ap (λ u. step_of old i u) (sym_of s t x.1)
+  stays i t h false e = refl
+
+  same : step_of old n s ≡ Some w → (i : ℕ) (t : Sym) → step_of new i t ≡ step_of old i t
+  same h i t = sets i t ∙ stays i t h _ refl
+
+  pub step_grows : (o : Option ℕ) → step_of old n s ≡ o → w ≡ unwrap_or o (count_of old + 1) → count_of new ≡ count_of old + (cond (is_some o) 0 1) → Grows old new
+  step_grows None e is count =
+      step_added old new ok n s from e count (λ i t. sets i t ∙ ap (λ v. cond (is_at (step_cmp (record { from = n; symbol = s.0 })) (record { from = i; symbol = t.0 })) (Some v) (step_of old i t)) is)
+  step_grows (Some k) e is count =
+      let h : step_of old n s ≡ Some w = e ∙ ap Some (sym is) in
+      record {
+        more = omega arith;
+        kept = λ i j t l. same h i t ∙ l;
+        fresh = λ i j t l. inl (sym (same h i t) ∙ l);
+      }
+
+  pub step_numbers : (o : Option ℕ) → step_of old n s ≡ o → w ≡ unwrap_or o (count_of old + 1) → count_of new ≡ count_of old + (cond (is_some o) 0 1) → IsNumbering new
+  step_numbers None e is count =
+      step_numbering old new ok n s from e count (λ i t. sets i t ∙ ap (λ v. cond (is_at (step_cmp (record { from = n; symbol = s.0 })) (record { from = i; symbol = t.0 })) (Some v) (step_of old i t)) is)
+  step_numbers (Some k) e is count =
+      let h : step_of old n s ≡ Some w = e ∙ ap Some (sym is) in
+      record {
+        ascends = λ i j t l. ok.ascends i j t (sym (same h i t) ∙ l);
+        within = λ i j t l. (let u = ok.within i j t (sym (same h i t) ∙ l) in omega arith);
+        once = λ i j k t u l r. ok.once i j k t u (sym (same h i t) ∙ l) (sym (same h j u) ∙ r);
+      }
+
 -- one symbol and then the others
 pub number_joined : (m : Steps) (n j k : ℕ) (s : Sym) (ss : List Sym) → number_from m n (s ∷ []) ≡ Some j → number_from m j ss ≡ Some k → number_from m n (s ∷ ss) ≡ Some k
 number_joined m n j k s ss one rest =
     let p = led_some (step_of m n s) (λ i. number_from m i []) j one in
     ap (λ o. led o (λ i. number_from m i ss)) p.1 ∙ ap (λ i. number_from m i ss) (some_is p.0 j p.2) ∙ rest
+
+-- a list from its place i on: its first symbol leads to where the others go on
+module _ (m : Steps) (ss : List Sym) (i : ℕ) (d : Sym) (inside : i < length ss) (n : ℕ) where
+  first_led : number_from m n (drop i ss) ≡ led (step_of m n (get_or ss i d)) (λ k. number_from m k (drop (i + 1) ss))
+  first_led = rw (add-one, drop-cons ss i d inside) refl
+
+  pub number_on : (k : ℕ) → step_of m n (get_or ss i d) ≡ Some k → number_from m k (drop (i + 1) ss) ≡ number_from m n (drop i ss)
+  number_on k h = sym (first_led ∙ ap (λ o. led o (λ j. number_from m j (drop (i + 1) ss))) h)
+
+  pub number_off : step_of m n (get_or ss i d) ≡ None → number_from m n (drop i ss) ≡ None
+  number_off h = first_led ∙ ap (λ o. led o (λ j. number_from m j (drop (i + 1) ss))) h
+
+-- one more symbol at the end
+pub number_put : (m : Steps) (ss : List Sym) (n j k : ℕ) (s : Sym) → number_from m n ss ≡ Some j → step_of m j s ≡ Some k → number_from m n (ss ++ s ∷ []) ≡ Some k
+number_put m [] n j k s h e = ap (λ o. led o (λ i. number_from m i [])) (ap (λ i. step_of m i s) (some_is n j h) ∙ e)
+number_put m (t ∷ ss) n j k s h e =
+    let p = led_some (step_of m n t) (λ i. number_from m i ss) j h in
+    ap (λ o. led o (λ i. number_from m i (ss ++ s ∷ []))) p.1 ∙ number_put m ss p.0 j k s p.2 e

@@ -3,7 +3,8 @@ pub mod Dates
 pub mod Looking
 pub mod Lanes
 pub mod ListNumbers
-pub mod Rows
+pub mod Told
+pub mod Shortcuts
 pub mod Tracks
 pub mod Dropping
 pub mod Older

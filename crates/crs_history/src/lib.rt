@@ -11,8 +11,9 @@ mod numbered;
 mod numbers;
 mod range;
 mod reading;
-mod rows;
+mod shortcuts;
 mod stretch;
+mod told;
 mod track;
 mod tracks;
 

@@ -5,12 +5,12 @@ ghost use Rattle.crs_base.specs.Seen.{entry_of};
 ghost use Rattle.crs_base.specs.Values.{Attribute};
 ghost use Rattle.crs_history.specs.Histories.{attribute_of};
 ghost use Rattle.crs_history.specs.ListNumbers.{IsNumbering, Grows};
-ghost use Rattle.crs_history.specs.Rows.{has_row, named, told_of, AreRowsOf, TellsOnly};
+ghost use Rattle.crs_history.specs.Shortcuts.{AreRight};
 ghost use Rattle.crs_history.specs.Tracks.{number_of, track_of, AreOwned, AreSame, IsTrackSetTo, TakesFirst, BeginsSince};
 
 use crate::numbered::Numbered;
-use crate::numbers::{Step, add_from, number_from};
-use crate::rows::Rows;
+use crate::numbers::Step;
+use crate::shortcuts::Shortcuts;
 use crate::stretch::Stretch;
 use crs_base::{Entry, Sym, SymList};
 use std::alloc::{AllocError, Global};
@@ -19,19 +19,19 @@ use std::marker::Model;
 use std::rc::Rc;
 
 /// Queues of changes by attribute. An attribute's number is that of its name and arguments as a
-/// list of symbols: a tree of steps, so that what a log holds can't make a look-up slow. The rows before it
-/// tell the numbers of most attributes with one argument.
+/// list of symbols: a tree of steps, so that what a log holds can't make a look-up slow. Most are found by
+/// the shortcuts before it.
 #[derive(Drop)]
 pub(crate) struct Tracks {
     steps: BTreeMap<Step, usize>,
-    rows: Rows,
+    shortcuts: Shortcuts,
     lanes: Numbered,
 }
 
 impl Model for Tracks {
     ghost use Rattle.std.specs.Coded.{codes};
     ghost use Rattle.crs_history.specs.contracts.numbers.Step as step;
-    ghost use Rattle.crs_history.specs.Rows.{AreRowsOf};
+    ghost use Rattle.crs_history.specs.Shortcuts.{AreRight};
     ghost use Rattle.crs_history.specs.Tracks.{TracksState, AreTracks};
 
     ghost Value = { TracksState };
@@ -40,76 +40,52 @@ impl Model for Tracks {
 
     ghost view = { λ t. record { steps = t.steps.entries; lanes = t.lanes } };
 
-    ghost invariant = { λ t. AreTracks (record { steps = t.steps.entries; lanes = t.lanes }) × AreRowsOf t.rows t.steps.entries };
+    ghost invariant = { λ t. AreTracks (record { steps = t.steps.entries; lanes = t.lanes }) × AreRight t.steps.entries t.shortcuts };
 }
 
-/// The number that the steps give an attribute.
-fn number_by_steps(steps: &BTreeMap<Step, usize>, name: Sym, args: &SymList) -> Option<usize>
-    ensures { result ≡ number_of steps.now.entries (record { name = name; args = args.now }) }
-{
-    let number = number_from(steps, 0, &[name])?;
-    number_from(steps, number, args.as_slice())
-}
-
-/// The number that the rows tell of an attribute, which they do only where it has one argument.
+/// The number that the steps give an attribute: one look where it has one argument, as most have.
 #[inline(always)]
-fn number_in_rows(rows: &Rows, name: Sym, args: &[Sym]) -> Option<usize>
-    ensures { result ≡ told_of rows.now (record { name = name; args = args.now }) }
-{
-    match args {
-        [argument] => rows.get(name, *argument),
-        _ => None,
-    }
-}
-
-/// The number of an attribute by the steps, with new ones where some are wanting.
-fn add_number(
-    steps: &mut BTreeMap<Step, usize>,
+fn number_by_steps(
+    steps: &BTreeMap<Step, usize>,
+    shortcuts: &Shortcuts,
     name: Sym,
     args: &[Sym],
-) -> Result<usize, AllocError>
-    requires { IsNumbering steps.old.entries }
-    ensures numbering { IsNumbering steps.new.entries }
-    ensures grows { Grows steps.old.entries steps.new.entries }
-    ensures ok { IfOk result (λ n. number_of steps.new.entries (record { name = name; args = args.now }) ≡ Some n) }
+) -> Option<usize>
+    requires { AreRight steps.now.entries shortcuts.now }
+    ensures { result ≡ number_of steps.now.entries (record { name = name; args = args.now }) }
 {
-    let named = add_from(steps, 0, &[name])?;
-    add_from(steps, named, args)
-}
-
-/// Tells the rows the number of an attribute, where they have a place for it.
-fn tell(rows: &mut Rows, name: Sym, args: &[Sym], number: usize) -> Result<(), AllocError>
-    ensures told { has_row (record { name = name; args = args.now }) ≡ true → OnOk result (told_of rows.new (record { name = name; args = args.now }) ≡ named number) }
-    ensures only { TellsOnly rows.old (record { name = name; args = args.now }) number rows.new }
-{
-    match args {
-        [argument] => rows.set(name, *argument, number),
-        _ => Ok(()),
+    let Some((first, rest)) = args.split_first() else {
+        return shortcuts.number_from(steps, 0, &[name]);
+    };
+    let number = shortcuts.number_of_pair(steps, name, *first)?;
+    if rest.is_empty() {
+        return Some(number);
     }
+    shortcuts.number_from(steps, number, rest)
 }
 
-/// The number of an attribute, which is a new one where it had none. Rows that have a place for it tell it
-/// from then on.
+/// The number of an attribute, which is a new one where it had none.
 fn number_for(
     steps: &mut BTreeMap<Step, usize>,
-    rows: &mut Rows,
+    shortcuts: &mut Shortcuts,
     name: Sym,
     args: &[Sym],
 ) -> Result<usize, AllocError>
     requires numbering { IsNumbering steps.old.entries }
-    requires rows { AreRowsOf rows.old steps.old.entries }
+    requires right { AreRight steps.old.entries shortcuts.old }
     ensures numbering { IsNumbering steps.new.entries }
     ensures grows { Grows steps.old.entries steps.new.entries }
-    ensures rows { AreRowsOf rows.new steps.new.entries }
+    ensures right { AreRight steps.new.entries shortcuts.new }
     ensures ok { IfOk result (λ n. number_of steps.new.entries (record { name = name; args = args.now }) ≡ Some n) }
-    ensures told { has_row (record { name = name; args = args.now }) ≡ true → IfOk result (λ n. told_of rows.new (record { name = name; args = args.now }) ≡ Some n) }
 {
-    if let Some(number) = number_in_rows(rows, name, args) {
+    let Some((first, rest)) = args.split_first() else {
+        return shortcuts.add_from(steps, 0, &[name]);
+    };
+    let number = shortcuts.add_pair(steps, name, *first)?;
+    if rest.is_empty() {
         return Ok(number);
     }
-    let number = add_number(steps, name, args)?;
-    tell(rows, name, args, number)?;
-    Ok(number)
+    shortcuts.add_from(steps, number, rest)
 }
 
 impl Tracks {
@@ -120,19 +96,17 @@ impl Tracks {
     {
         Tracks {
             steps: BTreeMap::new(alloc),
-            rows: Rows::new(alloc),
+            shortcuts: Shortcuts::new(alloc),
             lanes: Numbered::new(alloc),
         }
     }
 
     /// The number of an attribute that has one.
+    #[inline(always)]
     fn number_of(&self, name: Sym, args: &SymList) -> Option<usize>
         ensures { result ≡ number_of self.now.steps (record { name = name; args = args.now }) }
     {
-        match number_in_rows(&self.rows, name, args.as_slice()) {
-            Some(number) => Some(number),
-            None => number_by_steps(&self.steps, name, args),
-        }
+        number_by_steps(&self.steps, &self.shortcuts, name, args.as_slice())
     }
 
     /// The changes of an attribute.
@@ -153,7 +127,7 @@ impl Tracks {
     {
         let number = number_for(
             &mut self.steps,
-            &mut self.rows,
+            &mut self.shortcuts,
             entry.name,
             entry.args.as_slice(),
         )?;

@@ -35,7 +35,7 @@ invariant_of-self-2 c =
       by_result c.push.result c.push.ensures.ok c.push.ensures.err
           (λ put. tracks_put new lanes c.push.new.self kept a k numbered (lane_of lanes k ++ e ∷ []) put (of_pushed (record { steps = new; lanes = lanes }) kept e k numbered))
           (λ alike. tracks_more old new lanes c.push.new.self c.self.invariant.0 c.number_for.ensures.grows c.number_for.ensures.numbering alike),
-      c.number_for.ensures.rows,
+      c.number_for.ensures.right,
     )
 
 pub returns-clause-ok : goal.returns-clause-ok
@@ -73,7 +73,7 @@ returns-clause-err c =
 pub invariant_of-self : goal.invariant_of-self
 invariant_of-self c =
     let lanes = c.self.inside.lanes in
-    (tracks_more c.self.inside.steps.entries c.number_for.new.steps.entries lanes lanes c.self.invariant.0 c.number_for.ensures.grows c.number_for.ensures.numbering (λ n. refl), c.number_for.ensures.rows)
+    (tracks_more c.self.inside.steps.entries c.number_for.new.steps.entries lanes lanes c.self.invariant.0 c.number_for.ensures.grows c.number_for.ensures.numbering (λ n. refl), c.number_for.ensures.right)
 
 pub returns-in_err-number-clause-owned : goal.returns-in_err-number-clause-owned
 returns-in_err-number-clause-owned c = (invariant_of-self c).0.owned
