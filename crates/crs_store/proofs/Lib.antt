@@ -38,5 +38,6 @@ pub mod Held
 pub mod Assembled
 pub mod Born
 pub mod Births
+pub mod Named
 pub mod Passing
 pub mod Choosing

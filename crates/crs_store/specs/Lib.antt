@@ -7,6 +7,7 @@ pub mod JudgedWindows
 pub mod Hooks
 pub mod Slots
 pub mod Links
+pub mod Named
 pub mod Refusing
 pub mod Sweeps
 pub mod Judgings

@@ -18,9 +18,13 @@ pub(crate) struct Chart<'a> {
 }
 
 impl<'a> Model for Chart<'a> {
+    ghost use Rattle.std.specs.Coded.{codes};
+    ghost use Rattle.crs_store.specs.contracts.waiting.hooks.Hooks as hooks_struct;
     ghost use Rattle.crs_store.specs.Charts.{ChartState, IsChart};
 
     ghost Value = { ChartState };
+
+    ghost coded = { Prim.hlevel (codes, hooks_struct.the_row.coded) };
 
     ghost view = { λ c. record { plan = c.plan.now; hooks = c.hooks.now; focus = c.focus } };
 

@@ -427,10 +427,10 @@ fn forks_of_event<L: Ledger>(
     forks_at(arrival, slots, places, sought.event, steps, out)
 }
 
-/// What the event looks for. The loop over all events lends the hooks once: by the chart, which looks them
-/// up at each, it takes half a percent more of the drill.
+/// What the event looks for. The loop over the events lends the hooks once: by the chart, which looks them
+/// up at each, it takes 0.8 % more of the drill.
 #[inline(always)]
-fn hook_of(hooks: &[Hook], event: u8) -> &Hook
+fn event_hook_in(hooks: &[Hook], event: u8) -> &Hook
     requires { event < length hooks.now }
     ensures { result.now ≡ hook_at hooks.now event }
 {
@@ -438,7 +438,8 @@ fn hook_of(hooks: &[Hook], event: u8) -> &Hook
 }
 
 /// Fills `out` with what comes of all instances where one of their awaited events is bound to the
-/// entry, judged at the date `until`.
+/// entry, judged at the date `until`. Only events that look for the entry's name are tried, one after
+/// another: a loop over all took 1.5 % more of the drill, whose larger chronicle has eight.
 #[inline(always)]
 pub(crate) fn forks<L: Ledger>(
     arrival: &Arrival<'_>,
@@ -458,14 +459,12 @@ pub(crate) fn forks<L: Ledger>(
 {
     out.instances.clear();
     let hooks = arrival.hooks.events.as_slice();
-    let name = arrival.entry.name;
-    for event in 0..arrival.plan.chronicle.events.len() as u8 {
-        let hook = hook_of(hooks, event);
-        if hook.name != name {
-            continue;
-        }
+    let mut event = arrival.hooks.first_of(arrival.entry.name);
+    while (event as usize) < hooks.len() {
+        let hook = event_hook_in(hooks, event);
         let sought = Sought { event, hook };
         forks_of_event(arrival, sought, slots, waiting, steps, places, out)?;
+        event = arrival.hooks.next_of(event);
     }
     Ok(())
 }

@@ -1,7 +1,8 @@
-use Rattle.std.proofs.Common.{length, ◌≡◌, ◌≤◌, ◌+◌, ◌*◌, false}
+use Rattle.std.proofs.Common.{length, ◌≡◌, ◌<◌, ◌≤◌, ◌+◌, ◌-◌, ◌*◌, false}
 use Rattle.crs_base.specs.Seen.{entry_of}
 use Rattle.crs_store.specs.Forkings.{KeepsStanding}
 use Rattle.crs_store.specs.Hooks.{KeepsFresh}
+use Rattle.crs_store.specs.Links.{hook_at}
 use Rattle.crs_store.specs.Orders.{IsOvertaken}
 use Rattle.crs_store.specs.Slots.{members}
 use Rattle.crs_store.proofs.Births.{BringsGathered}
@@ -13,4 +14,9 @@ invariant-loop-event g l = record {
   fresh : KeepsFresh l.slots.serials l.fn.waiting l.waiting;
   standing : KeepsStanding l.slots l.fn.waiting l.waiting;
   cost : l.arrival.focus ≡ false → l.steps ≤ l.fn.steps + l.event * (2 * length (members l.slots.slots));
+  within : l.event ≤ length l.arrival.hooks.now.events.items;
+  named : l.event < length l.arrival.hooks.now.events.items → (hook_at l.arrival.hooks.now.events.items l.event).name.0 ≡ (entry_of l.arrival.entry.now.value).name.0;
 }
+
+abbrev pub decreases-loop-event : goal.decreases-loop-event
+decreases-loop-event g l = length l.arrival.hooks.now.events.items - l.event
