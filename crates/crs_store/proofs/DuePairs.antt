@@ -28,7 +28,7 @@ use Rattle.crs_instance.specs.Followed.{IsStretchAt}
 use Rattle.crs_instance.specs.CurrentLevel.{IsCurrentLevel}
 use Rattle.crs_model.specs.Partial.{Partial}
 use Rattle.crs_store.specs.PlanLevels.{levels_in, IsLastOf, IsLastDate}
-use Rattle.crs_store.specs.Dues.{IsStart, IsNearing, IsDueFor, IsFirstOf, IsUndue, StandsAtEach, AreDue, AreKept, AreCollected, HasPlaces}
+use Rattle.crs_store.specs.Dues.{IsStart, IsDueFor, IsFirstOf, IsUndue, StandsAtEach, StandsAround, AreDue, AreKept, AreCollected, HasPlaces}
 use Rattle.crs_store.specs.Windows.{IsSameInstance}
 use Rattle.crs_store.proofs.Ascending.{moved_in}
 use Rattle.crs_store.proofs.Progress.{stretch_of}
@@ -94,23 +94,34 @@ module _ (plan : Plan) (i : InstanceState) (handle : Handle) (since : ℕ) where
   pub still_in : (Is : ℕ → Type 0) (old new : List Timed) → AreKept old new → StandsAtEach Is handle since old → StandsAtEach Is handle since new
   still_in Is old new kept put t s l m = kept _ (put t s l m)
 
-  pub window_put : (k : ℕ) (w : Window Sym) → slice_get (chronicle plan).windows k ≡ Some w → (s : Stretch) (o : Option Stretch) → o ≡ Some s → IsStretchAt plan i k o → (first mid new : List Timed)
-      → StandsAtEach (IsNearing s.from s.to) handle since first → AreKept first mid → StandsAtEach (IsStart w.body s.from s.to) handle since mid → AreKept mid new → StandsAtEach (λ t. (pos t +ℤ pos 1) ≡ s.to) handle since new → StandsAtEach (IsDueFor plan i k) handle since new
-  window_put k w is s o e h first mid new nears more starts kept ends t due l m =
+  pub window_put : (k : ℕ) (w : Window Sym) → slice_get (chronicle plan).windows k ≡ Some w → (s : Stretch) (o : Option Stretch) → o ≡ Some s → IsStretchAt plan i k o → (new : List Timed)
+      → StandsAround s handle since new → StandsAtEach (IsStart w.body s.from s.to) handle since new → StandsAtEach (IsDueFor plan i k) handle since new
+  window_put k w is s o e h new around starts t due l m =
       let st = stretch_of plan k w is i s o e h in
       let r = of_and (slice_get (chronicle plan).windows k) w _ is due in
       let same = same_stretch i.partial i.partial w s.from s.to r.0 r.1 (λ f x j. j) st.0 r.2 in
       elim r.4 [
-        | inl a ↦ ends t (a ∙ sym same.1) l m
+        | inl a ↦ around.last t (a ∙ sym same.1) l m
         | inr b ↦ elim b [
-          | inl b ↦ kept _ (starts t (subst (λ (z : ℤ). IsStart w.body z s.to t) (sym same.0) (subst (λ (z : ℤ). IsStart w.body r.0 z t) (sym same.1) b)) l m)
-          | inr b ↦ kept _ (more _ (nears t (subst (λ (z : ℤ). IsNearing z s.to t) (sym same.0) (subst (λ (z : ℤ). IsNearing r.0 z t) (sym same.1) b)) l m))
+          | inl b ↦ starts t (subst (λ (z : ℤ). IsStart w.body z s.to t) (sym same.0) (subst (λ (z : ℤ). IsStart w.body r.0 z t) (sym same.1) b)) l m
+          | inr b ↦ around.near t (b.1 ∙ sym same.0) l m
         ]
       ]
     where
       of_and : {A : Type 0} (o : Option A) (x : A) (P : A → Type 0) → o ≡ Some x → IsSomeAnd o P → P x
       of_and None x P e h = absurd h
       of_and {A} (Some y) x P e h = let q : y ≡ x = cc in subst P q h
+
+  -- of a window: two dates before it begins, at its end, and all stays between
+  pub around : (s : Stretch) (first mid new : List Timed) → StandsAtEach (λ t. (pos t +ℤ pos 2) ≡ s.from) handle since first → AreKept first mid → AreKept mid new → StandsAtEach (λ t. (pos t +ℤ pos 1) ≡ s.to) handle since new → StandsAround s handle since new
+  around s first mid new near kept more last = record { near = λ t e l m. more _ (kept _ (near t e l m)); last = last }
+
+  -- around a stretch that begins and ends at 0 there is no date
+  pub around_none : (s : Stretch) → s.from ≡ pos 0 → s.to ≡ pos 0 → (pairs : List Timed) → StandsAround s handle since pairs
+  around_none s from to pairs = record { near = λ t e l m. absurd (never 2 t s.from (omega arith) e from); last = λ t e l m. absurd (never 1 t s.to (omega arith) e to) }
+    where
+      never : (n t : ℕ) (z : ℤ) → 0 < n → (pos t +ℤ pos n) ≡ z → z ≡ pos 0 → ⊥
+      never n t z some e f = omega (arith, ints)
 
 module _ (plan : Plan) (focus : Bool) (i : InstanceState) (handle : Handle) (since : ℕ) where
   -- the pairs of the events below n are in, and the others stay
@@ -137,8 +148,8 @@ module _ (plan : Plan) (focus : Bool) (i : InstanceState) (handle : Handle) (sin
     pub kept : AreKept old.pairs new.pairs
     pub stood : new.date ≡ old.date
 
-  pub put_start_of : (old mid new : Schedule) → StandsAtEach (IsLastDate plan focus i) handle since mid.pairs → ((e : ℕ) → StandsAtEach (IsFirstOf plan focus i e) handle since new.pairs) → AreKept old.pairs mid.pairs → AreKept mid.pairs new.pairs → new.date ≡ old.date → ArePutTo 0 old new
-  put_start_of old mid new ends firsts kept more stood = record { deadline = still_in plan i handle since _ mid.pairs new.pairs more ends; firsts = firsts; below = λ k l. absurd (omega arith); kept = λ t j. more t (kept t j); stood = stood }
+  pub put_start_of : (old new : Schedule) → StandsAtEach (IsLastDate plan focus i) handle since new.pairs → ((e : ℕ) → StandsAtEach (IsFirstOf plan focus i e) handle since new.pairs) → AreKept old.pairs new.pairs → new.date ≡ old.date → ArePutTo 0 old new
+  put_start_of old new ends firsts kept stood = record { deadline = ends; firsts = firsts; below = λ k l. absurd (omega arith); kept = kept; stood = stood }
 
   pub put_next : (n : ℕ) (old mid new : Schedule) → ArePutTo n old mid → StandsAtEach (IsDueFor plan i n) handle since new.pairs → AreKept mid.pairs new.pairs → new.date ≡ mid.date → ArePutTo (n + 1) old new
   put_next n old mid new p here kept stood = record {

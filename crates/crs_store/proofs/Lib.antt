@@ -35,6 +35,7 @@ pub mod Linked
 pub mod Registering
 pub mod Settling
 pub mod Held
+pub mod Quiet
 pub mod Assembled
 pub mod Born
 pub mod Births

@@ -7,6 +7,7 @@ use Rattle.crs_agenda.specs.declared.timed.Handle.{Handle}
 use Rattle.crs_agenda.specs.declared.timed.Timed.{Timed}
 use Rattle.crs_agenda.specs.Freshness.{is_fresh_pair}
 use Rattle.crs_model.specs.declared.plan.Plan.{Plan}
+use Rattle.crs_model.specs.declared.progress.Stretch.{Stretch}
 use Rattle.crs_model.specs.Models.{Body, NoEvent, Occurs, Hold}
 use Rattle.crs_model.specs.Bindings.{look_of}
 use Rattle.crs_model.specs.Plans.{chronicle}
@@ -59,6 +60,11 @@ AreEnded plan i d = (k : ℕ) → IfSome (slice_get (chronicle plan).windows k) 
 -- the handle stands among the pairs at each such date from d on that is before 2^42
 abbrev pub StandsAtEach : (ℕ → Type 0) → Handle → ℕ → List Timed → Type 0
 StandsAtEach Is handle d pairs = (t : ℕ) → Is t → d ≤ t → t < 2 ^ 42 → IsIn (record { date = t; handle = handle }) pairs
+
+-- it stands at the date two before the stretch begins, and at the one before its end
+pub record StandsAround (stretch : Stretch) (handle : Handle) (d : ℕ) (pairs : List Timed) : Type 0 where
+  pub near : StandsAtEach (λ t. (pos t +ℤ pos 2) ≡ stretch.from) handle d pairs
+  pub last : StandsAtEach (λ t. (pos t +ℤ pos 1) ≡ stretch.to) handle d pairs
 
 -- it stands there at each such due date of the instance
 abbrev pub AreDue : Plan → Bool → InstanceState → Handle → ℕ → List Timed → Type 0

@@ -57,12 +57,29 @@ fn number_all(found: &mut [Recognition], chronicle: u32, mark: Mark)
     }
 }
 
-/// The recognitions of a mark: what was kept, which gets the number and the mark, and what left its
-/// place. Neither is copied where there is nothing of the other kind.
+/// The recognitions of a mark for which some were kept: these, which get the number and the mark, and
+/// what left its place.
 #[inline(never)]
-pub(crate) fn answered(
+fn joined(
     found: &mut Vec<Recognition>,
     mut ripe: Vec<Recognition>,
+    to: &Horizon<'_>,
+) -> Result<Vec<Recognition>, AllocError>
+    ensures none { found.new.items ≡ [] }
+    ensures all { IfOk result (λ v. v.items ≡ map (numbered to.now.number to.now.mark) found.old.items ++ ripe.items) }
+{
+    let mut all = mem::replace(found, Vec::new(to.alloc));
+    number_all(&mut all, to.number, to.mark);
+    all.append(&mut ripe)?;
+    Ok(all)
+}
+
+/// The recognitions of a mark: what was kept, which gets the number and the mark, and what left its
+/// place. Neither is copied where there is nothing of the other kind.
+#[inline(always)]
+pub(crate) fn answered(
+    found: &mut Vec<Recognition>,
+    ripe: Vec<Recognition>,
     to: &Horizon<'_>,
 ) -> Result<Vec<Recognition>, AllocError>
     ensures none { found.new.items ≡ [] }
@@ -71,8 +88,5 @@ pub(crate) fn answered(
     if found.is_empty() {
         return Ok(ripe);
     }
-    let mut all = mem::replace(found, Vec::new(to.alloc));
-    number_all(&mut all, to.number, to.mark);
-    all.append(&mut ripe)?;
-    Ok(all)
+    joined(found, ripe, to)
 }

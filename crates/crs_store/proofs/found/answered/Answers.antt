@@ -1,14 +1,9 @@
-use Rattle.std.proofs.Common.{rules, vec_len, Global, ℕ, ◌≡◌, List, ◌++◌, length, map, take, drop, append-nil, sym, ap, ◌∙◌, arith}
-use Rattle.std.specs.declared.vec.Vec.{Vec}
+use Rattle.std.proofs.Common.{rules, vec_len, ◌≡◌, List, ◌++◌, length, map, sym, ap, ◌∙◌}
 use Rattle.std.proofs.lemmas.Bool.{eqb-true}
-use Rattle.std.proofs.lemmas.List.{drop_all, length-map, nil_from_length, take_all}
+use Rattle.std.proofs.lemmas.List.{nil_from_length}
 use Rattle.crs_model.specs.declared.recognition.Recognition.{Recognition}
 use Rattle.crs_store.specs.Found.{numbered}
 use Rattle.crs_store.proofs.found.answered.Goals as goal
-
--- what is written through a slice of it
-written_back : (n : ℕ) (xs ys : List Recognition) → n ≡ length ys → length xs ≡ length ys → take n (xs ++ drop (length xs) ys) ≡ xs
-written_back n xs ys e l = ap (λ (t : List Recognition). take n (xs ++ t)) (drop_all (length xs) ys (omega arith)) ∙ ap (take n) (append-nil xs) ∙ take_all n xs (omega arith)
 
 pub returns-then-is_empty-clause-none : goal.returns-then-is_empty-clause-none
 returns-then-is_empty-clause-none c =
@@ -17,13 +12,3 @@ returns-then-is_empty-clause-none c =
 
 pub returns-then-is_empty-clause-all : goal.returns-then-is_empty-clause-all
 returns-then-is_empty-clause-all c = sym (ap (λ (xs : List Recognition). map (numbered c.args.to.now.number c.args.to.now.mark) xs ++ c.args.ripe.items) (returns-then-is_empty-clause-none c))
-
-pub returns-clause-all : goal.returns-clause-all
-returns-clause-all c =
-    let number = c.args.to.now.number in
-    let mark = c.args.to.now.mark in
-    let rs = c.args.found.now.items in
-    let were : c.deref_mut.result.now ≡ rs = c.deref_mut.ensures.value ∙ ap (λ (v : Vec Recognition Global). v.items) c.replace-all.ensures.value in
-    let told : c.number_all.new.found ≡ map (numbered number mark) rs = c.number_all.ensures ∙ ap (map (numbered number mark)) were in
-    let back = written_back c.replace-all.result.len c.number_all.new.found c.replace-all.result.items c.replace-all.result.ok.0 (ap length told ∙ length-map rs (numbered number mark) ∙ ap length (sym (ap (λ (v : Vec Recognition Global). v.items) c.replace-all.ensures.value))) in
-    (c.in_ok-append.ensures {u = tt}).items ∙ ap (λ (xs : List Recognition). xs ++ c.args.ripe.items) (back ∙ told)

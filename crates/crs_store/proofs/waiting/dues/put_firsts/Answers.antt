@@ -1,6 +1,4 @@
-use Rattle.std.proofs.Common.{rules, ◌∙◌, sym}
-use Rattle.crs_store.specs.PlanLevels.{levels_in}
-use Rattle.crs_store.proofs.Awaiting.{whole_awaits_none}
+use Rattle.std.proofs.Common.{rules}
 use Rattle.crs_store.proofs.DuePairs.{firsts_next, all_firsts}
 use Rattle.crs_store.proofs.waiting.dues.put_firsts.Goals as goal
 
@@ -13,6 +11,3 @@ returns-clause-put c = all_firsts c.args.chart.now.plan c.args.chart.now.focus c
 
 pub returns-in_err-put_first-clause-kept : goal.returns-in_err-put_first-clause-kept
 returns-in_err-put_first-clause-kept c = λ t i. c.put_first.ensures.kept t (c.loop-event.invariant.kept t i)
-
-pub returns-then-is_whole-clause-put : goal.returns-then-is_whole-clause-put
-returns-then-is_whole-clause-put c = λ e t first since small. absurd (whole_awaits_none (levels_in c.args.chart.now.plan c.args.chart.now.focus) c.args.instance.now.partial (sym c.is_whole.ensures ∙ c.if-is_whole.true) e first.1)
