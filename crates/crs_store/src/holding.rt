@@ -154,7 +154,8 @@ pub(crate) fn hold(
 }
 
 /// Adds an instance, which was judged at `h`, unless levels aren't read and the entries ahead leave
-/// it no hope.
+/// it no hope. As a call of its own it takes half a percent more of all loads but a burst.
+#[inline(always)]
 fn hold_hopeful(
     holding: &mut Holding,
     chart: &Chart<'_>,
