@@ -19,7 +19,7 @@ use Rattle.crs_store.specs.Slots.{members}
 use Rattle.crs_store.specs.Tidy.{IsTidyHolding}
 use Rattle.crs_store.specs.Windows.{Gains, IsAble, IsPassed, IsSameInstance}
 use Rattle.crs_store.proofs.Held.{all_renew, all_tidy, settles_none, stays_passed, undue_there, walks_none}
-use Rattle.crs_store.proofs.Ripened.{AreNamed, all_found, all_left, left_sifts, taken_none}
+use Rattle.crs_store.proofs.Ripened.{AreAmongRipe, all_found, all_left, left_sifts, taken_none}
 
 -- where nothing waits for a date
 pub none_due : (h : ℕ) (pairs : List Timed) → pairs ≡ [] → All (λ t. h ≤ t.date) pairs
@@ -42,7 +42,7 @@ module _ (plan : Plan) (focus : Bool) (proper : IsProper plan) (hooks : Hooks) (
         (λ p i apart is. stays_passed plan focus history d h later i (undue_there plan focus proper hooks d h later small held len tidy held.dues held.waiting (λ k g f w. w) [] [] (λ t i. inl i) (λ p i. i) undue stands held.slots held (settles_none plan focus hooks d h held) p i apart is))
 
     module _ (number : ℕ) (mark : Mark) (none : held.ripe.items ≡ []) where
-      named : AreNamed plan h held.slots held.ripe.items
+      named : AreAmongRipe plan h held.slots held.ripe.items
       named p i is done = (quiet_tidy.known p i is).done done
 
       quiet_moves_all : MovesOn plan focus history d h number mark (members held.slots.slots) (members held.slots.slots) []

@@ -41,8 +41,8 @@ pub record AreTaken (plan : Plan) (h number : ℕ) (mark : Mark) (old new : Slot
   pub distinct : Apart (parts (members old.slots)) → Apart (wholes found)
 
 -- in each place where one that is done stands, which is named
-abbrev pub AreNamed : Plan → ℕ → SlotsState → List ℕ → Type 0
-AreNamed plan h s ripe = (p : ℕ) (i : InstanceState) → slot_at s p ≡ Some i → IsDone plan h i → IsIn p ripe
+abbrev pub AreAmongRipe : Plan → ℕ → SlotsState → List ℕ → Type 0
+AreAmongRipe plan h s ripe = (p : ℕ) (i : InstanceState) → slot_at s p ≡ Some i → IsDone plan h i → IsIn p ripe
 
 -- two places, two members
 pub places_apart : (xs : List (Option InstanceState)) (p q : ℕ) (i j : InstanceState) → At xs p ≡ Some i → At xs q ≡ Some j → p ≢ q → Apart (parts (members xs)) → i.partial ≡ j.partial → ⊥
@@ -143,7 +143,7 @@ module _ (plan : Plan) (h number : ℕ) (mark : Mark) where
     taken_at was new p found more before (inr stays) = subst (λ (t : SlotsState). AreTaken plan h number mark old t more) (sym stays.slots) (subst (λ (t : List Recognition). AreTaken plan h number mark old was t) (sym stays.same) before)
 
     -- the places that are named still name each that is done
-    pub named_at : (was new : SlotsState) (p : ℕ) (found more : List Recognition) (ripe rest : List ℕ) → ripe ≡ rest ++ p ∷ [] → AreNamed plan h was ripe → TakesAt plan h number mark was new p found more → AreNamed plan h new rest
+    pub named_at : (was new : SlotsState) (p : ℕ) (found more : List Recognition) (ripe rest : List ℕ) → ripe ≡ rest ++ p ∷ [] → AreAmongRipe plan h was ripe → TakesAt plan h number mark was new p found more → AreAmongRipe plan h new rest
     named_at was new p found more ripe rest e named (inl takes) q i f done =
         elim (same_or q p) [
           | inl k ↦ absurd (cc (takes.removed.gone, subst (λ (t : ℕ). slot_at new t ≡ Some i) k f))
@@ -160,7 +160,7 @@ module _ (plan : Plan) (h number : ℕ) (mark : Mark) where
         ]
 
     -- when no place is named any more
-    module _ (new : SlotsState) (found : List Recognition) (ripe : List ℕ) (taken : AreTaken plan h number mark old new found) (named : AreNamed plan h new ripe) (empty : ripe ≡ []) where
+    module _ (new : SlotsState) (found : List Recognition) (ripe : List ℕ) (taken : AreTaken plan h number mark old new found) (named : AreAmongRipe plan h new ripe) (empty : ripe ≡ []) where
       none : (p : ℕ) (i : InstanceState) → slot_at new p ≡ Some i → IsDone plan h i → ⊥
       none p i f done = subst (λ (t : List ℕ). IsIn p t) empty (named p i f done)
 
