@@ -2,3 +2,4 @@ pub mod Unset
 pub mod UpTo
 pub mod Choosing
 pub mod KnownSymbols
+pub mod Awaiting

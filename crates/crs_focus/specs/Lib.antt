@@ -1,2 +1,3 @@
 pub mod Current
 pub mod Candidacy
+pub mod PlanLevels

@@ -22,7 +22,7 @@ use Rattle.crs_history.proofs.FarBack.{far_later}
 use Rattle.crs_instance.specs.Instances.{InstanceState, IsOf}
 use Rattle.crs_instance.specs.Followed.{Follows}
 use Rattle.crs_store.specs.Stores.{parts, AllOf, StoreState, IsStore, StandsAhead, IsSameStore, levels_of}
-use Rattle.crs_store.specs.PlanLevels.{levels_in}
+use Rattle.crs_focus.specs.PlanLevels.{levels_in}
 use Rattle.crs_store.specs.Windows.{IsAble, IsOver, IsPassed}
 use Rattle.crs_store.specs.Ahead.{IsWanted}
 use Rattle.crs_store.specs.Sweeps.{is_whole, IsDone}

@@ -18,7 +18,7 @@ use Rattle.crs_store.specs.Births.{Brings, FindsFork, IsBorn, IsMixOf}
 use Rattle.crs_store.specs.Forkings.{AreForksBut, AreForksOfAll, AreForksOfEvent, AreForksOfPlaces}
 use Rattle.crs_store.specs.Found.{found_state, founds, held_in}
 use Rattle.crs_store.specs.Joins.{AreApart, IsPartOf}
-use Rattle.crs_store.specs.PlanLevels.{levels_in}
+use Rattle.crs_focus.specs.PlanLevels.{levels_in}
 use Rattle.crs_store.specs.Scannings.{Adds, AreForksAt}
 use Rattle.crs_store.specs.Slots.{SlotsState, members, slot_at}
 use Rattle.crs_store.specs.Stores.{AllOf, parts}

@@ -31,7 +31,7 @@ use Rattle.crs_store.specs.Answers.{AreFound, IsRecognitionOfOne, TellsDone, who
 use Rattle.crs_store.specs.Forkings.{AreForksOfAll}
 use Rattle.crs_store.specs.Found.{FindsOne, dates_left, found_state, founds, held_in, numbered}
 use Rattle.crs_store.specs.Joins.{ComesTo, ComesOrGoes, Renews}
-use Rattle.crs_store.specs.PlanLevels.{levels_in}
+use Rattle.crs_focus.specs.PlanLevels.{levels_in}
 use Rattle.crs_store.specs.Slots.{SlotsState, members}
 use Rattle.crs_store.specs.Stores.{AllOf, parts}
 use Rattle.crs_store.specs.Sweeps.{is_whole, IsDone, IsFree}

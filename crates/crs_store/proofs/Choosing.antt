@@ -2,7 +2,7 @@
 use Rattle.std.proofs.Common.{◌≡◌, ◌≢◌, ℕ, zero, suc, ◌<◌, List, [], ◌∷◌, ◌++◌, length, take, drop, get_or, refl, sym, ap, subst, inl, inr, arith, length-append}
 use Rattle.crs_base.specs.Words.{IsIn, Ordered}
 use Rattle.crs_base.proofs.Words.{each_from_in, in_append, in_append_left, in_append_right, in_from_each, ordered_append}
-use Rattle.crs_store.specs.PlanLevels.{AreAwaited, KeepsAwaited}
+use Rattle.crs_focus.specs.PlanLevels.{AreAwaited, KeepsAwaited}
 
 -- with the event behind the others, the list has the same events
 record IsTakenOut (xs rest : List ℕ) (e : ℕ) : Type 0 where

@@ -41,7 +41,7 @@ use Rattle.crs_store.specs.Hooks.{IsHookOfEvent, KeepsFresh, picked_symbols, pic
 use Rattle.crs_store.specs.Links.{hook_at, IsHeldBack, IsNext}
 use Rattle.crs_store.specs.Slots.{SlotsState, slot_at, handle_at, members}
 use Rattle.crs_store.specs.Stores.{parts, AllOf}
-use Rattle.crs_store.specs.PlanLevels.{levels_in}
+use Rattle.crs_focus.specs.PlanLevels.{levels_in}
 use Rattle.crs_store.specs.Scannings.{Adds}
 use Rattle.crs_store.specs.Windows.{IsAble, IsOpenBut, IsOver}
 use Rattle.crs_store.proofs.Chosen.{Ascends, standing_part, standing_in, part_few, part_map, part_ordered}

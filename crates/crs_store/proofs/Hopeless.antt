@@ -20,7 +20,7 @@ use Rattle.crs_model.proofs.Options.{of_some, some_if, cases_of}
 use Rattle.crs_model.proofs.Parts.{agrees_part, agrees_at}
 use Rattle.crs_instance.specs.Instances.{InstanceState, IsOf, window_at}
 use Rattle.crs_store.specs.Ahead.{MayBecome, AreAhead, IsHopeless, MayGo}
-use Rattle.crs_store.specs.PlanLevels.{levels_in}
+use Rattle.crs_focus.specs.PlanLevels.{levels_in}
 
 pub item_at : {A : Type 0} (xs : List A) (k : ℕ) → k < length xs → (x : A) × (slice_get xs k ≡ Some x)
 item_at [] k l = absurd (omega arith)

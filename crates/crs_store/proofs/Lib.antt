@@ -11,7 +11,6 @@ pub mod Prompted
 pub mod Prompting
 pub mod Overs
 pub mod Overtaken
-pub mod Awaiting
 pub mod Kept
 pub mod Members
 pub mod Counted

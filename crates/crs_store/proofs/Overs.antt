@@ -20,7 +20,7 @@ use Rattle.crs_instance.specs.Instances.{InstanceState, IsOf}
 use Rattle.crs_instance.proofs.Openings.{instance_is_open}
 use Rattle.crs_instance.proofs.Stretches.{anchors_of}
 use Rattle.crs_store.specs.Windows.{IsAble, IsOver, IsOpenAt, StartsAfter}
-use Rattle.crs_store.specs.PlanLevels.{levels_in}
+use Rattle.crs_focus.specs.PlanLevels.{levels_in}
 
 -- an instance over entries is open exactly where it is able
 pub open_able : (plan : Plan) (focus : Bool) (pool entries : List (Entry Sym)) (n : ℕ) (i : InstanceState) → IsOf plan i → IsOver plan focus pool entries n i → IsOpenAt plan focus pool entries n i.partial ↔ IsAble plan focus n i

@@ -30,7 +30,7 @@ use Rattle.crs_store.specs.Ahead.{MayBecome}
 use Rattle.crs_store.specs.Forkings.{AreForksBut}
 use Rattle.crs_store.specs.Links.{hook_at, IsHeldBack, IsNext}
 use Rattle.crs_store.specs.Orders.{rank_of, ComesFirst, AreOrdered, IsUnboundBefore, AreBehind, IsOvertaken}
-use Rattle.crs_store.specs.PlanLevels.{levels_in}
+use Rattle.crs_focus.specs.PlanLevels.{levels_in}
 use Rattle.crs_store.specs.Scannings.{AreForksAt}
 use Rattle.crs_store.specs.Sweeps.{IsFree}
 use Rattle.crs_store.specs.Windows.{IsOpenAt, IsOpenBut}

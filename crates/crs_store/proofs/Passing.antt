@@ -24,7 +24,7 @@ use Rattle.crs_instance.specs.Instances.{InstanceState, IsOf}
 use Rattle.crs_instance.specs.Followed.{Follows}
 use Rattle.crs_store.specs.Dues.{IsUntouched}
 use Rattle.crs_store.specs.Hooks.{name_of, LooksFor}
-use Rattle.crs_store.specs.PlanLevels.{levels_in}
+use Rattle.crs_focus.specs.PlanLevels.{levels_in}
 use Rattle.crs_store.specs.Stores.{StoreState, IsStore, StandsAhead, parts, levels_of, IsOfferedAt, IsOfferedUntil}
 use Rattle.crs_store.specs.Windows.{IsOver, IsOpenAt}
 use Rattle.crs_store.proofs.Hopeless.{item_at}

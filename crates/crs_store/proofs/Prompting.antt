@@ -24,7 +24,7 @@ use Rattle.crs_instance.specs.Followed.{Follows}
 use Rattle.crs_store.specs.Ahead.{MayBecome}
 use Rattle.crs_store.specs.Forkings.{AreForksOfAll}
 use Rattle.crs_store.specs.Joins.{Renews}
-use Rattle.crs_store.specs.PlanLevels.{levels_in}
+use Rattle.crs_focus.specs.PlanLevels.{levels_in}
 use Rattle.crs_store.specs.Stores.{parts, AllOf, StoreState, IsStore, Stands, StandsComing, IsSameStore, levels_of, IsOfferedPrompt, IsOfferedPromptAhead, IsSettledWith, IsSettledComing}
 use Rattle.crs_model.specs.Open.{StandsFor}
 use Rattle.crs_store.specs.Windows.{IsAble, IsOver, IsOpenAt, IsFollowed}

@@ -22,7 +22,7 @@ use Rattle.crs_model.proofs.Options.{of_some, some_if}
 use Rattle.crs_store.specs.declared.waiting.hooks.Hook.{Hook}
 use Rattle.crs_store.specs.Dues.{AreDue, AreKept, AreCollected, IsDue, IsUndue}
 use Rattle.crs_store.specs.Hooks.{Waits, KeepsFresh, key_of}
-use Rattle.crs_store.specs.PlanLevels.{levels_in}
+use Rattle.crs_focus.specs.PlanLevels.{levels_in}
 use Rattle.crs_store.specs.Links.{linked_by, CanStart, Grows, IsLinked, IsLinkedAnew, IsNear, IsArmed, IsArmedAnew, hook_at}
 use Rattle.crs_store.specs.Slots.{SlotsState, slot_at, handle_at, Becomes}
 use Rattle.crs_store.specs.Sweeps.{IsDone}

@@ -41,7 +41,7 @@ use Rattle.crs_model.proofs.Parts.{put_same, put_other, agrees_part}
 use Rattle.crs_model.proofs.Scanning.{put_closed}
 use Rattle.crs_stn.specs.Bound.{Agrees, Meets}
 use Rattle.crs_stn.specs.DateWindow.{IsLatest}
-use Rattle.crs_store.specs.PlanLevels.{levels_in, AreToDecide, IsLevelAbove, IsNoLevelAbove, AreAwaited}
+use Rattle.crs_focus.specs.PlanLevels.{levels_in, AreToDecide, IsLevelAbove, IsNoLevelAbove, AreAwaited}
 use Rattle.crs_store.specs.Scannings.{Adds, IsOnTheWay, IsKeptIfAble, IsDecided, IsDecidedAt, AreDecidedWith, AreForksAt}
 use Rattle.crs_store.specs.Stores.{parts}
 use Rattle.crs_store.specs.Sweeps.{IsNow}

@@ -27,7 +27,7 @@ use Rattle.crs_store.specs.Ahead.{MayBecome, IsWanted, AreAhead, MayGo}
 use Rattle.crs_store.specs.declared.waiting.hooks.Hook.{Hook}
 use Rattle.crs_store.specs.Orders.{AreOrdered, IsOvertaken}
 use Rattle.crs_store.specs.Stores.{parts, AllOf, StoreState, IsStore, Stands, StandsAhead, StandsComing, IsSameStore, levels_of, IsOffered, IsOfferedAt}
-use Rattle.crs_store.specs.PlanLevels.{levels_in}
+use Rattle.crs_focus.specs.PlanLevels.{levels_in}
 use Rattle.crs_store.specs.Windows.{IsAble, IsOver, IsOpenAt, IsSameInstance}
 use Rattle.crs_store.specs.Sweeps.{IsFree, IsReady, TakesIn, TakesInSome}
 use Rattle.crs_store.proofs.Ahead.{stands_ahead, ahead_stands, some_stand, offered_ahead}

@@ -26,7 +26,7 @@ use Rattle.std.proofs.lemmas.Bool.{cases_eq}
 use Rattle.crs_instance.specs.Instances.{InstanceState, IsOf}
 use Rattle.crs_store.specs.Forkings.{AreForksOfAll}
 use Rattle.crs_store.specs.Joins.{AreApart, Joins, Renews}
-use Rattle.crs_store.specs.PlanLevels.{levels_in}
+use Rattle.crs_focus.specs.PlanLevels.{levels_in}
 use Rattle.crs_store.specs.Stores.{parts, AllOf}
 use Rattle.crs_store.specs.Windows.{IsAble, IsOver, IsOpenAt, IsOpenBut, IsFollowed, IsPassed}
 use Rattle.crs_store.specs.Sweeps.{IsReady, IsFree, IsNow, TakesIn}

@@ -15,7 +15,7 @@ use Rattle.crs_model.specs.Verdicts.{IsStretch, BodyIsBound}
 use Rattle.crs_model.specs.HasProgress.{IsEnough, Hits, Spares}
 use Rattle.crs_model.specs.Partial.{IsAwaited}
 use Rattle.crs_instance.specs.Instances.{InstanceState, window_at, progress_at}
-use Rattle.crs_store.specs.PlanLevels.{levels_in, IsLastDate}
+use Rattle.crs_focus.specs.PlanLevels.{levels_in, IsLastDate}
 
 -- the first date of the stretch of a `hold`, where it has one
 abbrev pub IsStart : Body Sym → ℤ → ℤ → ℕ → Type 0

@@ -18,7 +18,7 @@ use Rattle.crs_model.specs.Scans.{StartsAt, IsForkByLevel}
 use Rattle.crs_model.specs.declared.plan.Plan.{Plan}
 use Rattle.crs_store.specs.declared.waiting.hooks.Hook.{Hook}
 use Rattle.crs_store.specs.declared.waiting.hooks.Symbols.{Symbols}
-use Rattle.crs_store.specs.PlanLevels.{levels_in}
+use Rattle.crs_focus.specs.PlanLevels.{levels_in}
 use Rattle.crs_store.specs.Agreeing.{Agree}
 use Rattle.crs_store.specs.Hooks.{IsHookOfEvent, IsPart, Waits, key_of, key_with, picked_arguments}
 use Rattle.crs_store.specs.Links.{CanStart, IsNext}

@@ -1,5 +1,4 @@
 pub mod Agreeing
-pub mod PlanLevels
 pub mod Ahead
 pub mod Stores
 pub mod Windows

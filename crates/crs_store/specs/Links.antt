@@ -16,7 +16,7 @@ use Rattle.crs_model.specs.Plans.{chronicle}
 use Rattle.crs_model.specs.Verdicts.{IsStretch, BodyIsBound}
 use Rattle.crs_model.specs.declared.plan.Plan.{Plan}
 use Rattle.crs_store.specs.declared.waiting.hooks.Hook.{Hook}
-use Rattle.crs_store.specs.PlanLevels.{levels_in}
+use Rattle.crs_focus.specs.PlanLevels.{levels_in}
 use Rattle.crs_store.specs.Refusing.{Refuses}
 use Rattle.crs_store.specs.Hooks.{Waits, key_of, key_with, picked_arguments}
 use Rattle.crs_store.specs.Slots.{SlotsState, slot_at, handle_at}

@@ -9,7 +9,7 @@ use Rattle.crs_model.specs.Partial.{Partial, at, IsAwaited}
 use Rattle.crs_model.specs.Plans.{chronicle}
 use Rattle.crs_store.specs.declared.waiting.hooks.Hook.{Hook}
 use Rattle.crs_store.specs.Links.{hook_at}
-use Rattle.crs_store.specs.PlanLevels.{levels_in}
+use Rattle.crs_focus.specs.PlanLevels.{levels_in}
 
 -- the rank of a name, which is 0 where none is told
 abbrev pub rank_of : List ℕ → Sym → ℕ

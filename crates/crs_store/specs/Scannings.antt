@@ -11,7 +11,7 @@ use Rattle.crs_model.specs.Images.{IsImage}
 use Rattle.crs_model.specs.Partial.{Partial, at, IsLevelClosed}
 use Rattle.crs_model.specs.Scans.{Decides, DecidesWith, StartsAt}
 use Rattle.crs_model.specs.Steps.{GoesOn}
-use Rattle.crs_store.specs.PlanLevels.{levels_in}
+use Rattle.crs_focus.specs.PlanLevels.{levels_in}
 use Rattle.crs_store.specs.Stores.{AllOf, parts}
 use Rattle.crs_store.specs.Sweeps.{IsNow}
 use Rattle.crs_store.specs.Windows.{IsAble, IsOpenAt, IsOver}

@@ -15,7 +15,7 @@ use Rattle.crs_instance.specs.Followed.{Follows}
 use Rattle.crs_store.specs.Ahead.{MayBecome, IsWanted, AreAhead}
 use Rattle.crs_store.specs.Hooks.{LooksFor}
 use Rattle.crs_store.specs.Orders.{AreBehind}
-use Rattle.crs_store.specs.PlanLevels.{levels_in}
+use Rattle.crs_focus.specs.PlanLevels.{levels_in}
 
 -- a store, as contracts see it: of what is held, the first ones have places, as many as `placed` says
 pub record StoreState : Type 0 where

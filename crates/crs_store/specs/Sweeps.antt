@@ -13,7 +13,7 @@ use Rattle.crs_history.specs.Histories.{HistoryState}
 use Rattle.crs_instance.specs.Instances.{InstanceState}
 use Rattle.crs_store.specs.Ahead.{MayGo}
 use Rattle.crs_store.specs.Joins.{IsPartOf}
-use Rattle.crs_store.specs.PlanLevels.{levels_in}
+use Rattle.crs_focus.specs.PlanLevels.{levels_in}
 use Rattle.crs_store.specs.Stores.{parts}
 use Rattle.crs_store.specs.Windows.{IsRead, IsOver, IsOpenAt, IsOpenBut}
 use Rattle.crs_store.specs.JudgedWindows.{IsMetTo}

@@ -14,7 +14,7 @@ use Rattle.crs_model.specs.HasProgress.{IsProgress, IsMetBy, NoneLostBy}
 use Rattle.crs_history.specs.Histories.{HistoryState, IsFarBack, StandsFor}
 use Rattle.crs_instance.specs.Instances.{InstanceState, progress_at}
 use Rattle.crs_instance.specs.Followed.{Follows}
-use Rattle.crs_store.specs.PlanLevels.{levels_in}
+use Rattle.crs_focus.specs.PlanLevels.{levels_in}
 
 -- What can be read at a date: the history stands for the entries, which are fewer than 2^32, and goes far enough back.
 pub record IsRead (plan : Plan) (history : HistoryState) (entries : List (Entry Sym)) (n : ℕ) : Type 0 where

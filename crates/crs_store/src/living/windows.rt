@@ -1,14 +1,16 @@
 ghost use Rattle.std.specs.Prelude.{◌≡◌, ◌<◌, ◌↔◌, length, IsTrue, false};
 ghost use Rattle.crs_base.specs.Seen.{entry_of};
+ghost use Rattle.crs_model.specs.Partial.{CanGoOn};
 ghost use Rattle.crs_model.specs.Plans.{chronicle};
+ghost use Rattle.crs_focus.specs.PlanLevels.{levels_in};
 ghost use Rattle.crs_instance.specs.Instances.{IsOf, progress_at};
 ghost use Rattle.crs_store.specs.Windows.{Settles, Passes, Begins, IsBegun};
 ghost use Rattle.crs_store.specs.Judgings.{IsJudging, IsPassing, IsAbleBy, IsDoneBy, IsPassedBy, IsFollowedBy};
 ghost use Rattle.crs_store.specs.JudgedWindows.{AreStepped, IsJudged, IsLostNowhere, IsMetTo, IsNotLostAt};
 
 use crate::living::judging::{Judging, Passing};
-use crate::living::levels::can_go_on;
 use crs_base::Entry;
+use crs_focus::last_date;
 use crs_instance::Instance;
 use crs_model::{Progress, Verdict};
 use crs_watch::{begin, hangs_on_dates, is_safe, judge, pass, settle};
@@ -195,6 +197,18 @@ pub(crate) fn are_met(judging: &Judging<'_>, instance: &Instance) -> bool
         }
     }
     true
+}
+
+/// Whether dates that meet the bounds exist with each awaited event at or after the date `h`.
+fn can_go_on(judging: &Judging<'_>, instance: &Instance) -> bool
+    requires judging { IsJudging judging.now }
+    requires of { IsOf judging.now.plan.now instance.now }
+    ensures { IsTrue result ↔ CanGoOn (chronicle judging.now.plan.now) (levels_in judging.now.plan.now judging.now.focus) instance.now.partial judging.now.h }
+{
+    match last_date(judging.plan, judging.focus, instance) {
+        None => true,
+        Some(last) => judging.h as i64 <= last,
+    }
 }
 
 /// Whether the awaited events can come at or after h, and no window is lost then.

@@ -20,7 +20,6 @@ ghost use Rattle.crs_store.specs.Scannings.{AreForksAt};
 ghost use Rattle.crs_store.specs.Sweeps.{is_whole};
 
 use crate::found::Born;
-use crate::living::levels::is_awaited;
 use crate::moment::Arrival;
 use crate::places::slots::Slots;
 use crate::places::{note, sort_places};
@@ -32,7 +31,7 @@ use crate::waiting::hooks::{
     symbols_of_entry,
 };
 use crs_base::{Entry, Steps};
-use crs_focus::level_of;
+use crs_focus::{is_awaited, level_of};
 use crs_index::{Index, Key};
 use crs_instance::Instance;
 use crs_model::{Binding, Mark, Plan, Recognition};

@@ -4,15 +4,14 @@ ghost use Rattle.std.specs.Prelude.{◌≡◌, ◌<◌, ◌≤◌, ◌^◌, ◌+
 ghost use Rattle.crs_base.specs.Seen.{entry_of};
 ghost use Rattle.crs_base.specs.Words.{IsIn};
 ghost use Rattle.crs_instance.specs.Instances.{IsOf, window_at};
-ghost use Rattle.crs_store.specs.PlanLevels.{levels_in, AreToDecide, KeepsAwaited};
+ghost use Rattle.crs_focus.specs.PlanLevels.{levels_in, AreToDecide, KeepsAwaited};
 ghost use Rattle.crs_store.specs.Scans.{IsScan};
 ghost use Rattle.crs_store.specs.Scannings.{Adds, IsKeptIfAble, IsDecided, IsDecidedAt, AreDecidedWith};
 
 use crate::living::judging::{Judging, Passing};
-use crate::living::levels::{awaited_events, next_level};
 use crate::living::windows::{begin_windows, go_on_to, is_able};
 use crs_base::{Entry, Steps};
-use crs_focus::candidates_with;
+use crs_focus::{awaited_events, candidates_with, next_level};
 use crs_history::History;
 use crs_instance::Instance;
 use crs_model::Plan;

@@ -1,13 +1,13 @@
 ghost use Rattle.std.specs.Prelude.{◌≡◌, ◌≤◌, ◌<◌, ◌^◌, pos, ◌+ℤ◌, length, IfOk, OnOk, All};
 ghost use Rattle.crs_model.specs.SeenModels.{body_of};
 ghost use Rattle.crs_instance.specs.Instances.{IsOf};
-ghost use Rattle.crs_store.specs.PlanLevels.{IsLastDate};
+ghost use Rattle.crs_focus.specs.PlanLevels.{IsLastDate};
 ghost use Rattle.crs_store.specs.Dues.{IsStart, IsDueFor, IsFirstOf, StandsAtEach, StandsAround, AreDue, AreKept, AreCollected, HasPlaces};
 
 use crate::chart::Chart;
-use crate::living::levels::{is_awaited, last_date};
 use crate::places::note;
 use crs_agenda::{Calendar, Handle};
+use crs_focus::{is_awaited, last_date};
 use crs_instance::Instance;
 use crs_model::{Body, Stretch};
 use std::alloc::AllocError;

@@ -8,10 +8,10 @@ ghost use Rattle.crs_store.specs.Links.{hook_at, linked_by, Grows, IsLinkedAnew,
 ghost use Rattle.crs_store.specs.Linkings.{StartsBetween, NearsBetween, IsLinkedAt, IsArmedAt};
 
 use crate::chart::Chart;
-use crate::living::levels::is_awaited;
 use crate::waiting::befores::is_held_back;
 use crate::waiting::hooks::key_of_binding;
 use crs_agenda::Handle;
+use crs_focus::is_awaited;
 use crs_index::{Index, Key};
 use crs_instance::Instance;
 use crs_model::{Body, DateWindow};

@@ -14,7 +14,7 @@ use Rattle.crs_model.specs.SeenModels.{term_of}
 use Rattle.crs_watch.specs.Known.{AreTold}
 use Rattle.crs_history.specs.Histories.{IsKept}
 use Rattle.crs_instance.specs.Instances.{InstanceState, IsForked}
-use Rattle.crs_store.specs.PlanLevels.{levels_in, AreToDecide, AreAwaited, IsLevelAbove, IsNoLevelAbove}
+use Rattle.crs_focus.specs.PlanLevels.{levels_in, AreToDecide, AreAwaited, IsLevelAbove, IsNoLevelAbove}
 use Rattle.crs_store.specs.Scannings.{Adds, IsKeptIfAble, IsDecided, IsDecidedAt, AreDecidedWith}
 use Rattle.crs_store.proofs.Scanned.{adds_none, adds_as, adds_both, none_above, last_awaited, rest_to_decide, bound_to_decide, unbound_with, bound_with, none_with, more_with, enough_at, decided_both, never_decided, ended, gone_up, to_decide, fresh_next, told_as}
 use Rattle.crs_store.proofs.scanning.deciding.+deciding.Goals as goal

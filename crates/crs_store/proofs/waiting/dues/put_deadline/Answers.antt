@@ -5,7 +5,7 @@ use mir.Syntax.{w64}
 use mir.Val.{SFits}
 use Rattle.std.specs.Prelude.{Bool}
 use Rattle.crs_model.specs.declared.plan.Plan.{Plan}
-use Rattle.crs_store.specs.PlanLevels.{IsLastOf}
+use Rattle.crs_focus.specs.PlanLevels.{IsLastOf}
 use Rattle.crs_store.proofs.DuePairs.{last_is}
 use Rattle.crs_store.proofs.waiting.dues.put_deadline.Goals as goal
 

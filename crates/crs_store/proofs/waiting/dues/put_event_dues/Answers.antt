@@ -1,7 +1,7 @@
 use Rattle.std.proofs.Common.{◌∙◌, sym}
 use Rattle.std.proofs.lemmas.Result.{on_ok_weaker}
-use Rattle.crs_store.specs.PlanLevels.{levels_in}
-use Rattle.crs_store.proofs.Awaiting.{whole_awaits_none}
+use Rattle.crs_focus.specs.PlanLevels.{levels_in}
+use Rattle.crs_focus.proofs.Awaiting.{whole_awaits_none}
 use Rattle.crs_store.proofs.DuePairs.{still_in}
 use Rattle.crs_store.proofs.waiting.dues.put_event_dues.Goals as goal
 

@@ -1,6 +1,6 @@
 use Rattle.std.proofs.Common.{◌∙◌, sym}
-use Rattle.crs_store.specs.PlanLevels.{levels_in}
-use Rattle.crs_store.proofs.Awaiting.{whole_awaits_none}
+use Rattle.crs_focus.specs.PlanLevels.{levels_in}
+use Rattle.crs_focus.proofs.Awaiting.{whole_awaits_none}
 use Rattle.crs_store.proofs.Linked.{linked_next}
 use Rattle.crs_store.proofs.waiting.linking.link_events.Goals as goal
 

@@ -2,9 +2,9 @@ use Rattle.std.proofs.Common.{rules, refl, subst}
 use Rattle.std.specs.Prelude.{ℤ, pos, ◌≤ℤ◌, ◌↔◌, Option, None, IfSome}
 use Rattle.crs_model.specs.Partial.{CanGoOn}
 use Rattle.crs_model.specs.Plans.{chronicle}
-use Rattle.crs_store.specs.PlanLevels.{levels_in}
-use Rattle.crs_store.proofs.Awaiting.{last_tells}
-use Rattle.crs_store.proofs.living.levels.can_go_on.Goals as goal
+use Rattle.crs_focus.specs.PlanLevels.{levels_in}
+use Rattle.crs_focus.proofs.Awaiting.{last_tells}
+use Rattle.crs_store.proofs.living.windows.can_go_on.Goals as goal
 
 pub returns-in-None : goal.returns-in-None
 returns-in-None c =

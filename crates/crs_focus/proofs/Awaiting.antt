@@ -14,7 +14,7 @@ use Rattle.crs_base.proofs.Words.{in_append, in_append_left, in_append_right, or
 use Rattle.crs_instance.specs.CurrentLevel.{IsCurrentLevel}
 use Rattle.crs_instance.specs.Instances.{InstanceState, IsOf, IsDeadline}
 use Rattle.crs_instance.proofs.GoesOn.{deadline_tells, whole_goes_on}
-use Rattle.crs_store.specs.PlanLevels.{levels_in, IsLastOf, AreAwaited}
+use Rattle.crs_focus.specs.PlanLevels.{levels_in, IsLastOf, AreAwaited}
 
 module _ (level : ℕ → ℕ) (a : Partial Sym) where
   -- of the unbound events below n one has the least level, or there is none

@@ -1,7 +1,7 @@
 use Rattle.std.proofs.Common.{rules, inr, refl}
-use Rattle.crs_store.specs.PlanLevels.{levels_in}
-use Rattle.crs_store.proofs.Awaiting.{whole_none, last_flat}
-use Rattle.crs_store.proofs.living.levels.last_date.Goals as goal
+use Rattle.crs_focus.specs.PlanLevels.{levels_in}
+use Rattle.crs_focus.proofs.Awaiting.{whole_none, last_flat}
+use Rattle.crs_focus.proofs.awaited.last_date.Goals as goal
 
 pub returns-then-is_whole : goal.returns-then-is_whole
 returns-then-is_whole c = inr (whole_none (levels_in c.args.plan.now c.args.focus) c.args.instance.now.partial (search rules), refl)

@@ -1,8 +1,8 @@
 use Rattle.std.proofs.Common.{rules, ◌≡◌, ◌+◌, ◌++◌, ◌∷◌, [], Bool, true, false, sym, subst}
-use Rattle.crs_store.specs.PlanLevels.{levels_in, AreAwaited}
-use Rattle.crs_store.proofs.Awaiting.{awaited_more, unawaited_more}
-use Rattle.crs_store.proofs.living.levels.awaited_events.Goals as goal
-use Rattle.crs_store.proofs.living.levels.awaited_events.Goals.{then-is_awaited+in_ok-push, else-is_awaited}
+use Rattle.crs_focus.specs.PlanLevels.{levels_in, AreAwaited}
+use Rattle.crs_focus.proofs.Awaiting.{awaited_more, unawaited_more}
+use Rattle.crs_focus.proofs.awaited.awaited_events.Goals as goal
+use Rattle.crs_focus.proofs.awaited.awaited_events.Goals.{then-is_awaited+in_ok-push, else-is_awaited}
 
 no_both : (b : Bool) → b ≡ true → b ≡ false → ⊥
 no_both b t f = absurd cc

@@ -1,19 +1,17 @@
 //! For which events an instance waits, where levels are read.
 ghost use Rattle.std.specs.Prelude.{◌<◌, ◌↔◌, IsTrue, IfOk, IfSome, IfNone, length};
 ghost use Rattle.crs_instance.specs.Instances.{IsOf};
-ghost use Rattle.crs_model.specs.Partial.{CanGoOn, IsAwaited};
-ghost use Rattle.crs_model.specs.Plans.{chronicle, IsProper};
-ghost use Rattle.crs_store.specs.Judgings.{IsJudging};
-ghost use Rattle.crs_store.specs.PlanLevels.{levels_in, IsLastOf, IsLevelAbove, IsNoLevelAbove, AreAwaited};
+ghost use Rattle.crs_model.specs.Partial.{IsAwaited};
+ghost use Rattle.crs_model.specs.Plans.{IsProper};
+ghost use Rattle.crs_focus.specs.PlanLevels.{levels_in, IsLastOf, IsLevelAbove, IsNoLevelAbove, AreAwaited};
 
-use crate::living::judging::Judging;
-use crs_focus::{current_level, level_of};
+use crate::level::{current_level, level_of};
 use crs_instance::Instance;
 use crs_model::Plan;
 use std::alloc::{AllocError, Global};
 
 /// Whether the event is unbound, and none of a lower level is.
-pub(crate) fn is_awaited(plan: &Plan, focus: bool, instance: &Instance, event: u8) -> bool
+pub fn is_awaited(plan: &Plan, focus: bool, instance: &Instance, event: u8) -> bool
     requires proper { IsProper plan.now }
     requires of { IsOf plan.now instance.now }
     requires event { event < length plan.now.chronicle.events }
@@ -29,7 +27,7 @@ pub(crate) fn is_awaited(plan: &Plan, focus: bool, instance: &Instance, event: u
 }
 
 /// The last date at which each awaited event can still come, where there is one.
-pub(crate) fn last_date(plan: &Plan, focus: bool, instance: &Instance) -> Option<i64>
+pub fn last_date(plan: &Plan, focus: bool, instance: &Instance) -> Option<i64>
     requires proper { IsProper plan.now }
     requires of { IsOf plan.now instance.now }
     ensures { IsLastOf plan.now focus instance.now result }
@@ -46,20 +44,8 @@ pub(crate) fn last_date(plan: &Plan, focus: bool, instance: &Instance) -> Option
     }
 }
 
-/// Whether dates that meet the bounds exist with each awaited event at or after the date `h`.
-pub(crate) fn can_go_on(judging: &Judging<'_>, instance: &Instance) -> bool
-    requires judging { IsJudging judging.now }
-    requires of { IsOf judging.now.plan.now instance.now }
-    ensures { IsTrue result ↔ CanGoOn (chronicle judging.now.plan.now) (levels_in judging.now.plan.now judging.now.focus) instance.now.partial judging.now.h }
-{
-    match last_date(judging.plan, judging.focus, instance) {
-        None => true,
-        Some(last) => judging.h as i64 <= last,
-    }
-}
-
 /// The level of the awaited events, where that is above the level.
-pub(crate) fn next_level(plan: &Plan, focus: bool, instance: &Instance, level: u8) -> Option<u8>
+pub fn next_level(plan: &Plan, focus: bool, instance: &Instance, level: u8) -> Option<u8>
     requires proper { IsProper plan.now }
     requires of { IsOf plan.now instance.now }
     ensures some { IfSome result (IsLevelAbove (levels_in plan.now focus) instance.now.partial level) }
@@ -72,7 +58,7 @@ pub(crate) fn next_level(plan: &Plan, focus: bool, instance: &Instance, level: u
 }
 
 /// The awaited events, in ascending order.
-pub(crate) fn awaited_events(
+pub fn awaited_events(
     alloc: Global,
     plan: &Plan,
     focus: bool,
