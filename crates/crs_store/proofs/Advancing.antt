@@ -21,15 +21,16 @@ use Rattle.crs_history.specs.Histories.{HistoryState, IsFarBack, StandsFor as Hi
 use Rattle.crs_history.proofs.FarBack.{far_later}
 use Rattle.crs_instance.specs.Instances.{InstanceState, IsOf}
 use Rattle.crs_instance.specs.Followed.{Follows}
-use Rattle.crs_store.specs.Stores.{parts, AllOf, StoreState, IsStore, StandsAhead, IsSameStore, levels_of}
+use Rattle.crs_living.specs.Parts.{parts, AllOf}
+use Rattle.crs_store.specs.Stores.{StoreState, IsStore, StandsAhead, IsSameStore, levels_of}
 use Rattle.crs_focus.specs.PlanLevels.{levels_in}
-use Rattle.crs_store.specs.Windows.{IsAble, IsOver, IsPassed}
-use Rattle.crs_store.specs.Ahead.{IsWanted}
-use Rattle.crs_store.specs.Sweeps.{is_whole, IsDone}
+use Rattle.crs_living.specs.Windows.{IsAble, IsOver, IsPassed}
+use Rattle.crs_living.specs.Ahead.{IsWanted}
+use Rattle.crs_living.specs.Done.{is_whole, IsDone}
 use Rattle.crs_store.specs.Answers.{IsAnswer, IsMarked, IsAdvanced, IsRecognitionOf, IsRecognitionOfOne, TellsDone, MovesOn, wholes}
 use Rattle.crs_base.proofs.Alls.{all_both}
-use Rattle.crs_store.proofs.Leaving.{leaves_image, leaves_each}
-use Rattle.crs_store.proofs.Overs.{open_able, floor_early}
+use Rattle.crs_living.proofs.Leaving.{leaves_image, leaves_each}
+use Rattle.crs_living.proofs.Overs.{open_able, floor_early}
 use Rattle.crs_base.proofs.Sifted.{sifted_in}
 use Rattle.crs_store.proofs.Ahead.{passed_ahead}
 use Rattle.crs_store.proofs.Standing.{same_levels, given_ahead, closed_ahead, parts_same, zip_of, zip_all, over_of, follows_of}

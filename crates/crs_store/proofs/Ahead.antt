@@ -17,7 +17,7 @@ use Rattle.crs_model.proofs.Offers.{before_more, recognised_full, recognised_giv
 use Rattle.crs_model.proofs.Options.{of_some}
 use Rattle.crs_model.proofs.Parts.{at_within, none_back, put_same, open_back}
 use Rattle.crs_model.proofs.Rests.{rest, length_rest, rest_at, rest_part, rest_free, rest_closed, rest_awaits, rest_grows}
-use Rattle.crs_store.specs.Ahead.{MayBecome, IsWanted}
+use Rattle.crs_living.specs.Ahead.{MayBecome, IsWanted}
 
 module _ (c : Chronicle Sym) (level : ℕ → ℕ) (held : List (Partial Sym)) (was pool entries : List (Entry Sym)) (d g : ℕ) where
   -- what has all that is open has all that is wanted

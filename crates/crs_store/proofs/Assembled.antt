@@ -24,15 +24,16 @@ use Rattle.crs_store.specs.Found.{found_state, founds, held_in}
 use Rattle.crs_store.specs.Joins.{ComesTo, Renews}
 use Rattle.crs_store.specs.Links.{linked_by, AreLinked, hook_at}
 use Rattle.crs_store.specs.Ripenings.{AreLeft, LeftAt}
-use Rattle.crs_store.specs.Slots.{SlotsState, slot_at, handle_at, members}
-use Rattle.crs_store.specs.Sweeps.{IsDone}
-use Rattle.crs_store.specs.Stores.{AllOf, IsStore}
+use Rattle.crs_living.specs.Slots.{SlotsState, slot_at, handle_at, members}
+use Rattle.crs_living.specs.Done.{IsDone}
+use Rattle.crs_living.specs.Parts.{AllOf}
+use Rattle.crs_store.specs.Stores.{IsStore}
 use Rattle.crs_store.specs.Tidy.{IsKnown, IsTidy, IsTidyHolding}
-use Rattle.crs_store.specs.Windows.{IsAble}
+use Rattle.crs_living.specs.Windows.{IsAble}
 use Rattle.std.specs.List.{AllByRecursion}
 use Rattle.crs_store.proofs.Linked.{linked_earlier}
 use Rattle.crs_store.proofs.Standing.{zip_length}
-use Rattle.crs_store.proofs.Members.{member_at}
+use Rattle.crs_living.proofs.Members.{member_at}
 
 module _ (plan : Plan) (focus : Bool) (hooks : Hooks) (holding : Holding) (d : ℕ) (tidy : IsTidyHolding plan focus hooks holding d) where
   pub tidy_all : AllOf plan (members holding.slots.slots)

@@ -19,16 +19,16 @@ use Rattle.crs_store.specs.Forkings.{AreForksBut, AreForksOfAll, AreForksOfEvent
 use Rattle.crs_store.specs.Found.{found_state, founds, held_in}
 use Rattle.crs_store.specs.Joins.{AreApart, IsPartOf}
 use Rattle.crs_focus.specs.PlanLevels.{levels_in}
-use Rattle.crs_store.specs.Scannings.{Adds, AreForksAt}
-use Rattle.crs_store.specs.Slots.{SlotsState, members, slot_at}
-use Rattle.crs_store.specs.Stores.{AllOf, parts}
-use Rattle.crs_store.specs.Sweeps.{is_whole}
+use Rattle.crs_living.specs.Scannings.{Adds, AreForksAt}
+use Rattle.crs_living.specs.Slots.{SlotsState, members, slot_at}
+use Rattle.crs_living.specs.Parts.{AllOf, parts}
+use Rattle.crs_living.specs.Done.{is_whole}
 use Rattle.crs_store.proofs.Advancing.{all_some_of}
 use Rattle.crs_store.proofs.Born.{begun_still, found_is, passed_still, whole_able}
 use Rattle.crs_store.proofs.Chosen.{Ascends}
 use Rattle.crs_store.proofs.Gathered.{AreGathered, IsSwept, gathered_all, gathered_more, gathered_none, swept_more, swept_none, swept_whole}
 use Rattle.crs_store.proofs.Joined.{Apart, apart_in, apart_out}
-use Rattle.crs_store.proofs.Scanned.{ended, kept_able, started, unforked}
+use Rattle.crs_living.proofs.Scanned.{ended, kept_able, started, unforked}
 
 -- ---- mixes
 

@@ -32,10 +32,11 @@ use Rattle.crs_store.specs.Forkings.{AreForksOfAll}
 use Rattle.crs_store.specs.Found.{FindsOne, dates_left, found_state, founds, held_in, numbered}
 use Rattle.crs_store.specs.Joins.{ComesTo, ComesOrGoes, Renews}
 use Rattle.crs_focus.specs.PlanLevels.{levels_in}
-use Rattle.crs_store.specs.Slots.{SlotsState, members}
-use Rattle.crs_store.specs.Stores.{AllOf, parts}
-use Rattle.crs_store.specs.Sweeps.{is_whole, IsDone, IsFree}
-use Rattle.crs_store.specs.Windows.{IsAble, IsBegun, IsFollowed, IsOpenBut, IsOver, IsPassed}
+use Rattle.crs_living.specs.Slots.{SlotsState, members}
+use Rattle.crs_living.specs.Parts.{AllOf, parts}
+use Rattle.crs_living.specs.Done.{is_whole, IsDone}
+use Rattle.crs_store.specs.Sweeps.{IsFree}
+use Rattle.crs_living.specs.Windows.{IsAble, IsBegun, IsFollowed, IsOpenBut, IsOver, IsPassed}
 use Rattle.crs_store.proofs.Advancing.{all_some_of}
 use Rattle.crs_store.proofs.Finding.{all_some}
 use Rattle.crs_store.proofs.Gathered.{widen}

@@ -7,8 +7,8 @@ use Rattle.crs_base.specs.Words.{IsIn, Ordered}
 use Rattle.crs_base.proofs.Alls.{all_each}
 use Rattle.crs_base.proofs.Words.{in_append_left, in_append_right, in_from_each, each_from_in}
 use Rattle.crs_store.specs.Forkings.{standing}
-use Rattle.crs_store.specs.Slots.{members}
-use Rattle.crs_store.proofs.Members.{At}
+use Rattle.crs_living.specs.Slots.{members}
+use Rattle.crs_living.proofs.Members.{At}
 
 -- each place is below those after it
 abbrev pub Ascends : List ℕ → Type 0

@@ -29,9 +29,9 @@ use Rattle.crs_instance.specs.CurrentLevel.{IsCurrentLevel}
 use Rattle.crs_model.specs.Partial.{Partial}
 use Rattle.crs_focus.specs.PlanLevels.{levels_in, IsLastOf, IsLastDate}
 use Rattle.crs_store.specs.Dues.{IsStart, IsDueFor, IsFirstOf, IsUndue, StandsAtEach, StandsAround, AreDue, AreKept, AreCollected, HasPlaces}
-use Rattle.crs_store.specs.Windows.{IsSameInstance}
+use Rattle.crs_living.specs.Windows.{IsSameInstance}
 use Rattle.crs_store.proofs.Ascending.{moved_in}
-use Rattle.crs_store.proofs.Progress.{stretch_of}
+use Rattle.crs_living.proofs.Progress.{stretch_of}
 
 -- ---- one date
 

@@ -11,7 +11,7 @@ use Rattle.crs_base.specs.Seen.{entry_of}
 use Rattle.crs_base.specs.declared.entry.Entry.{Entry as CodeEntry}
 use Rattle.crs_instance.specs.Instances.{InstanceState, AreAllEntries}
 use Rattle.crs_model.specs.declared.plan.Plan.{Plan}
-use Rattle.crs_store.specs.Sweeps.{is_whole, IsDone}
+use Rattle.crs_living.specs.Done.{is_whole, IsDone}
 use Rattle.crs_store.specs.Answers.{IsRecognitionFrom}
 
 pub all_some : (es : List (Entry Sym)) → is_whole (map Some es) ≡ true

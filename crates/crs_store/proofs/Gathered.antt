@@ -39,14 +39,14 @@ use Rattle.crs_store.specs.Agreeing.{Agree, IsTaken}
 use Rattle.crs_store.specs.Forkings.{HaveWindow, NoneWait, IsNoted, AreCandidates, KeepsStanding, IsHookAt, AreLinkedAt, AreSought, standing, ComeOf, IsForkWith, IsForkBelow, AreForksBut, AreForksOfPlaces, AreForksOfEvent, AreForksOfAll}
 use Rattle.crs_store.specs.Hooks.{IsHookOfEvent, KeepsFresh, picked_symbols, picked_arguments}
 use Rattle.crs_store.specs.Links.{hook_at, IsHeldBack, IsNext}
-use Rattle.crs_store.specs.Slots.{SlotsState, slot_at, handle_at, members}
-use Rattle.crs_store.specs.Stores.{parts, AllOf}
+use Rattle.crs_living.specs.Slots.{SlotsState, slot_at, handle_at, members}
+use Rattle.crs_living.specs.Parts.{parts, AllOf}
 use Rattle.crs_focus.specs.PlanLevels.{levels_in}
-use Rattle.crs_store.specs.Scannings.{Adds}
-use Rattle.crs_store.specs.Windows.{IsAble, IsOpenBut, IsOver}
+use Rattle.crs_living.specs.Scannings.{Adds}
+use Rattle.crs_living.specs.Windows.{IsAble, IsOpenBut, IsOver}
 use Rattle.crs_store.proofs.Chosen.{Ascends, standing_part, standing_in, part_few, part_map, part_ordered}
 use Rattle.crs_store.proofs.Fitting.{inside_window, fits, binding_grows, fits_hook, fits_part}
-use Rattle.crs_store.proofs.Members.{at_within, at_member, member_at}
+use Rattle.crs_living.proofs.Members.{at_within, at_member, member_at}
 use Rattle.crs_store.proofs.Noting.{fresh_at, get_any, cleans_keep, in_bucket}
 
 -- ---- the handles of a bucket, one after another

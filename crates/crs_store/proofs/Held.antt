@@ -20,14 +20,14 @@ use Rattle.crs_store.specs.Dues.{AreCollected, IsUndue, IsUntouched, KeepsFreshP
 use Rattle.crs_store.specs.Hooks.{KeepsFresh, key_of}
 use Rattle.crs_store.specs.Joins.{Renews}
 use Rattle.crs_store.specs.Links.{hook_at}
-use Rattle.crs_store.specs.Slots.{SlotsState, slot_at, handle_at, members, Becomes}
+use Rattle.crs_living.specs.Slots.{SlotsState, slot_at, handle_at, members, Becomes}
 use Rattle.crs_store.specs.Tidy.{IsTidy, IsTidyHolding, SettlesPlaces}
-use Rattle.crs_store.specs.PlaceWalks.{Walks}
-use Rattle.crs_store.specs.Windows.{IsAble, IsFollowed, IsPassed, IsSameInstance, Gains}
-use Rattle.crs_store.proofs.Progress.{still_of}
+use Rattle.crs_living.specs.PlaceWalks.{Walks}
+use Rattle.crs_living.specs.Windows.{IsAble, IsFollowed, IsPassed, IsSameInstance, Gains}
+use Rattle.crs_living.proofs.Progress.{still_of}
 use Rattle.crs_store.proofs.Renewing.{renewed_tidy, apart_undue, fresh_place}
 use Rattle.crs_store.proofs.Unmoved.{undue_follows, untouched_follows, undue_able}
-use Rattle.crs_store.proofs.Walked.{walk_lists, in_or_not}
+use Rattle.crs_living.proofs.Walked.{walk_lists, in_or_not}
 
 -- what stands in the places is still of the plan
 pub walked_of : (plan : Plan) (R : InstanceState → InstanceState → Type 0) (Able : InstanceState → Type 0) → ((i j : InstanceState) → R i j → IsSameInstance i j) → (places : List ℕ) (old new : SlotsState) → Walks R Able places old new → ((p : ℕ) (i : InstanceState) → slot_at old p ≡ Some i → IsOf plan i) → (p : ℕ) (j : InstanceState) → slot_at new p ≡ Some j → IsOf plan j

@@ -20,8 +20,8 @@ use Rattle.crs_model.specs.Plans.{chronicle}
 use Rattle.crs_model.proofs.Options.{of_some, some_if}
 use Rattle.crs_store.specs.Hooks.{key_of}
 use Rattle.crs_store.specs.Links.{Grows, hook_at}
-use Rattle.crs_store.specs.Slots.{SlotsState, slot_at, handle_at, Puts}
-use Rattle.crs_store.specs.Stores.{parts}
+use Rattle.crs_living.specs.Slots.{SlotsState, slot_at, handle_at, Puts}
+use Rattle.crs_living.specs.Parts.{parts}
 use Rattle.crs_store.specs.Tidy.{IsKnown, IsTidy}
 use Rattle.std.proofs.lemmas.Bool.{cases_eq}
 

@@ -1,19 +1,12 @@
 pub mod Ahead
-pub mod Hopeless
-pub mod Leaving
 pub mod Standing
 pub mod Marking
 pub mod Finding
 pub mod Ascending
 pub mod Advancing
-pub mod Progress
 pub mod Prompted
 pub mod Prompting
-pub mod Overs
 pub mod Overtaken
-pub mod Kept
-pub mod Members
-pub mod Counted
 pub mod Hooking
 pub mod Noting
 pub mod Unmoved
@@ -28,8 +21,6 @@ pub mod Chosen
 pub mod Fitting
 pub mod Parting
 pub mod Gathered
-pub mod Scanned
-pub mod Walked
 pub mod Linked
 pub mod Registering
 pub mod Settling
@@ -40,4 +31,3 @@ pub mod Born
 pub mod Births
 pub mod Named
 pub mod Passing
-pub mod Choosing

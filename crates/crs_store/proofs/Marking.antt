@@ -23,9 +23,9 @@ use Rattle.crs_model.proofs.WindowLaws.{judged_by_progress}
 use Rattle.crs_model.proofs.Marks.{same_values}
 use Rattle.crs_model.specs.Verdicts.{IsMet, IsStretch, BodyIsBound}
 use Rattle.crs_model.specs.HasProgress.{IsMetBy}
-use Rattle.crs_store.specs.Windows.{IsOver}
-use Rattle.crs_store.specs.JudgedWindows.{IsMetTo}
-use Rattle.crs_store.proofs.Progress.{any_window, at_place}
+use Rattle.crs_living.specs.Windows.{IsOver}
+use Rattle.crs_living.specs.JudgedWindows.{IsMetTo}
+use Rattle.crs_living.proofs.Progress.{any_window, at_place}
 use Rattle.crs_stn.specs.Bound.{MeetsInPart}
 use Rattle.crs_model.specs.Partial.{dates_of}
 use Rattle.crs_base.specs.Seen.{entry_of}

@@ -13,8 +13,8 @@ use Rattle.crs_store.specs.declared.waiting.hooks.Hook.{Hook}
 use Rattle.crs_store.specs.Hooks.{IsHookOfEvent}
 use Rattle.crs_store.specs.Links.{hook_at}
 use Rattle.crs_store.specs.Named.{IsFirst}
-use Rattle.crs_store.specs.Slots.{SlotsState, members}
-use Rattle.crs_store.specs.Stores.{AllOf}
+use Rattle.crs_living.specs.Slots.{SlotsState, members}
+use Rattle.crs_living.specs.Parts.{AllOf}
 use Rattle.crs_store.proofs.Births.{BringsGathered, brings_none, brings_gathered_more}
 use Rattle.crs_store.proofs.Gathered.{hook_there, hooks_long, none_named}
 

@@ -21,7 +21,7 @@ use Rattle.crs_store.specs.declared.waiting.hooks.Hook.{Hook}
 use Rattle.crs_store.specs.Hooks.{Waits, KeepsFresh, key_with, picked_arguments}
 use Rattle.crs_store.specs.Links.{hook_at, HasWaiting, HasTouchedAt, HasTouched}
 use Rattle.crs_store.specs.Refusing.{Refuses}
-use Rattle.crs_store.specs.Slots.{SlotsState, handle_at}
+use Rattle.crs_living.specs.Slots.{SlotsState, handle_at}
 
 -- ---- what is fresh
 

@@ -26,15 +26,15 @@ use Rattle.crs_model.proofs.Options.{of_some, some_if, cases_of}
 use Rattle.crs_model.proofs.Parts.{at_within, put_same, put_other, none_back, agrees_at}
 use Rattle.crs_instance.specs.Instances.{InstanceState}
 use Rattle.crs_store.specs.declared.waiting.hooks.Hook.{Hook}
-use Rattle.crs_store.specs.Ahead.{MayBecome}
+use Rattle.crs_living.specs.Ahead.{MayBecome}
 use Rattle.crs_store.specs.Forkings.{AreForksBut}
 use Rattle.crs_store.specs.Links.{hook_at, IsHeldBack, IsNext}
 use Rattle.crs_store.specs.Orders.{rank_of, ComesFirst, AreOrdered, IsUnboundBefore, AreBehind, IsOvertaken}
 use Rattle.crs_focus.specs.PlanLevels.{levels_in}
-use Rattle.crs_store.specs.Scannings.{AreForksAt}
+use Rattle.crs_living.specs.Scannings.{AreForksAt}
 use Rattle.crs_store.specs.Sweeps.{IsFree}
-use Rattle.crs_store.specs.Windows.{IsOpenAt, IsOpenBut}
-use Rattle.crs_store.proofs.Hopeless.{item_at}
+use Rattle.crs_living.specs.Windows.{IsOpenAt, IsOpenBut}
+use Rattle.crs_living.proofs.Hopeless.{item_at}
 
 not_both : {A : Type 0} (o : Option A) (y : A) → o ≡ Some y → o ≡ None → ⊥
 not_both o y s n = cc

@@ -9,7 +9,7 @@ use Rattle.crs_index.specs.Indexes.{IndexState, bucket_of}
 use Rattle.crs_store.specs.declared.waiting.hooks.Symbols.{Symbols}
 use Rattle.crs_store.specs.Forkings.{NoneWait, AreCandidates, AreCandidatesOf, KeepsStanding}
 use Rattle.crs_store.specs.Hooks.{IsPart, IsAmong, KeepsFresh, Waits, key_with, part_of}
-use Rattle.crs_store.specs.Slots.{SlotsState, handle_at}
+use Rattle.crs_living.specs.Slots.{SlotsState, handle_at}
 
 -- ---- each part is one of those with a number
 

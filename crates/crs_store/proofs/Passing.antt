@@ -25,11 +25,12 @@ use Rattle.crs_instance.specs.Followed.{Follows}
 use Rattle.crs_store.specs.Dues.{IsUntouched}
 use Rattle.crs_store.specs.Hooks.{name_of, LooksFor}
 use Rattle.crs_focus.specs.PlanLevels.{levels_in}
-use Rattle.crs_store.specs.Stores.{StoreState, IsStore, StandsAhead, parts, levels_of, IsOfferedAt, IsOfferedUntil}
-use Rattle.crs_store.specs.Windows.{IsOver, IsOpenAt}
-use Rattle.crs_store.proofs.Hopeless.{item_at}
+use Rattle.crs_store.specs.Stores.{StoreState, IsStore, StandsAhead, levels_of, IsOfferedAt, IsOfferedUntil}
+use Rattle.crs_living.specs.Parts.{parts}
+use Rattle.crs_living.specs.Windows.{IsOver, IsOpenAt}
+use Rattle.crs_living.proofs.Hopeless.{item_at}
 use Rattle.crs_store.proofs.Overtaken.{goes_but}
-use Rattle.crs_store.proofs.Overs.{open_able}
+use Rattle.crs_living.proofs.Overs.{open_able}
 use Rattle.crs_store.proofs.Ahead.{offered_ahead}
 use Rattle.crs_store.proofs.Standing.{over_of, given_ahead, closed_ahead}
 use Rattle.crs_store.proofs.Unmoved.{untouched_follows}

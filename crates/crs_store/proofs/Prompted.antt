@@ -16,7 +16,7 @@ use Rattle.crs_model.proofs.Offers.{before_more, recognised_full, recognised_giv
 use Rattle.crs_model.proofs.Options.{of_some}
 use Rattle.crs_model.proofs.Parts.{at_within, put_same, open_back}
 use Rattle.crs_model.proofs.Rests.{rest, length_rest, rest_at, rest_part, rest_free, rest_closed, rest_awaits, rest_grows}
-use Rattle.crs_store.specs.Ahead.{MayBecome}
+use Rattle.crs_living.specs.Ahead.{MayBecome}
 use Rattle.crs_store.proofs.Ahead.{becomes_without, becomes_parent}
 
 module _ (c : Chronicle Sym) (level : ℕ → ℕ) (held out : List (Partial Sym)) (was pool entries : List (Entry Sym)) (d g : ℕ) (x : Entry Sym) (dated : d ≤ x.date) where

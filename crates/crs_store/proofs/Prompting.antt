@@ -21,19 +21,21 @@ use Rattle.crs_model.proofs.Options.{of_some}
 use Rattle.crs_model.proofs.ScanImages.{both_by_level}
 use Rattle.crs_instance.specs.Instances.{InstanceState, IsOf}
 use Rattle.crs_instance.specs.Followed.{Follows}
-use Rattle.crs_store.specs.Ahead.{MayBecome}
+use Rattle.crs_living.specs.Ahead.{MayBecome}
 use Rattle.crs_store.specs.Forkings.{AreForksOfAll}
 use Rattle.crs_store.specs.Joins.{Renews}
 use Rattle.crs_focus.specs.PlanLevels.{levels_in}
-use Rattle.crs_store.specs.Stores.{parts, AllOf, StoreState, IsStore, Stands, StandsComing, IsSameStore, levels_of, IsOfferedPrompt, IsOfferedPromptAhead, IsSettledWith, IsSettledComing}
+use Rattle.crs_living.specs.Parts.{parts, AllOf}
+use Rattle.crs_store.specs.Stores.{StoreState, IsStore, Stands, StandsComing, IsSameStore, levels_of, IsOfferedPrompt, IsOfferedPromptAhead, IsSettledWith, IsSettledComing}
 use Rattle.crs_model.specs.Open.{StandsFor}
-use Rattle.crs_store.specs.Windows.{IsAble, IsOver, IsOpenAt, IsFollowed}
-use Rattle.crs_store.specs.Sweeps.{IsReady, IsFree, IsNow, TakesPrompt, TakesPromptSome, SettlesIn}
+use Rattle.crs_living.specs.Windows.{IsAble, IsOver, IsOpenAt, IsFollowed}
+use Rattle.crs_store.specs.Sweeps.{IsReady, IsFree, TakesPrompt, TakesPromptSome, SettlesIn}
+use Rattle.crs_living.specs.Now.{IsNow}
 use Rattle.crs_store.proofs.Ahead.{some_stand, itself}
 use Rattle.crs_store.proofs.Joined.{parts_sub}
-use Rattle.crs_store.proofs.Leaving.{leaves_image, leaves_each}
+use Rattle.crs_living.proofs.Leaving.{leaves_image, leaves_each}
 use Rattle.crs_store.proofs.Overtaken.{forks_all}
-use Rattle.crs_store.proofs.Overs.{open_able, floor_early}
+use Rattle.crs_living.proofs.Overs.{open_able, floor_early}
 use Rattle.crs_store.proofs.Prompted.{came_to_pool, was_settled}
 use Rattle.crs_store.proofs.Standing.{zip_all, parts_same, zip_of, over_of, follows_of, same_levels, wanted_stays, coming_of}
 

@@ -15,9 +15,9 @@ use Rattle.crs_store.specs.declared.waiting.hooks.Hooks.{Hooks}
 use Rattle.crs_store.specs.Answers.{MovesOn}
 use Rattle.crs_store.specs.Found.{held_in}
 use Rattle.crs_store.specs.Joins.{Renews}
-use Rattle.crs_store.specs.Slots.{members}
+use Rattle.crs_living.specs.Slots.{members}
 use Rattle.crs_store.specs.Tidy.{IsTidyHolding}
-use Rattle.crs_store.specs.Windows.{Gains, IsAble, IsPassed, IsSameInstance}
+use Rattle.crs_living.specs.Windows.{Gains, IsAble, IsPassed, IsSameInstance}
 use Rattle.crs_store.proofs.Held.{all_renew, all_tidy, settles_none, stays_passed, undue_there, walks_none}
 use Rattle.crs_store.proofs.Ripened.{AreAmongRipe, all_found, all_left, left_sifts, taken_none}
 

@@ -16,15 +16,15 @@ use Rattle.crs_store.specs.declared.waiting.hooks.Hook.{Hook}
 use Rattle.crs_store.specs.declared.waiting.hooks.Hooks.{Hooks}
 use Rattle.crs_store.specs.Dues.{AreDue, AreKept}
 use Rattle.crs_store.specs.Found.{founds, held_in}
-use Rattle.crs_store.specs.Stores.{AllOf}
+use Rattle.crs_living.specs.Parts.{AllOf}
 use Rattle.crs_model.specs.declared.recognition.Recognition.{Recognition}
 use Rattle.crs_store.specs.Links.{linked_by, Grows, IsLinkedAnew, IsArmedAnew, hook_at}
 use Rattle.crs_store.specs.Hooks.{key_of}
 use Rattle.crs_model.specs.Bindings.{look_of}
-use Rattle.crs_store.specs.Slots.{SlotsState, slot_at, handle_at, Puts}
-use Rattle.crs_store.specs.Sweeps.{IsDone}
+use Rattle.crs_living.specs.Slots.{SlotsState, slot_at, handle_at, Puts}
+use Rattle.crs_living.specs.Done.{IsDone}
 use Rattle.crs_store.specs.Tidy.{IsKnown, IsTidy, IsTidyHolding, Registers}
-use Rattle.crs_store.specs.Windows.{IsAble}
+use Rattle.crs_living.specs.Windows.{IsAble}
 use Rattle.crs_store.proofs.Advancing.{all_some_of}
 use Rattle.std.specs.List.{AllByRecursion}
 use Rattle.crs_base.proofs.Words.{in_from_each, in_append_left, in_append_right}

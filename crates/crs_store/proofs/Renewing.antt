@@ -24,16 +24,16 @@ use Rattle.crs_store.specs.Dues.{AreDue, AreKept, AreCollected, IsDue, IsUndue}
 use Rattle.crs_store.specs.Hooks.{Waits, KeepsFresh, key_of}
 use Rattle.crs_focus.specs.PlanLevels.{levels_in}
 use Rattle.crs_store.specs.Links.{linked_by, CanStart, Grows, IsLinked, IsLinkedAnew, IsNear, IsArmed, IsArmedAnew, hook_at}
-use Rattle.crs_store.specs.Slots.{SlotsState, slot_at, handle_at, Becomes}
-use Rattle.crs_store.specs.Sweeps.{IsDone}
+use Rattle.crs_living.specs.Slots.{SlotsState, slot_at, handle_at, Becomes}
+use Rattle.crs_living.specs.Done.{IsDone}
 use Rattle.crs_store.specs.Tidy.{IsKnown, IsTidy}
-use Rattle.crs_store.specs.Windows.{IsAble, IsSameInstance, Gains}
+use Rattle.crs_living.specs.Windows.{IsAble, IsSameInstance, Gains}
 use Rattle.crs_store.proofs.DuePairs.{dues_left, dues_later, left_undue, same_dues}
-use Rattle.crs_store.proofs.Members.{at_within}
+use Rattle.crs_living.proofs.Members.{at_within}
 use Rattle.crs_store.proofs.Noting.{fresh_at}
-use Rattle.crs_store.proofs.Progress.{still_of}
+use Rattle.crs_living.proofs.Progress.{still_of}
 use Rattle.crs_store.proofs.Registering.{done_known}
-use Rattle.crs_store.proofs.Walked.{in_or_not}
+use Rattle.crs_living.proofs.Walked.{in_or_not}
 use Rattle.crs_store.proofs.Unmoved.{near_early, undue_able, undue_undone}
 
 -- ---- dates at which an event can start

@@ -16,10 +16,10 @@ use Rattle.crs_model.specs.Plans.{chronicle}
 use Rattle.crs_model.specs.SeenModels.{assignment_of}
 use Rattle.crs_store.specs.Answers.{IsRecognitionFrom, IsRecognitionOfOne, TellsDone, AreFound, wholes}
 use Rattle.crs_store.specs.Ripenings.{LeftAt, AreLeft, Takes, TakesAt}
-use Rattle.crs_store.specs.Slots.{SlotsState, slot_at, handle_at, members}
-use Rattle.crs_store.specs.Stores.{parts}
-use Rattle.crs_store.specs.Sweeps.{IsDone}
-use Rattle.crs_store.proofs.Members.{At, at_member, member_at}
+use Rattle.crs_living.specs.Slots.{SlotsState, slot_at, handle_at, members}
+use Rattle.crs_living.specs.Parts.{parts}
+use Rattle.crs_living.specs.Done.{IsDone}
+use Rattle.crs_living.proofs.Members.{At, at_member, member_at}
 
 abbrev pub Apart : List (Partial Sym) → Type 0
 Apart xs = Ordered (λ a b. a ≡ b → ⊥) xs

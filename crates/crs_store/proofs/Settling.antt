@@ -15,11 +15,11 @@ use Rattle.crs_store.specs.declared.holding.Holding.{Holding}
 use Rattle.crs_store.specs.declared.waiting.hooks.Hooks.{Hooks}
 use Rattle.crs_store.specs.Dues.{AreDue}
 use Rattle.crs_store.specs.Links.{linked_by, Grows, IsLinkedAnew, IsArmedAnew}
-use Rattle.crs_store.specs.Slots.{SlotsState, slot_at, handle_at, Renumbers}
-use Rattle.crs_store.specs.Sweeps.{IsDone}
+use Rattle.crs_living.specs.Slots.{SlotsState, slot_at, handle_at, Renumbers}
+use Rattle.crs_living.specs.Done.{IsDone}
 use Rattle.crs_store.specs.Tidy.{IsFoundAgain, IsFoundAnew, IsFoundWhole, Keeps, Registers, SettlesPlace, SettlesPlaces}
 use Rattle.crs_store.proofs.Linked.{linked_still, armed_still}
-use Rattle.crs_store.proofs.Walked.{IsEachBut, first_apart}
+use Rattle.crs_living.proofs.Walked.{IsEachBut, first_apart}
 
 one : {a b : InstanceState} → Some a ≡ Some b → a ≡ b
 one e = cc

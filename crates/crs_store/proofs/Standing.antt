@@ -23,19 +23,20 @@ use Rattle.crs_instance.specs.Instances.{InstanceState, IsOf}
 use Rattle.crs_instance.specs.Followed.{Follows}
 use Rattle.crs_instance.proofs.GoesOn.{root_goes_on}
 use Rattle.crs_instance.proofs.BindAnswers.{get-replicate}
-use Rattle.crs_store.specs.Ahead.{MayBecome, IsWanted, AreAhead, MayGo}
+use Rattle.crs_living.specs.Ahead.{MayBecome, IsWanted, AreAhead, MayGo}
 use Rattle.crs_store.specs.declared.waiting.hooks.Hook.{Hook}
 use Rattle.crs_store.specs.Orders.{AreOrdered, IsOvertaken}
-use Rattle.crs_store.specs.Stores.{parts, AllOf, StoreState, IsStore, Stands, StandsAhead, StandsComing, IsSameStore, levels_of, IsOffered, IsOfferedAt}
+use Rattle.crs_living.specs.Parts.{parts, AllOf}
+use Rattle.crs_store.specs.Stores.{StoreState, IsStore, Stands, StandsAhead, StandsComing, IsSameStore, levels_of, IsOffered, IsOfferedAt}
 use Rattle.crs_focus.specs.PlanLevels.{levels_in}
-use Rattle.crs_store.specs.Windows.{IsAble, IsOver, IsOpenAt, IsSameInstance}
+use Rattle.crs_living.specs.Windows.{IsAble, IsOver, IsOpenAt, IsSameInstance}
 use Rattle.crs_store.specs.Sweeps.{IsFree, IsReady, TakesIn, TakesInSome}
 use Rattle.crs_store.proofs.Ahead.{stands_ahead, ahead_stands, some_stand, offered_ahead}
-use Rattle.crs_store.proofs.Hopeless.{hopeless_unwanted}
+use Rattle.crs_living.proofs.Hopeless.{hopeless_unwanted}
 use Rattle.crs_store.proofs.Overtaken.{overtaken_unwanted}
 use Rattle.crs_store.proofs.Joined.{parts_sub}
-use Rattle.crs_store.proofs.Overs.{open_able, floor_early}
-use Rattle.crs_store.proofs.Progress.{still_of}
+use Rattle.crs_living.proofs.Overs.{open_able, floor_early}
+use Rattle.crs_living.proofs.Progress.{still_of}
 
 -- ---- lists of instances
 

@@ -27,13 +27,14 @@ use Rattle.crs_instance.specs.Instances.{InstanceState, IsOf}
 use Rattle.crs_store.specs.Forkings.{AreForksOfAll}
 use Rattle.crs_store.specs.Joins.{AreApart, Joins, Renews}
 use Rattle.crs_focus.specs.PlanLevels.{levels_in}
-use Rattle.crs_store.specs.Stores.{parts, AllOf}
-use Rattle.crs_store.specs.Windows.{IsAble, IsOver, IsOpenAt, IsOpenBut, IsFollowed, IsPassed}
-use Rattle.crs_store.specs.Sweeps.{IsReady, IsFree, IsNow, TakesIn}
+use Rattle.crs_living.specs.Parts.{parts, AllOf}
+use Rattle.crs_living.specs.Windows.{IsAble, IsOver, IsOpenAt, IsOpenBut, IsFollowed, IsPassed}
+use Rattle.crs_store.specs.Sweeps.{IsReady, IsFree, TakesIn}
+use Rattle.crs_living.specs.Now.{IsNow}
 use Rattle.crs_store.proofs.Gathered.{widen}
-use Rattle.crs_store.proofs.Leaving.{leaves_image, leaves_each}
+use Rattle.crs_living.proofs.Leaving.{leaves_image, leaves_each}
 use Rattle.crs_store.proofs.Overtaken.{stays_but}
-use Rattle.crs_store.proofs.Overs.{open_able, floor_early}
+use Rattle.crs_living.proofs.Overs.{open_able, floor_early}
 use Rattle.crs_store.proofs.Standing.{zip_all, parts_same, zip_of}
 
 module _ (plan : Plan) (focus : Bool) (Out : Partial Sym → Type 0) (x : Entry Sym) (until : ℕ) (later : x.date ≤ until) (entries : List (Entry Sym)) where

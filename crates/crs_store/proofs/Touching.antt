@@ -24,7 +24,7 @@ use Rattle.crs_store.specs.Dues.{IsUndue, IsUntouched}
 use Rattle.crs_store.specs.declared.waiting.hooks.Symbols.{Symbols}
 use Rattle.crs_store.specs.Hooks.{IsHookOfWindow, Waits, key_with, name_of, terms_of}
 use Rattle.crs_store.specs.Links.{IsArmed, IsWanting, HasWaiting, HasTouched, hook_at}
-use Rattle.crs_store.specs.Slots.{SlotsState, handle_at}
+use Rattle.crs_living.specs.Slots.{SlotsState, handle_at}
 use Rattle.crs_store.proofs.Fitting.{fitting_whole}
 use Rattle.crs_store.proofs.Unmoved.{near_early}
 use Rattle.crs_agenda.specs.Freshness.{is_fresh}

@@ -19,9 +19,10 @@ use Rattle.crs_model.specs.SeenModels.{assignment_of, given}
 use Rattle.crs_history.specs.Histories.{HistoryState, IsFarBack, StandsFor as HistoryStandsFor}
 use Rattle.crs_instance.specs.Instances.{InstanceState}
 use Rattle.crs_store.specs.Joins.{Renews}
-use Rattle.crs_store.specs.Stores.{StoreState, Stands, StandsAhead, parts}
-use Rattle.crs_store.specs.Sweeps.{IsDone}
-use Rattle.crs_store.specs.Windows.{IsAble, IsPassed}
+use Rattle.crs_store.specs.Stores.{StoreState, Stands, StandsAhead}
+use Rattle.crs_living.specs.Parts.{parts}
+use Rattle.crs_living.specs.Done.{IsDone}
+use Rattle.crs_living.specs.Windows.{IsAble, IsPassed}
 use Rattle.crs_base.specs.Sifted.{Sifts}
 use Rattle.crs_model.specs.declared.plan.Plan.{Plan}
 use Rattle.std.specs.Ordering.{is_lt}

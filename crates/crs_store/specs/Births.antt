@@ -8,8 +8,8 @@ use Rattle.crs_model.specs.declared.plan.Plan.{Plan}
 use Rattle.crs_model.specs.declared.recognition.Recognition.{Recognition}
 use Rattle.crs_model.specs.Partial.{put}
 use Rattle.crs_store.specs.Found.{FindsOne, founds}
-use Rattle.crs_store.specs.Stores.{AllOf}
-use Rattle.crs_store.specs.Windows.{IsAble}
+use Rattle.crs_living.specs.Parts.{AllOf}
+use Rattle.crs_living.specs.Windows.{IsAble}
 
 -- the third list has what the other two have, and of each in its order
 abbrev pub IsMixOf : {A : Type 0} → List A → List A → List A → Type 0

@@ -22,10 +22,11 @@ use Rattle.crs_focus.specs.PlanLevels.{levels_in}
 use Rattle.crs_store.specs.Agreeing.{Agree}
 use Rattle.crs_store.specs.Hooks.{IsHookOfEvent, IsPart, Waits, key_of, key_with, picked_arguments}
 use Rattle.crs_store.specs.Links.{CanStart, IsNext}
-use Rattle.crs_store.specs.Slots.{SlotsState, slot_at, handle_at, members}
-use Rattle.crs_store.specs.Stores.{parts}
-use Rattle.crs_store.specs.Sweeps.{IsReady, IsNow}
-use Rattle.crs_store.specs.Windows.{IsOpenBut, IsOver}
+use Rattle.crs_living.specs.Slots.{SlotsState, slot_at, handle_at, members}
+use Rattle.crs_living.specs.Parts.{parts}
+use Rattle.crs_store.specs.Sweeps.{IsReady}
+use Rattle.crs_living.specs.Now.{IsNow}
+use Rattle.crs_living.specs.Windows.{IsOpenBut, IsOver}
 
 -- each instance has a date window for the event
 abbrev pub HaveWindow : SlotsState → ℕ → Type 0

@@ -13,7 +13,7 @@ use Rattle.crs_model.specs.Partial.{Partial, dates_of}
 use Rattle.crs_model.specs.SeenModels.{assignment_of}
 use Rattle.crs_instance.specs.Instances.{InstanceState}
 use Rattle.crs_store.specs.Answers.{IsRecognitionFrom}
-use Rattle.crs_store.specs.Slots.{SlotsState, members}
+use Rattle.crs_living.specs.Slots.{SlotsState, members}
 
 -- the soonest and the latest date that the bounds and the bound events' dates leave to a point
 abbrev pub dates_left : Plan → Partial Sym → ℕ → DateWindow

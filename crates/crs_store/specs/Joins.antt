@@ -4,7 +4,7 @@ use Rattle.std.specs.List.{AllZip}
 use Rattle.crs_base.specs.Sifted.{Sifts}
 use Rattle.crs_base.specs.Words.{IsIn, Ordered}
 use Rattle.crs_instance.specs.Instances.{InstanceState}
-use Rattle.crs_store.specs.Stores.{parts}
+use Rattle.crs_living.specs.Parts.{parts}
 
 -- no two have the same partial assignment
 abbrev pub AreApart : List InstanceState → Type 0

@@ -19,7 +19,7 @@ use Rattle.crs_store.specs.declared.waiting.hooks.Hook.{Hook}
 use Rattle.crs_focus.specs.PlanLevels.{levels_in}
 use Rattle.crs_store.specs.Refusing.{Refuses}
 use Rattle.crs_store.specs.Hooks.{Waits, key_of, key_with, picked_arguments}
-use Rattle.crs_store.specs.Slots.{SlotsState, slot_at, handle_at}
+use Rattle.crs_living.specs.Slots.{SlotsState, slot_at, handle_at}
 
 -- the hook of this number
 abbrev pub hook_at : List Hook → ℕ → Hook

@@ -5,8 +5,8 @@ use Rattle.crs_model.specs.declared.plan.Plan.{Plan}
 use Rattle.crs_model.specs.declared.recognition.Mark.{Mark}
 use Rattle.crs_model.specs.declared.recognition.Recognition.{Recognition}
 use Rattle.crs_store.specs.Answers.{IsRecognitionFrom, IsRecognitionIfDone}
-use Rattle.crs_store.specs.Slots.{SlotsState, slot_at, handle_at, Removes}
-use Rattle.crs_store.specs.Sweeps.{IsDone}
+use Rattle.crs_living.specs.Slots.{SlotsState, slot_at, handle_at, Removes}
+use Rattle.crs_living.specs.Done.{IsDone}
 
 -- what stood there went exactly where it is done, and is the same where it stays
 abbrev pub LeftAt : Plan → ℕ → Option InstanceState → Option InstanceState → Type 0

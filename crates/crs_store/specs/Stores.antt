@@ -1,18 +1,18 @@
 -- Stores, and what they stand for.
-use Rattle.std.specs.Prelude.{◌≡◌, ◌≤◌, ◌<◌, ◌^◌, ℕ, List, [], ◌∷◌, ◌++◌, length, map, Bool, true, false}
+use Rattle.std.specs.Prelude.{◌≡◌, ◌≤◌, ◌<◌, ◌^◌, ℕ, List, [], ◌∷◌, ◌++◌, length, Bool, true, false}
 use Rattle.std.specs.List.{AllByRecursion}
 use Rattle.crs_base.specs.declared.symbols.Sym.{Sym}
 use Rattle.crs_base.specs.Entry.{Entry}
 use Rattle.crs_base.specs.Words.{IsIn}
 use Rattle.crs_model.specs.declared.plan.Plan.{Plan}
-use Rattle.crs_model.specs.Partial.{Partial}
 use Rattle.crs_model.specs.Plans.{chronicle, IsProper}
 use Rattle.crs_model.specs.Steps.{IsFresh}
 use Rattle.crs_model.specs.Open.{AllWanted, StandsFor}
 use Rattle.crs_history.specs.Histories.{HistoryState, IsFarBack, StandsFor as HistoryStandsFor}
-use Rattle.crs_instance.specs.Instances.{InstanceState, IsOf}
+use Rattle.crs_instance.specs.Instances.{InstanceState}
 use Rattle.crs_instance.specs.Followed.{Follows}
-use Rattle.crs_store.specs.Ahead.{MayBecome, IsWanted, AreAhead}
+use Rattle.crs_living.specs.Ahead.{MayBecome, IsWanted, AreAhead}
+pub use Rattle.crs_living.specs.Parts.{parts, AllOf}
 use Rattle.crs_store.specs.Hooks.{LooksFor}
 use Rattle.crs_store.specs.Orders.{AreBehind}
 use Rattle.crs_focus.specs.PlanLevels.{levels_in}
@@ -27,13 +27,6 @@ pub record StoreState : Type 0 where
   pub placed : ℕ
   pub date : ℕ
   pub stopped : Bool
-
--- the partial assignments of instances
-abbrev pub parts : List InstanceState → List (Partial Sym)
-parts is = map (λ i. i.partial) is
-
-abbrev pub AllOf : Plan → List InstanceState → Type 0
-AllOf plan is = AllByRecursion (IsOf plan) is
 
 -- a store of a proper plan, and instances of the plan, judged last at a date up to 2^42; levels of a prompt chronicle aren't read
 pub record IsStore (s : StoreState) : Type 0 where

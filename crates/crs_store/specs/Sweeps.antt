@@ -1,6 +1,6 @@
 -- What comes of the instances that are held.
-use Rattle.std.specs.Prelude.{◌≡◌, ◌≤◌, ◌≤ℤ◌, pos, ℕ, List, [], ◌∷◌, ◌++◌, length, Some, Bool, is_some, true}
-use Rattle.std.specs.List.{AllByRecursion, list_all}
+use Rattle.std.specs.Prelude.{◌≡◌, ◌≤◌, ◌≤ℤ◌, pos, ℕ, List, [], ◌∷◌, ◌++◌, Some, Bool}
+use Rattle.std.specs.List.{AllByRecursion}
 use Rattle.crs_base.specs.declared.symbols.Sym.{Sym}
 use Rattle.crs_base.specs.Words.{IsIn, Ordered}
 use Rattle.crs_base.specs.Entry.{Entry}
@@ -11,12 +11,11 @@ use Rattle.crs_model.specs.Scans.{GoesOnByLevel}
 use Rattle.crs_model.specs.Steps.{GoesOn}
 use Rattle.crs_history.specs.Histories.{HistoryState}
 use Rattle.crs_instance.specs.Instances.{InstanceState}
-use Rattle.crs_store.specs.Ahead.{MayGo}
+use Rattle.crs_living.specs.Ahead.{MayGo}
 use Rattle.crs_store.specs.Joins.{IsPartOf}
 use Rattle.crs_focus.specs.PlanLevels.{levels_in}
-use Rattle.crs_store.specs.Stores.{parts}
-use Rattle.crs_store.specs.Windows.{IsRead, IsOver, IsOpenAt, IsOpenBut}
-use Rattle.crs_store.specs.JudgedWindows.{IsMetTo}
+use Rattle.crs_living.specs.Parts.{parts}
+use Rattle.crs_living.specs.Windows.{IsRead, IsOver, IsOpenAt, IsOpenBut}
 
 -- no event has x
 abbrev pub IsFree : Entry Sym → Partial Sym → Type 0
@@ -25,14 +24,6 @@ IsFree x a = (e : ℕ) → at a e ≡ Some x → ⊥
 -- no instance gives x, and no two are the same
 abbrev pub IsReady : Entry Sym → List (Partial Sym) → Type 0
 IsReady x held = AllByRecursion (IsFree x) held × Ordered (λ a b. a ≡ b → ⊥) held
-
--- what can be read at a date that x isn't before: the entries, where x is of the pool, and where levels are read the pool is the entries
-pub record IsNow (plan : Plan) (focus : Bool) (history : HistoryState) (x : Entry Sym) (since : ℕ) (pool entries : List (Entry Sym)) : Type 0 where
-  pub read : IsRead plan history entries since
-  pub there : IsIn x pool
-  pub early : since ≤ x.date
-  pub inside : (e : Entry Sym) → IsIn e entries → IsIn e pool
-  pub whole : focus ≡ true → pool ≡ entries
 
 -- what comes of the instances where x is settled after what was settled, but for what is left out, and all is judged at a date
 abbrev pub TakesIn : Plan → Bool → (Partial Sym → Type 0) → HistoryState → Entry Sym → ℕ → ℕ → List InstanceState → List InstanceState → Type 0
@@ -67,10 +58,3 @@ SettlesIn plan focus history x since held new =
     → AllByRecursion (IsOver plan focus pool settled since) held → Ordered (λ a b. a ≡ b → ⊥) (parts held)
     → IsImage (GoesOn (IsOpenAt plan focus pool (settled ++ x ∷ []) x.date)) (parts held) (parts new)
     × AllByRecursion (IsOver plan focus pool (settled ++ x ∷ []) x.date) new
-
-abbrev pub is_whole : Partial Sym → Bool
-is_whole a = list_all (λ o. is_some o) a
-
--- each event is bound, and each window met at h as its progress tells
-abbrev pub IsDone : Plan → ℕ → InstanceState → Type 0
-IsDone plan h i = (is_whole i.partial ≡ true) × IsMetTo plan h i (length plan.chronicle.windows)

@@ -12,9 +12,9 @@ use Rattle.crs_store.specs.declared.waiting.hooks.Hook.{Hook}
 use Rattle.crs_store.specs.declared.waiting.hooks.Hooks.{Hooks}
 use Rattle.crs_store.specs.Dues.{AreDue, AreKept}
 use Rattle.crs_store.specs.Links.{linked_by, Grows, IsLinked, IsLinkedAnew, IsArmed, IsArmedAnew}
-use Rattle.crs_store.specs.Slots.{SlotsState, slot_at, handle_at}
-use Rattle.crs_store.specs.Sweeps.{IsDone}
-use Rattle.crs_store.specs.Windows.{IsAble}
+use Rattle.crs_living.specs.Slots.{SlotsState, slot_at, handle_at}
+use Rattle.crs_living.specs.Done.{IsDone}
+use Rattle.crs_living.specs.Windows.{IsAble}
 
 -- Judged at d, it is able to be recognised. Its handle waits for each awaited event that can come by then, of a prompt chronicle for each awaited event, and for what may touch a window that begins by the date after; it stands in the calendar at each date at which it has to be judged anew. Where it is done, its place is among the ripe ones.
 pub record IsKnown (plan : Plan) (focus : Bool) (events windows : List Hook) (index : IndexState) (pairs : List Timed) (ripe : List ℕ) (handle : Handle) (d : ℕ) (i : InstanceState) : Type 0 where

@@ -2,7 +2,7 @@
 //! be at the next mark.
 ghost use Rattle.std.specs.Prelude.{◌≡◌, ◌++◌, [], true, map, IfOk, OnOk};
 ghost use Rattle.crs_store.specs.Found.{FindsOne, numbered};
-ghost use Rattle.crs_store.specs.Sweeps.{is_whole};
+ghost use Rattle.crs_living.specs.Done.{is_whole};
 
 use crate::moment::Horizon;
 use crs_instance::Instance;

@@ -4,7 +4,6 @@
 mod chart;
 mod found;
 mod holding;
-mod living;
 mod moment;
 mod order;
 mod places;

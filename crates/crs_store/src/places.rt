@@ -5,8 +5,6 @@ ghost use Rattle.std.specs.Ordering.{nat_cmp};
 ghost use Rattle.crs_base.specs.Words.{IsIn};
 
 pub(crate) mod ripening;
-pub(crate) mod slots;
-pub(crate) mod walking;
 
 use std::alloc::AllocError;
 

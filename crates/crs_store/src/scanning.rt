@@ -3,4 +3,3 @@
 
 pub(crate) mod agreeing;
 pub(crate) mod candidates;
-pub(crate) mod deciding;

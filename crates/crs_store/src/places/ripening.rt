@@ -1,15 +1,13 @@
 //! The instances that are done leave their places.
 ghost use Rattle.std.specs.Prelude.{◌≡◌, Some, [], IfOk, OnOk};
 ghost use Rattle.crs_base.specs.Words.{IsIn};
-ghost use Rattle.crs_store.specs.Judgings.{IsJudging, IsDoneBy};
+ghost use Rattle.crs_living.specs.Judgings.{IsJudging, IsDoneBy};
 ghost use Rattle.crs_store.specs.Answers.{IsRecognitionIfDone, AreFound};
-ghost use Rattle.crs_store.specs.Slots.{slot_at, members};
+ghost use Rattle.crs_living.specs.Slots.{slot_at, members};
 ghost use Rattle.crs_store.specs.Ripenings.{AreLeft, IsRecognitionAt, TakesAt};
 
-use crate::living::judging::Judging;
-use crate::living::windows::is_done;
-use crate::places::slots::Slots;
 use crs_instance::Instance;
+use crs_living::{Judging, Slots, is_done};
 use crs_model::{Mark, Recognition};
 use std::alloc::{AllocError, Global};
 

@@ -14,17 +14,15 @@ ghost use Rattle.crs_store.specs.Hooks.{KeepsFresh, picked_arguments};
 ghost use Rattle.crs_store.specs.Links.{hook_at, AreLinked};
 ghost use Rattle.crs_store.specs.Moments.{IsArrival};
 ghost use Rattle.crs_store.specs.Orders.{IsOvertaken};
-ghost use Rattle.crs_store.specs.Slots.{members};
-ghost use Rattle.crs_store.specs.Stores.{AllOf};
-ghost use Rattle.crs_store.specs.Scannings.{AreForksAt};
-ghost use Rattle.crs_store.specs.Sweeps.{is_whole};
+ghost use Rattle.crs_living.specs.Slots.{members};
+ghost use Rattle.crs_living.specs.Parts.{AllOf};
+ghost use Rattle.crs_living.specs.Scannings.{AreForksAt};
+ghost use Rattle.crs_living.specs.Done.{is_whole};
 
 use crate::found::Born;
 use crate::moment::Arrival;
-use crate::places::slots::Slots;
 use crate::places::{note, sort_places};
 use crate::scanning::agreeing::{agree, takes};
-use crate::scanning::deciding::{Scan, decide};
 use crate::waiting::befores::is_held_back;
 use crate::waiting::hooks::{
     Hook, Symbols, argument_in, is_lone, key_of_first, key_of_symbols, part, parts,
@@ -34,6 +32,7 @@ use crs_base::{Entry, Steps};
 use crs_focus::{is_awaited, level_of};
 use crs_index::{Index, Key};
 use crs_instance::Instance;
+use crs_living::{Scan, Slots, decide};
 use crs_model::{Binding, Mark, Plan, Recognition};
 use std::alloc::AllocError;
 use std::sync::ledger::Ledger;

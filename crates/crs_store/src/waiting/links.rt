@@ -5,15 +5,15 @@ ghost use Rattle.crs_base.specs.Seen.{entry_of};
 ghost use Rattle.crs_base.specs.Words.{IsIn};
 ghost use Rattle.crs_store.specs.Hooks.{Waits, KeepsFresh};
 ghost use Rattle.crs_store.specs.Links.{HasWaiting, HasTouchedAt, HasTouched};
-ghost use Rattle.crs_store.specs.Slots.{handle_at};
+ghost use Rattle.crs_living.specs.Slots.{handle_at};
 
 use crate::chart::Chart;
 use crate::places::note;
-use crate::places::slots::Slots;
 use crate::waiting::hooks::{Hook, key_of_entry};
 use crate::waiting::refusing::refuses;
 use crs_base::Entry;
 use crs_index::{Index, Key};
+use crs_living::Slots;
 use std::alloc::AllocError;
 
 /// Notes the places of those that wait under the key.

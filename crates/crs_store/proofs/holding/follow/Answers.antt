@@ -6,15 +6,15 @@ use Rattle.std.specs.Prelude.{Bool}
 use Rattle.crs_base.specs.Words.{IsIn}
 use Rattle.crs_instance.specs.Instances.{IsOf}
 use Rattle.crs_model.specs.declared.plan.Plan.{Plan}
-use Rattle.crs_store.specs.PlaceWalks.{Walks}
+use Rattle.crs_living.specs.PlaceWalks.{Walks}
 use Rattle.crs_store.specs.Links.{HasTouched}
 use Rattle.crs_store.proofs.Renewing.{fresh_place}
 use Rattle.crs_store.proofs.Noting.{touched_within}
 use Rattle.crs_store.proofs.Touching.{untouched}
 use Rattle.crs_store.specs.declared.holding.Holding.{Holding}
 use Rattle.crs_store.specs.Joins.{Renews}
-use Rattle.crs_store.specs.Slots.{SlotsState, members}
-use Rattle.crs_store.specs.Windows.{IsFollowed, IsAble}
+use Rattle.crs_living.specs.Slots.{SlotsState, members}
+use Rattle.crs_living.specs.Windows.{IsFollowed, IsAble}
 use Rattle.crs_store.proofs.Held.{settles_none, walks_none, walked_of, all_tidy, all_renew, undue_there, stays_followed}
 use Rattle.crs_store.proofs.holding.follow.Goals as goal
 

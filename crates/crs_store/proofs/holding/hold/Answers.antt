@@ -1,7 +1,7 @@
 use Rattle.std.proofs.Common.{rules, ◌≡◌, ◌∙◌, sym, subst}
 use Rattle.std.specs.Prelude.{true, false}
 use Rattle.crs_model.specs.declared.plan.Plan.{Plan}
-use Rattle.crs_store.specs.Sweeps.{IsDone}
+use Rattle.crs_living.specs.Done.{IsDone}
 use Rattle.crs_store.proofs.Registering.{held_done, held_registered}
 use Rattle.crs_store.proofs.holding.hold.Goals as goal
 

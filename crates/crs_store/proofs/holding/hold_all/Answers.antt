@@ -1,8 +1,8 @@
 use Rattle.std.proofs.Common.{rules, map}
 use Rattle.crs_base.specs.Seen.{entry_of}
 use Rattle.crs_instance.specs.Instances.{IsOf}
-use Rattle.crs_store.specs.Ahead.{MayGo}
-use Rattle.crs_store.specs.Windows.{IsAble}
+use Rattle.crs_living.specs.Ahead.{MayGo}
+use Rattle.crs_living.specs.Windows.{IsAble}
 use Rattle.crs_store.proofs.Registering.{held_none, held_more, held_each, held_whole}
 use Rattle.crs_store.proofs.holding.hold_all.Goals as goal
 

@@ -1,6 +1,6 @@
 use Rattle.std.proofs.Common.{vec_len, map}
 use Rattle.crs_base.specs.Seen.{entry_of}
-use Rattle.crs_store.specs.Ahead.{MayGo}
+use Rattle.crs_living.specs.Ahead.{MayGo}
 use Rattle.crs_store.proofs.Registering.{IsHeldTo}
 use Rattle.crs_store.proofs.holding.hold_all.Given as goal
 

@@ -1,7 +1,7 @@
 use Rattle.std.proofs.Common.{map, inl}
 use Rattle.std.proofs.lemmas.Result.{on_ok_weaker}
 use Rattle.crs_base.specs.Seen.{entry_of}
-use Rattle.crs_store.specs.Ahead.{MayGo}
+use Rattle.crs_living.specs.Ahead.{MayGo}
 use Rattle.crs_store.proofs.Born.{comes_or_goes, find_all, find_comes}
 use Rattle.crs_store.proofs.holding.hold_born.Goals as goal
 

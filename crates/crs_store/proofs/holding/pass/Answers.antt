@@ -5,11 +5,11 @@ use Rattle.std.specs.Prelude.{Bool}
 use Rattle.crs_base.specs.Words.{IsIn}
 use Rattle.crs_instance.specs.Instances.{IsOf}
 use Rattle.crs_model.specs.declared.plan.Plan.{Plan}
-use Rattle.crs_store.specs.PlaceWalks.{Walks}
+use Rattle.crs_living.specs.PlaceWalks.{Walks}
 use Rattle.crs_store.specs.Joins.{Renews}
-use Rattle.crs_store.specs.Slots.{SlotsState, members}
+use Rattle.crs_living.specs.Slots.{SlotsState, members}
 use Rattle.crs_store.specs.Tidy.{IsTidyHolding}
-use Rattle.crs_store.specs.Windows.{IsPassed, IsAble}
+use Rattle.crs_living.specs.Windows.{IsPassed, IsAble}
 use Rattle.crs_store.specs.declared.holding.Holding.{Holding}
 use Rattle.crs_store.proofs.Assembled.{tidy_able}
 use Rattle.crs_store.proofs.Born.{passed_nowhere}

@@ -3,7 +3,7 @@ use Rattle.std.specs.Prelude.{Some, None}
 use Rattle.crs_agenda.specs.declared.timed.Handle.{Handle}
 use Rattle.crs_store.specs.Links.{IsLinkedAnew, IsArmedAnew}
 use Rattle.crs_store.specs.Dues.{AreDue}
-use Rattle.crs_store.specs.Slots.{slot_at, handle_at}
+use Rattle.crs_living.specs.Slots.{slot_at, handle_at}
 use Rattle.crs_store.proofs.Registering.{registered}
 use Rattle.crs_store.proofs.holding.register.Goals as goal
 

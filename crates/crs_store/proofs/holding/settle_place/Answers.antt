@@ -3,8 +3,8 @@ use Rattle.std.specs.Prelude.{true, false, Some}
 use Rattle.crs_agenda.specs.declared.timed.Handle.{Handle}
 use Rattle.crs_model.specs.declared.plan.Plan.{Plan}
 use Rattle.crs_store.specs.Links.{linked_by, IsLinkedAnew, IsArmedAnew}
-use Rattle.crs_store.specs.Slots.{slot_at}
-use Rattle.crs_store.specs.Sweeps.{IsDone}
+use Rattle.crs_living.specs.Slots.{slot_at}
+use Rattle.crs_living.specs.Done.{IsDone}
 use Rattle.crs_store.proofs.Settling.{stands_at, settled_renewed, settled_none, settled_done, settled_found}
 use Rattle.crs_store.proofs.holding.settle_place.Goals as goal
 

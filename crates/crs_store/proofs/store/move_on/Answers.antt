@@ -4,8 +4,8 @@ use Rattle.crs_instance.specs.Instances.{InstanceState}
 use Rattle.crs_model.specs.declared.recognition.Recognition.{Recognition}
 use Rattle.crs_store.specs.Answers.{AreFound, AreFoundInOrder}
 use Rattle.crs_store.specs.Found.{founds, held_in, numbered}
-use Rattle.crs_store.specs.Slots.{members}
-use Rattle.crs_store.specs.Sweeps.{IsDone}
+use Rattle.crs_living.specs.Slots.{members}
+use Rattle.crs_living.specs.Done.{IsDone}
 use Rattle.crs_store.proofs.Assembled.{left_tidy}
 use Rattle.crs_store.proofs.Born.{founds_found, founds_left, founds_passed}
 use Rattle.crs_store.proofs.Ripened.{left_sifts}

@@ -2,14 +2,14 @@ use Rattle.std.proofs.Common.{◌∙◌, ◌++◌, length, map, sym, ap, subst, 
 use Rattle.crs_base.specs.declared.entry.Entry.{Entry as CodeEntry}
 use Rattle.crs_base.specs.Seen.{entry_of}
 use Rattle.crs_instance.specs.Instances.{IsOf}
-use Rattle.crs_store.specs.Ahead.{MayGo}
+use Rattle.crs_living.specs.Ahead.{MayGo}
 use Rattle.crs_store.specs.Forkings.{AreForksOfAll}
 use Rattle.crs_store.specs.Found.{founds, held_in}
 use Rattle.crs_store.specs.Joins.{Renews}
 use Rattle.crs_store.specs.Orders.{IsOvertaken}
-use Rattle.crs_store.specs.Slots.{members}
+use Rattle.crs_living.specs.Slots.{members}
 use Rattle.crs_store.specs.Tidy.{IsTidy}
-use Rattle.crs_store.specs.Windows.{IsAble, IsFollowed, IsPassed}
+use Rattle.crs_living.specs.Windows.{IsAble, IsFollowed, IsPassed}
 use Rattle.crs_store.proofs.Assembled.{tidy_all, tidy_standing, tidy_linked, few_ticks}
 use Rattle.crs_store.proofs.Births.{born_found, born_open, born_part}
 use Rattle.crs_store.proofs.Born.{forks_more, founds_all, founds_followed, founds_passed, founds_whole}

@@ -1,12 +1,12 @@
 use Rattle.std.proofs.Common.{◌++◌, length, map, refl, false}
 use Rattle.crs_base.specs.Seen.{entry_of}
 use Rattle.crs_instance.specs.Instances.{IsOf}
-use Rattle.crs_store.specs.Ahead.{MayGo}
+use Rattle.crs_living.specs.Ahead.{MayGo}
 use Rattle.crs_base.proofs.Alls.{all_append}
 use Rattle.crs_store.specs.Found.{founds, held_in}
 use Rattle.crs_store.specs.Orders.{IsOvertaken}
-use Rattle.crs_store.specs.Slots.{members}
-use Rattle.crs_store.specs.Windows.{IsAble}
+use Rattle.crs_living.specs.Slots.{members}
+use Rattle.crs_living.specs.Windows.{IsAble}
 use Rattle.crs_store.proofs.Assembled.{flat_ticks, tidy_all, tidy_able, tidy_standing}
 use Rattle.crs_store.proofs.Births.{born_found, born_open, born_part}
 use Rattle.crs_store.proofs.Born.{forks_more, founds_able, founds_all, founds_whole}

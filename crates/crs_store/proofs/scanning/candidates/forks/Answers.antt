@@ -9,7 +9,7 @@ use Rattle.crs_store.specs.Hooks.{key_of}
 use Rattle.crs_store.specs.Links.{hook_at}
 use Rattle.crs_store.specs.Named.{IsFirst}
 use Rattle.crs_store.specs.Orders.{IsOvertaken}
-use Rattle.crs_store.specs.Slots.{members}
+use Rattle.crs_living.specs.Slots.{members}
 use Rattle.crs_store.proofs.Births.{brings_gathered_none, brings_gathered_more, brings_gathered_all}
 use Rattle.crs_store.proofs.Gathered.{hook_there, hooks_long, events_cost}
 use Rattle.crs_store.proofs.Named.{brings_to_first}

@@ -4,7 +4,7 @@ use Rattle.crs_store.specs.Forkings.{KeepsStanding}
 use Rattle.crs_store.specs.Hooks.{KeepsFresh}
 use Rattle.crs_store.specs.Links.{hook_at}
 use Rattle.crs_store.specs.Orders.{IsOvertaken}
-use Rattle.crs_store.specs.Slots.{members}
+use Rattle.crs_living.specs.Slots.{members}
 use Rattle.crs_store.proofs.Births.{BringsGathered}
 use Rattle.crs_store.proofs.scanning.candidates.forks.Given as goal
 

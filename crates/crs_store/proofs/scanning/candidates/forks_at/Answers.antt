@@ -5,10 +5,10 @@ use Rattle.crs_base.proofs.Words.{in_from_each}
 use Rattle.crs_base.specs.Seen.{entry_of}
 use Rattle.crs_instance.specs.Instances.{IsOf}
 use Rattle.crs_store.specs.Orders.{IsOvertaken}
-use Rattle.crs_store.specs.Slots.{members, slot_at}
+use Rattle.crs_living.specs.Slots.{members, slot_at}
 use Rattle.crs_store.proofs.Births.{brings_swept_none, brings_swept_more, brings_swept_whole}
 use Rattle.crs_store.proofs.Gathered.{ascends_from, swept_skip, swept_next, swept_within}
-use Rattle.crs_store.proofs.Members.{at_member}
+use Rattle.crs_living.proofs.Members.{at_member}
 use Rattle.crs_store.proofs.scanning.candidates.forks_at.Goals as goal
 
 pub push_forks-requires-clause-of : goal.push_forks-requires-clause-of

@@ -1,7 +1,7 @@
 use Rattle.std.proofs.Common.{rules, ◌≡◌, ◌≤◌, ℕ, length, inl, inr, subst, ◌∙◌, arith}
 use Rattle.std.proofs.lemmas.Bool.{cases_lt}
 use Rattle.crs_base.specs.Words.{IsIn}
-use Rattle.crs_store.proofs.Members.{at_within}
+use Rattle.crs_living.proofs.Members.{at_within}
 use Rattle.crs_store.proofs.scanning.candidates.note_all.Goals as goal
 
 pub loop-place-preserved : goal.loop-place-preserved

@@ -6,7 +6,7 @@ use Rattle.crs_store.specs.Charts.{ChartState}
 use Rattle.crs_store.specs.Forkings.{AreForksBut}
 use Rattle.crs_store.specs.Links.{hook_at}
 use Rattle.crs_store.specs.Orders.{IsOvertaken, IsUnboundBefore}
-use Rattle.crs_store.specs.Scannings.{AreForksAt}
+use Rattle.crs_living.specs.Scannings.{AreForksAt}
 use Rattle.crs_store.proofs.Overtaken.{before_within, none_forked, all_forked}
 use Rattle.crs_store.proofs.Births.{brings_none, brings_as}
 use Rattle.crs_store.proofs.scanning.candidates.push_forks.Goals as goal

@@ -5,9 +5,9 @@ use Rattle.crs_base.specs.declared.entry.Entry.{Entry as CodeEntry}
 use Rattle.crs_instance.specs.Instances.{InstanceState, IsForked}
 use Rattle.crs_instance.specs.Waits.{AnotherIsLate}
 use Rattle.crs_focus.specs.PlanLevels.{levels_in}
-use Rattle.crs_store.specs.Scannings.{AreForksAt, IsDecided}
+use Rattle.crs_living.specs.Scannings.{AreForksAt, IsDecided}
 use Rattle.crs_store.proofs.Births.{brings_none, brings_open, brings_found}
-use Rattle.crs_store.proofs.Scanned.{adds_as, unawaited, too_late, unforked, started}
+use Rattle.crs_living.proofs.Scanned.{adds_as, unawaited, too_late, unforked, started}
 use Rattle.crs_store.proofs.scanning.candidates.push_open_forks.Goals as goal
 
 never : false ≡ true → ⊥

@@ -3,8 +3,8 @@ use Rattle.crs_model.specs.declared.plan.Plan.{Plan}
 use Rattle.crs_model.specs.declared.recognition.Recognition.{Recognition}
 use Rattle.crs_store.specs.Answers.{MovesOn}
 use Rattle.crs_store.specs.Found.{founds, held_in}
-use Rattle.crs_store.specs.Slots.{members}
-use Rattle.crs_store.specs.Stores.{AllOf}
+use Rattle.crs_living.specs.Slots.{members}
+use Rattle.crs_living.specs.Parts.{AllOf}
 use Rattle.crs_store.specs.Tidy.{IsTidyHolding}
 use Rattle.crs_store.proofs.Assembled.{all_placed, founds_of, tidy_at_mark}
 use Rattle.crs_store.proofs.Advancing.{advanced_from}

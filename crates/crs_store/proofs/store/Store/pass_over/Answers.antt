@@ -1,6 +1,6 @@
 use Rattle.std.proofs.Common.{refl, subst, length}
 use Rattle.crs_store.specs.Found.{held_in}
-use Rattle.crs_store.specs.Slots.{members}
+use Rattle.crs_living.specs.Slots.{members}
 use Rattle.crs_store.specs.Stores.{StoreState, PassesOver}
 use Rattle.crs_store.proofs.Passing.{offered_other}
 use Rattle.crs_store.proofs.store.Store.pass_over.Goals as goal

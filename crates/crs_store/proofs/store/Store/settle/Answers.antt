@@ -6,10 +6,10 @@ use Rattle.crs_store.specs.Found.{held_in}
 use Rattle.crs_store.specs.Hooks.{AreHooks}
 use Rattle.crs_store.specs.Orders.{AreOrdered}
 use Rattle.crs_store.specs.Joins.{Renews}
-use Rattle.crs_store.specs.Slots.{members}
+use Rattle.crs_living.specs.Slots.{members}
 use Rattle.crs_store.specs.Stores.{StoreState, IsStore, KeepsPlaces}
 use Rattle.crs_store.specs.Tidy.{IsTidyHolding}
-use Rattle.crs_store.specs.Windows.{IsAble, IsFollowed}
+use Rattle.crs_living.specs.Windows.{IsAble, IsFollowed}
 use Rattle.crs_store.proofs.Assembled.{tidy_at_mark, founds_of, still_placed}
 use Rattle.crs_store.proofs.Born.{founds_followed}
 use Rattle.crs_store.proofs.Prompting.{settled_from, settled_exact}

@@ -2,8 +2,9 @@ use Rattle.std.proofs.Common.{◌≤◌, ◌+◌, ◌*◌, length, map, refl, sy
 use Rattle.crs_base.specs.Seen.{entry_of}
 use Rattle.crs_model.specs.declared.plan.Plan.{Plan}
 use Rattle.crs_store.specs.Found.{founds, held_in}
-use Rattle.crs_store.specs.Slots.{members}
-use Rattle.crs_store.specs.Stores.{AllOf, StoreState, KeepsPlaces}
+use Rattle.crs_living.specs.Slots.{members}
+use Rattle.crs_living.specs.Parts.{AllOf}
+use Rattle.crs_store.specs.Stores.{StoreState, KeepsPlaces}
 use Rattle.crs_store.specs.Sweeps.{TakesPromptSome}
 use Rattle.crs_store.specs.Tidy.{IsTidyHolding}
 use Rattle.crs_store.proofs.Assembled.{tidy_at_mark, founds_of, still_placed, more_ticks}

@@ -3,7 +3,7 @@ use Rattle.std.specs.Prelude.{false, None, replicate}
 use Rattle.crs_instance.specs.Instances.{InstanceState, IsOf}
 use Rattle.crs_model.specs.declared.plan.Plan.{Plan}
 use Rattle.crs_store.specs.Found.{held_in}
-use Rattle.crs_store.specs.Slots.{members}
+use Rattle.crs_living.specs.Slots.{members}
 use Rattle.crs_store.proofs.Assembled.{all_placed, held_alone}
 use Rattle.crs_store.proofs.Standing.{new_stands}
 use Rattle.crs_store.proofs.store.Store.with_hooks.Goals as goal

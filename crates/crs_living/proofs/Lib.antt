@@ -1,0 +1,10 @@
+pub mod Hopeless
+pub mod Leaving
+pub mod Progress
+pub mod Overs
+pub mod Kept
+pub mod Members
+pub mod Counted
+pub mod Choosing
+pub mod Scanned
+pub mod Walked

@@ -1,0 +1,11 @@
+pub mod Ahead
+pub mod Parts
+pub mod Windows
+pub mod JudgedWindows
+pub mod Done
+pub mod Judgings
+pub mod Slots
+pub mod PlaceWalks
+pub mod Now
+pub mod Scannings
+pub mod Scans

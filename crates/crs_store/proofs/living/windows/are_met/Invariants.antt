@@ -1,5 +1,0 @@
-use Rattle.crs_store.specs.JudgedWindows.{IsMetTo}
-use Rattle.crs_store.proofs.living.windows.are_met.Given as goal
-
-abbrev pub invariant-loop-k : goal.invariant-loop-k
-invariant-loop-k l = IsMetTo l.judging.plan.now l.judging.h l.instance l.k

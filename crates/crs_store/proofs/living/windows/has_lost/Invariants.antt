@@ -1,5 +1,0 @@
-use Rattle.crs_store.specs.JudgedWindows.{IsLostNowhere}
-use Rattle.crs_store.proofs.living.windows.has_lost.Given as goal
-
-abbrev pub invariant-loop-k : goal.invariant-loop-k
-invariant-loop-k l = IsLostNowhere l.judging.plan.now l.judging.h l.instance l.k

@@ -1,8 +1,0 @@
-use Rattle.std.proofs.Common.{drop}
-use Rattle.crs_base.specs.Seen.{entry_of}
-use Rattle.crs_store.specs.Windows.{IsAble, IsFollowed}
-use Rattle.crs_store.proofs.Walked.{IsWalkedBut}
-use Rattle.crs_store.proofs.places.walking.follow_places.Given as goal
-
-abbrev pub invariant-loop-place : goal.invariant-loop-place
-invariant-loop-place l = IsWalkedBut (IsFollowed l.passing.judging.plan.now l.passing.history.now (entry_of l.entry) l.passing.since) (IsAble l.passing.judging.plan.now l.passing.judging.focus l.passing.judging.h) l.places l.fn.slots (drop l.place-index l.places) l.slots
