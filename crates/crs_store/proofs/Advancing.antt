@@ -36,7 +36,8 @@ use Rattle.crs_store.proofs.Ahead.{passed_ahead}
 use Rattle.crs_store.proofs.Standing.{same_levels, given_ahead, closed_ahead, parts_same, zip_of, zip_all, over_of, follows_of}
 use Rattle.crs_store.proofs.Marking.{IsWhole, done_is_recognised, recognised_is_met, made_is_recognised, made_is_of}
 use Rattle.crs_store.proofs.Finding.{all_some}
-use Rattle.crs_store.proofs.Ascending.{IsOver as IsOver_, ascending, moved_in, moved_back}
+use Rattle.crs_store.proofs.Ascending.{IsOver as IsOver_, ascending}
+use Rattle.crs_waiting.proofs.Moved.{moved_in, moved_back}
 
 pub all_some_of : (a : Partial Sym) → list_all (λ o. is_some o) a ≡ true → IsWhole a
 all_some_of [] t e l n = absurd (omega arith)

@@ -15,14 +15,15 @@ use Rattle.crs_model.specs.declared.recognition.Recognition.{Recognition}
 use Rattle.crs_model.specs.Plans.{chronicle}
 use Rattle.crs_model.proofs.Options.{of_some, some_if}
 use Rattle.crs_store.specs.declared.holding.Holding.{Holding}
-use Rattle.crs_store.specs.declared.waiting.hooks.Hooks.{Hooks}
+use Rattle.crs_waiting.specs.declared.hooks.Hooks.{Hooks}
 use Rattle.crs_store.specs.Forkings.{KeepsStanding}
 use Rattle.std.specs.Prelude.{Bool, false}
-use Rattle.crs_store.specs.Hooks.{AreHooks, key_of}
-use Rattle.crs_store.specs.Orders.{AreOrdered}
+use Rattle.crs_waiting.specs.Hooks.{AreHooks, key_of}
+use Rattle.crs_waiting.specs.Orders.{AreOrdered}
 use Rattle.crs_store.specs.Found.{found_state, founds, held_in}
 use Rattle.crs_store.specs.Joins.{ComesTo, Renews}
-use Rattle.crs_store.specs.Links.{linked_by, AreLinked, hook_at}
+use Rattle.crs_waiting.specs.Links.{linked_by, hook_at}
+use Rattle.crs_store.specs.Waiters.{AreLinked}
 use Rattle.crs_store.specs.Ripenings.{AreLeft, LeftAt}
 use Rattle.crs_living.specs.Slots.{SlotsState, slot_at, handle_at, members}
 use Rattle.crs_living.specs.Done.{IsDone}
@@ -31,7 +32,7 @@ use Rattle.crs_store.specs.Stores.{IsStore}
 use Rattle.crs_store.specs.Tidy.{IsKnown, IsTidy, IsTidyHolding}
 use Rattle.crs_living.specs.Windows.{IsAble}
 use Rattle.std.specs.List.{AllByRecursion}
-use Rattle.crs_store.proofs.Linked.{linked_earlier}
+use Rattle.crs_waiting.proofs.Linked.{linked_earlier}
 use Rattle.crs_store.proofs.Standing.{zip_length}
 use Rattle.crs_living.proofs.Members.{member_at}
 

@@ -30,22 +30,22 @@ use Rattle.crs_model.specs.SeenModels.{event_of}
 use Rattle.crs_model.proofs.Images.{image_one}
 use Rattle.crs_model.proofs.ScanImages.{one_parent, same_event}
 use Rattle.crs_instance.proofs.Openings.{beginnings_can_be}
-use Rattle.crs_store.specs.declared.waiting.hooks.Hook.{Hook}
+use Rattle.crs_waiting.specs.declared.hooks.Hook.{Hook}
 use Rattle.crs_instance.proofs.BindAnswers.{get-replicate}
 use Rattle.crs_model.specs.Bindings.{look_of, Looser}
 use Rattle.crs_model.specs.Matching.{Binding, PatternIs}
 use Rattle.crs_model.proofs.Options.{of_some}
 use Rattle.crs_store.specs.Agreeing.{Agree, IsTaken}
-use Rattle.crs_store.specs.Forkings.{HaveWindow, NoneWait, IsNoted, AreCandidates, KeepsStanding, IsHookAt, AreLinkedAt, AreSought, standing, ComeOf, IsForkWith, IsForkBelow, AreForksBut, AreForksOfPlaces, AreForksOfEvent, AreForksOfAll}
-use Rattle.crs_store.specs.Hooks.{IsHookOfEvent, KeepsFresh, picked_symbols, picked_arguments}
-use Rattle.crs_store.specs.Links.{hook_at, IsHeldBack, IsNext}
+use Rattle.crs_store.specs.Forkings.{HaveWindow, NoneWait, IsNoted, AreCandidates, KeepsStanding, AreLinkedAt, AreSought, standing, ComeOf, IsForkWith, IsForkBelow, AreForksBut, AreForksOfPlaces, AreForksOfEvent, AreForksOfAll}
+use Rattle.crs_waiting.specs.Hooks.{IsHookAt, IsHookOfEvent, KeepsFresh, picked_symbols, picked_arguments}
+use Rattle.crs_waiting.specs.Links.{hook_at, IsHeldBack, IsNext}
 use Rattle.crs_living.specs.Slots.{SlotsState, slot_at, handle_at, members}
 use Rattle.crs_living.specs.Parts.{parts, AllOf}
 use Rattle.crs_focus.specs.PlanLevels.{levels_in}
 use Rattle.crs_living.specs.Scannings.{Adds}
 use Rattle.crs_living.specs.Windows.{IsAble, IsOpenBut, IsOver}
 use Rattle.crs_store.proofs.Chosen.{Ascends, standing_part, standing_in, part_few, part_map, part_ordered}
-use Rattle.crs_store.proofs.Fitting.{inside_window, fits, binding_grows, fits_hook, fits_part}
+use Rattle.crs_waiting.proofs.Fitting.{inside_window, fits, binding_grows, fits_hook, fits_part}
 use Rattle.crs_living.proofs.Members.{at_within, at_member, member_at}
 use Rattle.crs_store.proofs.Noting.{fresh_at, get_any, cleans_keep, in_bucket}
 

@@ -15,11 +15,11 @@ use Rattle.std.proofs.Common.{◌+◌, ◌++◌, ◌∷◌, [], Vec, Global}
 use Rattle.crs_model.specs.Bindings.{look_of}
 use Rattle.crs_model.proofs.Options.{of_some, some_if}
 use Rattle.crs_store.specs.declared.holding.Holding.{Holding}
-use Rattle.crs_store.specs.declared.waiting.hooks.Hooks.{Hooks}
-use Rattle.crs_store.specs.Dues.{AreCollected, IsUndue, IsUntouched, KeepsFreshPairs}
-use Rattle.crs_store.specs.Hooks.{KeepsFresh, key_of}
+use Rattle.crs_waiting.specs.declared.hooks.Hooks.{Hooks}
+use Rattle.crs_waiting.specs.Dues.{AreCollected, IsUndue, IsUntouched, KeepsFreshPairs}
+use Rattle.crs_waiting.specs.Hooks.{KeepsFresh, key_of}
 use Rattle.crs_store.specs.Joins.{Renews}
-use Rattle.crs_store.specs.Links.{hook_at}
+use Rattle.crs_waiting.specs.Links.{hook_at}
 use Rattle.crs_living.specs.Slots.{SlotsState, slot_at, handle_at, members, Becomes}
 use Rattle.crs_store.specs.Tidy.{IsTidy, IsTidyHolding, SettlesPlaces}
 use Rattle.crs_living.specs.PlaceWalks.{Walks}

@@ -12,14 +12,14 @@ use Rattle.crs_index.specs.Indexes.{IndexState}
 use Rattle.crs_instance.specs.Instances.{InstanceState}
 use Rattle.crs_model.specs.declared.plan.Plan.{Plan}
 use Rattle.crs_model.specs.Partial.{Partial}
-use Rattle.crs_store.specs.declared.waiting.hooks.Hook.{Hook}
-use Rattle.crs_store.specs.Dues.{AreKept}
+use Rattle.crs_waiting.specs.declared.hooks.Hook.{Hook}
+use Rattle.crs_waiting.specs.Dues.{AreKept}
 use Rattle.crs_store.specs.Joins.{AreApart, IsPartOf, Joins, JoinsSome, LeavesOut}
 use Rattle.crs_model.specs.Bindings.{look_of}
 use Rattle.crs_model.specs.Plans.{chronicle}
 use Rattle.crs_model.proofs.Options.{of_some, some_if}
-use Rattle.crs_store.specs.Hooks.{key_of}
-use Rattle.crs_store.specs.Links.{Grows, hook_at}
+use Rattle.crs_waiting.specs.Hooks.{key_of}
+use Rattle.crs_waiting.specs.Links.{Grows, hook_at}
 use Rattle.crs_living.specs.Slots.{SlotsState, slot_at, handle_at, Puts}
 use Rattle.crs_living.specs.Parts.{parts}
 use Rattle.crs_store.specs.Tidy.{IsKnown, IsTidy}

@@ -9,10 +9,10 @@ use Rattle.crs_model.specs.declared.plan.Plan.{Plan}
 use Rattle.crs_model.specs.declared.recognition.Recognition.{Recognition}
 use Rattle.crs_model.specs.Partial.{Partial}
 use Rattle.crs_model.specs.Plans.{chronicle, IsProper}
-use Rattle.crs_store.specs.declared.waiting.hooks.Hook.{Hook}
-use Rattle.crs_store.specs.Hooks.{IsHookOfEvent}
-use Rattle.crs_store.specs.Links.{hook_at}
-use Rattle.crs_store.specs.Named.{IsFirst}
+use Rattle.crs_waiting.specs.declared.hooks.Hook.{Hook}
+use Rattle.crs_waiting.specs.Hooks.{IsHookOfEvent}
+use Rattle.crs_waiting.specs.Links.{hook_at}
+use Rattle.crs_waiting.specs.Named.{IsFirst}
 use Rattle.crs_living.specs.Slots.{SlotsState, members}
 use Rattle.crs_living.specs.Parts.{AllOf}
 use Rattle.crs_store.proofs.Births.{BringsGathered, brings_none, brings_gathered_more}

@@ -17,10 +17,11 @@ use Rattle.crs_base.specs.Entry.{Entry}
 use Rattle.crs_model.specs.declared.plan.Plan.{Plan}
 use Rattle.crs_model.specs.Models.{Window}
 use Rattle.crs_model.specs.Plans.{chronicle}
-use Rattle.crs_store.specs.declared.waiting.hooks.Hook.{Hook}
-use Rattle.crs_store.specs.Hooks.{Waits, KeepsFresh, key_with, picked_arguments}
-use Rattle.crs_store.specs.Links.{hook_at, HasWaiting, HasTouchedAt, HasTouched}
-use Rattle.crs_store.specs.Refusing.{Refuses}
+use Rattle.crs_waiting.specs.declared.hooks.Hook.{Hook}
+use Rattle.crs_waiting.specs.Hooks.{Waits, KeepsFresh, key_with, picked_arguments}
+use Rattle.crs_waiting.specs.Links.{hook_at}
+use Rattle.crs_store.specs.Waiters.{HasWaiting, HasTouchedAt, HasTouched}
+use Rattle.crs_waiting.specs.Refusing.{Refuses}
 use Rattle.crs_living.specs.Slots.{SlotsState, handle_at}
 
 -- ---- what is fresh

@@ -1,6 +1,6 @@
 -- What has an entry at an event, and awaits one that comes before that, isn't wanted.
 use Rattle.std.proofs.Common.{◌≡◌, ℕ, ◌≤◌, ◌<◌, Bool, List, [], ◌∷◌, length, refl, sym, ap, subst, ◌∙◌, inl, inr, arith, length-set}
-use Rattle.std.specs.Prelude.{ℤ, pos, ◌≤ℤ◌, ◌<ℤ◌, ◌+ℤ◌, true, false, Option, Some, None, IfSome, slice_get}
+use Rattle.std.specs.Prelude.{ℤ, pos, ◌≤ℤ◌, ◌<ℤ◌, ◌+ℤ◌, true, false, Option, Some, None, slice_get}
 use Rattle.std.proofs.lemmas.Bool.Decides.{eqb_tells}
 use Rattle.std.proofs.lemmas.Int.{ints}
 use Rattle.std.proofs.lemmas.List.{length-map}
@@ -22,32 +22,23 @@ use Rattle.crs_model.specs.Scans.{GrowsTo, StartsAt, IsForkByLevel, GoesOnByLeve
 use Rattle.crs_model.specs.Steps.{GoesOn}
 use Rattle.crs_model.specs.SeenModels.{event_of}
 use Rattle.crs_model.proofs.ByLevel.{one_event}
-use Rattle.crs_model.proofs.Options.{of_some, some_if, cases_of}
+use Rattle.crs_model.proofs.Options.{of_some, cases_of}
 use Rattle.crs_model.proofs.Parts.{at_within, put_same, put_other, none_back, agrees_at}
 use Rattle.crs_instance.specs.Instances.{InstanceState}
-use Rattle.crs_store.specs.declared.waiting.hooks.Hook.{Hook}
+use Rattle.crs_waiting.specs.declared.hooks.Hook.{Hook}
 use Rattle.crs_living.specs.Ahead.{MayBecome}
 use Rattle.crs_store.specs.Forkings.{AreForksBut}
-use Rattle.crs_store.specs.Links.{hook_at, IsHeldBack, IsNext}
-use Rattle.crs_store.specs.Orders.{rank_of, ComesFirst, AreOrdered, IsUnboundBefore, AreBehind, IsOvertaken}
+use Rattle.crs_waiting.specs.Links.{hook_at, IsHeldBack}
+use Rattle.crs_waiting.specs.Orders.{rank_of, ComesFirst, AreOrdered, IsUnboundBefore, AreBehind, IsOvertaken}
 use Rattle.crs_focus.specs.PlanLevels.{levels_in}
 use Rattle.crs_living.specs.Scannings.{AreForksAt}
 use Rattle.crs_store.specs.Sweeps.{IsFree}
 use Rattle.crs_living.specs.Windows.{IsOpenAt, IsOpenBut}
 use Rattle.crs_living.proofs.Hopeless.{item_at}
+use Rattle.crs_waiting.proofs.Next.{awaited_too}
 
 not_both : {A : Type 0} (o : Option A) (y : A) → o ≡ Some y → o ≡ None → ⊥
 not_both o y s n = cc
-
--- another unbound event of the level of an awaited one is awaited too
-pub awaited_too : (level : ℕ → ℕ) (a : Partial Sym) (e f : ℕ) → IsAwaited level a e → level f ≡ level e → f < length a → at a f ≡ None → IsAwaited level a f
-awaited_too level a e f w same within none = record { within = within; unbound = none; least = λ g l n. let k = w.least g l n in omega (arith, same) }
-
--- what the hook names is an event of the instance
-pub before_within : (plan : Plan) (focus : Bool) (ranks : List ℕ) (hooks : List Hook) → AreOrdered plan focus ranks hooks → (e : ℕ) (hook : Hook) → hook ≡ hook_at hooks e → (n : ℕ) → n ≡ length plan.chronicle.events → IfSome hook.before (λ f. f < n)
-before_within plan focus ranks hooks order e hook is n len = some_if hook.before _ (λ f named.
-    let first = (order.each e f (subst (λ (h : Hook). h.before ≡ Some f) is named)).1 in
-    let l = first.within in omega (arith, len))
 
 module _ (plan : Plan) (focus : Bool) (ranks : List ℕ) (hooks : List Hook) (order : AreOrdered plan focus ranks hooks) (x : Entry Sym) where
   level : ℕ → ℕ
@@ -89,12 +80,6 @@ module _ (plan : Plan) (focus : Bool) (ranks : List ℕ) (hooks : List Hook) (or
       let named : (hook_at hooks e).before ≡ Some f = subst (λ (n : ℕ). (hook_at hooks n).before ≡ Some f) same (o.1).3 in
       let first : ComesFirst plan focus ranks f e = (order.each e f named).1 in
       (f, named, sym (put_other a e f x first.apart) ∙ none_back (put a e x) b f grows.part v.unbound)
-
--- one whose event can't come yet isn't next
-pub not_next : (plan : Plan) (focus : Bool) (ranks : List ℕ) (hooks : List Hook) → AreOrdered plan focus ranks hooks → (e : ℕ) (a : Partial Sym) → length a ≡ length plan.chronicle.events → IsUnboundBefore (hook_at hooks e) a → IsNext (levels_in plan focus) (hook_at hooks e) a e → ⊥
-not_next plan focus ranks hooks order e a len back next =
-    let first : ComesFirst plan focus ranks back.0 e = (order.each e back.0 back.1).1 in
-    next.free (back.0, back.1, awaited_too (levels_in plan focus) a e back.0 next.awaited first.level (subst (λ (n : ℕ). back.0 < n) (sym len) first.within) back.2)
 
 -- ---- what is left out, and what isn't
 

@@ -6,9 +6,9 @@ use Rattle.crs_base.specs.declared.symbols.Sym.{Sym}
 use Rattle.crs_base.specs.Words.{IsIn}
 use Rattle.crs_agenda.specs.declared.timed.Handle.{Handle}
 use Rattle.crs_index.specs.Indexes.{IndexState, bucket_of}
-use Rattle.crs_store.specs.declared.waiting.hooks.Symbols.{Symbols}
+use Rattle.crs_waiting.specs.declared.hooks.Symbols.{Symbols}
 use Rattle.crs_store.specs.Forkings.{NoneWait, AreCandidates, AreCandidatesOf, KeepsStanding}
-use Rattle.crs_store.specs.Hooks.{IsPart, IsAmong, KeepsFresh, Waits, key_with, part_of}
+use Rattle.crs_waiting.specs.Hooks.{IsPart, IsAmong, KeepsFresh, Waits, key_with, part_of}
 use Rattle.crs_living.specs.Slots.{SlotsState, handle_at}
 
 -- ---- each part is one of those with a number

@@ -22,8 +22,8 @@ use Rattle.crs_model.proofs.Options.{of_some, some_if}
 use Rattle.crs_model.proofs.Parts.{at_within, put_same}
 use Rattle.crs_instance.specs.Instances.{InstanceState, IsOf}
 use Rattle.crs_instance.specs.Followed.{Follows}
-use Rattle.crs_store.specs.Dues.{IsUntouched}
-use Rattle.crs_store.specs.Hooks.{name_of, LooksFor}
+use Rattle.crs_waiting.specs.Dues.{IsUntouched}
+use Rattle.crs_waiting.specs.Hooks.{name_of, LooksFor}
 use Rattle.crs_focus.specs.PlanLevels.{levels_in}
 use Rattle.crs_store.specs.Stores.{StoreState, IsStore, StandsAhead, levels_of, IsOfferedAt, IsOfferedUntil}
 use Rattle.crs_living.specs.Parts.{parts}

@@ -11,7 +11,7 @@ use Rattle.crs_model.specs.declared.recognition.Mark.{Mark}
 use Rattle.crs_model.specs.declared.recognition.Recognition.{Recognition}
 use Rattle.crs_model.specs.Plans.{IsProper}
 use Rattle.crs_store.specs.declared.holding.Holding.{Holding}
-use Rattle.crs_store.specs.declared.waiting.hooks.Hooks.{Hooks}
+use Rattle.crs_waiting.specs.declared.hooks.Hooks.{Hooks}
 use Rattle.crs_store.specs.Answers.{MovesOn}
 use Rattle.crs_store.specs.Found.{held_in}
 use Rattle.crs_store.specs.Joins.{Renews}

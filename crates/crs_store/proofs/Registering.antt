@@ -12,14 +12,14 @@ use Rattle.crs_model.specs.declared.plan.Plan.{Plan}
 use Rattle.crs_model.specs.Plans.{chronicle}
 use Rattle.crs_model.proofs.Options.{of_some, some_if}
 use Rattle.crs_store.specs.declared.holding.Holding.{Holding}
-use Rattle.crs_store.specs.declared.waiting.hooks.Hook.{Hook}
-use Rattle.crs_store.specs.declared.waiting.hooks.Hooks.{Hooks}
-use Rattle.crs_store.specs.Dues.{AreDue, AreKept}
+use Rattle.crs_waiting.specs.declared.hooks.Hook.{Hook}
+use Rattle.crs_waiting.specs.declared.hooks.Hooks.{Hooks}
+use Rattle.crs_waiting.specs.Dues.{AreDue, AreKept}
 use Rattle.crs_store.specs.Found.{founds, held_in}
 use Rattle.crs_living.specs.Parts.{AllOf}
 use Rattle.crs_model.specs.declared.recognition.Recognition.{Recognition}
-use Rattle.crs_store.specs.Links.{linked_by, Grows, IsLinkedAnew, IsArmedAnew, hook_at}
-use Rattle.crs_store.specs.Hooks.{key_of}
+use Rattle.crs_waiting.specs.Links.{linked_by, Grows, IsLinkedAnew, IsArmedAnew, hook_at}
+use Rattle.crs_waiting.specs.Hooks.{key_of}
 use Rattle.crs_model.specs.Bindings.{look_of}
 use Rattle.crs_living.specs.Slots.{SlotsState, slot_at, handle_at, Puts}
 use Rattle.crs_living.specs.Done.{IsDone}

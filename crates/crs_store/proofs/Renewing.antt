@@ -19,22 +19,26 @@ use Rattle.crs_model.specs.Models.{Body, NoEvent, Occurs, Hold}
 use Rattle.crs_model.specs.Partial.{IsAwaited}
 use Rattle.crs_model.specs.Plans.{chronicle, IsProper}
 use Rattle.crs_model.proofs.Options.{of_some, some_if}
-use Rattle.crs_store.specs.declared.waiting.hooks.Hook.{Hook}
-use Rattle.crs_store.specs.Dues.{AreDue, AreKept, AreCollected, IsDue, IsUndue}
-use Rattle.crs_store.specs.Hooks.{Waits, KeepsFresh, key_of}
+use Rattle.crs_waiting.specs.declared.hooks.Hook.{Hook}
+use Rattle.crs_waiting.specs.Dues.{AreDue, AreKept, AreCollected, IsDue, IsUndue}
+use Rattle.crs_waiting.specs.Hooks.{Waits, KeepsFresh, key_of}
 use Rattle.crs_focus.specs.PlanLevels.{levels_in}
-use Rattle.crs_store.specs.Links.{linked_by, CanStart, Grows, IsLinked, IsLinkedAnew, IsNear, IsArmed, IsArmedAnew, hook_at}
+use Rattle.crs_waiting.specs.Links.{linked_by, CanStart, Grows, IsLinked, IsLinkedAnew, IsNear, IsArmed, IsArmedAnew, hook_at}
 use Rattle.crs_living.specs.Slots.{SlotsState, slot_at, handle_at, Becomes}
 use Rattle.crs_living.specs.Done.{IsDone}
 use Rattle.crs_store.specs.Tidy.{IsKnown, IsTidy}
 use Rattle.crs_living.specs.Windows.{IsAble, IsSameInstance, Gains}
-use Rattle.crs_store.proofs.DuePairs.{dues_left, dues_later, left_undue, same_dues}
+use Rattle.crs_waiting.proofs.DuePairs.{dues_left, dues_later, left_undue}
 use Rattle.crs_living.proofs.Members.{at_within}
 use Rattle.crs_store.proofs.Noting.{fresh_at}
 use Rattle.crs_living.proofs.Progress.{still_of}
 use Rattle.crs_store.proofs.Registering.{done_known}
 use Rattle.crs_living.proofs.Walked.{in_or_not}
 use Rattle.crs_store.proofs.Unmoved.{near_early, undue_able, undue_undone}
+
+-- only the progress of windows changed: the due dates are the same
+pub same_dues : (plan : Plan) (focus : Bool) (old new : InstanceState) → IsSameInstance old new → (handle : Handle) (d : ℕ) (pairs : List Timed) → AreDue plan focus old handle d pairs → AreDue plan focus new handle d pairs
+same_dues plan focus old new s handle d pairs due = subst (λ (i : InstanceState). AreDue plan focus i handle d pairs) (sym s.same) due
 
 -- ---- dates at which an event can start
 

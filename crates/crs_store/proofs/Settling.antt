@@ -12,13 +12,13 @@ use Rattle.crs_index.specs.Indexes.{IndexState}
 use Rattle.crs_instance.specs.Instances.{InstanceState}
 use Rattle.crs_model.specs.declared.plan.Plan.{Plan}
 use Rattle.crs_store.specs.declared.holding.Holding.{Holding}
-use Rattle.crs_store.specs.declared.waiting.hooks.Hooks.{Hooks}
-use Rattle.crs_store.specs.Dues.{AreDue}
-use Rattle.crs_store.specs.Links.{linked_by, Grows, IsLinkedAnew, IsArmedAnew}
+use Rattle.crs_waiting.specs.declared.hooks.Hooks.{Hooks}
+use Rattle.crs_waiting.specs.Dues.{AreDue}
+use Rattle.crs_waiting.specs.Links.{linked_by, Grows, IsLinkedAnew, IsArmedAnew}
 use Rattle.crs_living.specs.Slots.{SlotsState, slot_at, handle_at, Renumbers}
 use Rattle.crs_living.specs.Done.{IsDone}
 use Rattle.crs_store.specs.Tidy.{IsFoundAgain, IsFoundAnew, IsFoundWhole, Keeps, Registers, SettlesPlace, SettlesPlaces}
-use Rattle.crs_store.proofs.Linked.{linked_still, armed_still}
+use Rattle.crs_waiting.proofs.Linked.{linked_still, armed_still}
 use Rattle.crs_living.proofs.Walked.{IsEachBut, first_apart}
 
 one : {a b : InstanceState} → Some a ≡ Some b → a ≡ b

@@ -24,8 +24,8 @@ use Rattle.crs_instance.specs.Followed.{Follows}
 use Rattle.crs_instance.proofs.GoesOn.{root_goes_on}
 use Rattle.crs_instance.proofs.BindAnswers.{get-replicate}
 use Rattle.crs_living.specs.Ahead.{MayBecome, IsWanted, AreAhead, MayGo}
-use Rattle.crs_store.specs.declared.waiting.hooks.Hook.{Hook}
-use Rattle.crs_store.specs.Orders.{AreOrdered, IsOvertaken}
+use Rattle.crs_waiting.specs.declared.hooks.Hook.{Hook}
+use Rattle.crs_waiting.specs.Orders.{AreOrdered, IsOvertaken}
 use Rattle.crs_living.specs.Parts.{parts, AllOf}
 use Rattle.crs_store.specs.Stores.{StoreState, IsStore, Stands, StandsAhead, StandsComing, IsSameStore, levels_of, IsOffered, IsOfferedAt}
 use Rattle.crs_focus.specs.PlanLevels.{levels_in}

@@ -19,13 +19,14 @@ use Rattle.crs_model.specs.Plans.{chronicle}
 use Rattle.crs_model.specs.SeenModels.{window_of}
 use Rattle.crs_model.specs.Verdicts.{IsStretch, TermIsBound, BodyIsBound, IsDatedIn}
 use Rattle.crs_model.proofs.Options.{of_some, some_if, get_within}
-use Rattle.crs_store.specs.declared.waiting.hooks.Hook.{Hook}
-use Rattle.crs_store.specs.Dues.{IsUndue, IsUntouched}
-use Rattle.crs_store.specs.declared.waiting.hooks.Symbols.{Symbols}
-use Rattle.crs_store.specs.Hooks.{IsHookOfWindow, Waits, key_with, name_of, terms_of}
-use Rattle.crs_store.specs.Links.{IsArmed, IsWanting, HasWaiting, HasTouched, hook_at}
+use Rattle.crs_waiting.specs.declared.hooks.Hook.{Hook}
+use Rattle.crs_waiting.specs.Dues.{IsUndue, IsUntouched}
+use Rattle.crs_waiting.specs.declared.hooks.Symbols.{Symbols}
+use Rattle.crs_waiting.specs.Hooks.{IsHookOfWindow, Waits, key_with, name_of, terms_of}
+use Rattle.crs_waiting.specs.Links.{IsArmed, IsWanting, hook_at}
+use Rattle.crs_store.specs.Waiters.{HasWaiting, HasTouched}
 use Rattle.crs_living.specs.Slots.{SlotsState, handle_at}
-use Rattle.crs_store.proofs.Fitting.{fitting_whole}
+use Rattle.crs_waiting.proofs.Fitting.{fitting_whole}
 use Rattle.crs_store.proofs.Unmoved.{near_early}
 use Rattle.crs_agenda.specs.Freshness.{is_fresh}
 use Rattle.std.specs.Prelude.{true}

@@ -22,11 +22,11 @@ use Rattle.crs_instance.specs.Followed.{Follows}
 use Rattle.crs_instance.proofs.Deadline.{deadline_by}
 use Rattle.crs_instance.specs.CurrentLevel.{IsCurrentLevel}
 use Rattle.crs_instance.proofs.GoesOn.{deadline_tells, whole_goes_on}
-use Rattle.crs_store.specs.Links.{IsNear}
+use Rattle.crs_waiting.specs.Links.{IsNear}
 use Rattle.crs_focus.specs.PlanLevels.{levels_in}
 use Rattle.crs_living.specs.Windows.{IsAble}
 use Rattle.crs_living.specs.Done.{IsDone, is_whole}
-use Rattle.crs_store.specs.Dues.{IsStart, IsTurn, IsDue, IsUndue, IsUntouched, AreEnded}
+use Rattle.crs_waiting.specs.Dues.{IsStart, IsTurn, IsDue, IsUndue, IsUntouched, AreEnded}
 use Rattle.crs_focus.proofs.Awaiting.{current_or_none}
 use Rattle.crs_living.proofs.Progress.{each_window}
 

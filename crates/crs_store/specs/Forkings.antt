@@ -1,5 +1,5 @@
 -- The forks of instances that stand in places.
-use Rattle.std.specs.Prelude.{◌≡◌, ◌⊎◌, ◌<◌, ◌≤◌, ℕ, pos, List, [], ◌∷◌, ◌++◌, length, Bool, true, Option, Some, None, IfSome, slice_get, slice_index_or}
+use Rattle.std.specs.Prelude.{◌≡◌, ◌⊎◌, ◌<◌, ◌≤◌, ℕ, pos, List, [], ◌∷◌, ◌++◌, length, Bool, true, Option, Some, None, slice_index_or}
 use Rattle.std.specs.List.{AllByRecursion}
 use Rattle.std.specs.Option.{option_to_list}
 use Rattle.crs_base.specs.declared.symbols.Sym.{Sym}
@@ -13,15 +13,14 @@ use Rattle.crs_instance.specs.Instances.{InstanceState, IsInside, window_at}
 use Rattle.crs_model.specs.Bindings.{look_of}
 use Rattle.crs_model.specs.Images.{IsImage}
 use Rattle.crs_model.specs.Partial.{Partial}
-use Rattle.crs_model.specs.Plans.{chronicle}
 use Rattle.crs_model.specs.Scans.{StartsAt, IsForkByLevel}
 use Rattle.crs_model.specs.declared.plan.Plan.{Plan}
-use Rattle.crs_store.specs.declared.waiting.hooks.Hook.{Hook}
-use Rattle.crs_store.specs.declared.waiting.hooks.Symbols.{Symbols}
+use Rattle.crs_waiting.specs.declared.hooks.Hook.{Hook}
+use Rattle.crs_waiting.specs.declared.hooks.Symbols.{Symbols}
 use Rattle.crs_focus.specs.PlanLevels.{levels_in}
 use Rattle.crs_store.specs.Agreeing.{Agree}
-use Rattle.crs_store.specs.Hooks.{IsHookOfEvent, IsPart, Waits, key_of, key_with, picked_arguments}
-use Rattle.crs_store.specs.Links.{CanStart, IsNext}
+use Rattle.crs_waiting.specs.Hooks.{IsPart, Waits, key_of, key_with, picked_arguments}
+use Rattle.crs_waiting.specs.Links.{CanStart, IsNext}
 use Rattle.crs_living.specs.Slots.{SlotsState, slot_at, handle_at, members}
 use Rattle.crs_living.specs.Parts.{parts}
 use Rattle.crs_store.specs.Sweeps.{IsReady}
@@ -60,10 +59,6 @@ AreSought slots index hook skips args e d symbols places =
 -- those that stand in a place and waited still wait
 abbrev pub KeepsStanding : SlotsState → IndexState → IndexState → Type 0
 KeepsStanding slots old new = (k : Key) (p : ℕ) (i : InstanceState) → slot_at slots p ≡ Some i → Waits old k (handle_at slots p) → Waits new k (handle_at slots p)
-
--- the hook of the event of this number
-abbrev pub IsHookAt : Plan → ℕ → Hook → Type 0
-IsHookAt plan e h = IfSome (slice_get (chronicle plan).events e) (λ v. IsHookOfEvent v h)
 
 -- each instance for which the event of this number is next, where that can come by the date, waits for it
 abbrev pub AreLinkedAt : Plan → Bool → Hook → SlotsState → IndexState → ℕ → ℕ → Type 0

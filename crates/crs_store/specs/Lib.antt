@@ -1,15 +1,12 @@
 pub use Rattle.crs_living.specs.Ahead
 pub use Rattle.crs_living.specs.Parts
+pub use Rattle.crs_waiting.specs.Hooks
+pub use Rattle.crs_waiting.specs.Orders
 pub mod Agreeing
 pub mod Stores
-pub mod Hooks
-pub mod Links
-pub mod Named
-pub mod Refusing
 pub mod Sweeps
+pub mod Waiters
 pub mod Answers
-pub mod Charts
-pub mod Dues
 pub mod Ripenings
 pub mod Tidy
 pub mod Joins
@@ -17,5 +14,3 @@ pub mod Forkings
 pub mod Found
 pub mod Births
 pub mod Moments
-pub mod Orders
-pub mod Linkings

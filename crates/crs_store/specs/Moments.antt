@@ -3,8 +3,8 @@ use Rattle.std.specs.Prelude.{◌≡◌, ◌<◌, ◌≤◌, ◌^◌, ℕ, lengt
 use Rattle.crs_base.specs.Seen.{entry_of}
 use Rattle.crs_history.specs.Histories.{EndsWith}
 use Rattle.crs_model.specs.Plans.{IsProper}
-use Rattle.crs_store.specs.Hooks.{AreHooks}
-use Rattle.crs_store.specs.Orders.{AreOrdered}
+use Rattle.crs_waiting.specs.Hooks.{AreHooks}
+use Rattle.crs_waiting.specs.Orders.{AreOrdered}
 use Rattle.crs_store.specs.declared.moment.Arrival.{Arrival}
 use Rattle.crs_store.specs.declared.moment.Coming.{Coming}
 use Rattle.crs_store.specs.declared.moment.Horizon.{Horizon}

@@ -13,8 +13,8 @@ use Rattle.crs_instance.specs.Instances.{InstanceState}
 use Rattle.crs_instance.specs.Followed.{Follows}
 use Rattle.crs_living.specs.Ahead.{MayBecome, IsWanted, AreAhead}
 pub use Rattle.crs_living.specs.Parts.{parts, AllOf}
-use Rattle.crs_store.specs.Hooks.{LooksFor}
-use Rattle.crs_store.specs.Orders.{AreBehind}
+use Rattle.crs_waiting.specs.Hooks.{LooksFor}
+use Rattle.crs_waiting.specs.Orders.{AreBehind}
 use Rattle.crs_focus.specs.PlanLevels.{levels_in}
 
 -- a store, as contracts see it: of what is held, the first ones have places, as many as `placed` says

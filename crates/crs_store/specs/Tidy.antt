@@ -8,10 +8,10 @@ use Rattle.crs_index.specs.Indexes.{IndexState}
 use Rattle.crs_instance.specs.Instances.{InstanceState, IsOf}
 use Rattle.crs_model.specs.declared.plan.Plan.{Plan}
 use Rattle.crs_store.specs.declared.holding.Holding.{Holding}
-use Rattle.crs_store.specs.declared.waiting.hooks.Hook.{Hook}
-use Rattle.crs_store.specs.declared.waiting.hooks.Hooks.{Hooks}
-use Rattle.crs_store.specs.Dues.{AreDue, AreKept}
-use Rattle.crs_store.specs.Links.{linked_by, Grows, IsLinked, IsLinkedAnew, IsArmed, IsArmedAnew}
+use Rattle.crs_waiting.specs.declared.hooks.Hook.{Hook}
+use Rattle.crs_waiting.specs.declared.hooks.Hooks.{Hooks}
+use Rattle.crs_waiting.specs.Dues.{AreDue, AreKept}
+use Rattle.crs_waiting.specs.Links.{linked_by, Grows, IsLinked, IsLinkedAnew, IsArmed, IsArmedAnew}
 use Rattle.crs_living.specs.Slots.{SlotsState, slot_at, handle_at}
 use Rattle.crs_living.specs.Done.{IsDone}
 use Rattle.crs_living.specs.Windows.{IsAble}

@@ -1,18 +1,17 @@
 //! The partial instances of one chronicle that can still be recognised.
 #![tactic(auto)]
 
-mod chart;
 mod found;
 mod holding;
+mod links;
 mod moment;
 mod order;
-mod places;
 mod refused;
+mod ripening;
 mod scanning;
 mod store;
-mod waiting;
 
+pub use crs_waiting::rank_of;
 pub use moment::Coming;
 pub use refused::StoreRefused;
 pub use store::Store;
-pub use waiting::befores::rank_of;

@@ -3,11 +3,10 @@
 ghost use Rattle.std.specs.Prelude.{◌≡◌};
 ghost use Rattle.crs_store.specs.Moments.{IsArrival};
 
-use crate::chart::Chart;
-use crate::waiting::hooks::Hooks;
 use crs_base::Entry;
 use crs_history::History;
 use crs_model::{Mark, Plan};
+use crs_waiting::{Chart, Hooks};
 use std::alloc::Global;
 use std::rc::Rc;
 

@@ -9,11 +9,12 @@ ghost use Rattle.crs_instance.specs.Instances.{IsOf};
 ghost use Rattle.crs_model.specs.Partial.{at, put};
 ghost use Rattle.crs_model.specs.Plans.{IsProper};
 ghost use Rattle.crs_store.specs.Births.{Brings, FindsFork};
-ghost use Rattle.crs_store.specs.Forkings.{HaveWindow, NoneWait, IsNoted, AreCandidates, AreCandidatesOf, KeepsStanding, IsHookAt, AreLinkedAt, HasAll, AreSought, AreForksBut, AreForksOfPlaces, AreForksOfEvent, AreForksOfAll};
-ghost use Rattle.crs_store.specs.Hooks.{KeepsFresh, picked_arguments};
-ghost use Rattle.crs_store.specs.Links.{hook_at, AreLinked};
+ghost use Rattle.crs_store.specs.Forkings.{HaveWindow, NoneWait, IsNoted, AreCandidates, AreCandidatesOf, KeepsStanding, AreLinkedAt, HasAll, AreSought, AreForksBut, AreForksOfPlaces, AreForksOfEvent, AreForksOfAll};
+ghost use Rattle.crs_waiting.specs.Hooks.{IsHookAt, KeepsFresh, picked_arguments};
+ghost use Rattle.crs_waiting.specs.Links.{hook_at};
+ghost use Rattle.crs_store.specs.Waiters.{AreLinked};
 ghost use Rattle.crs_store.specs.Moments.{IsArrival};
-ghost use Rattle.crs_store.specs.Orders.{IsOvertaken};
+ghost use Rattle.crs_waiting.specs.Orders.{IsOvertaken};
 ghost use Rattle.crs_living.specs.Slots.{members};
 ghost use Rattle.crs_living.specs.Parts.{AllOf};
 ghost use Rattle.crs_living.specs.Scannings.{AreForksAt};
@@ -21,19 +22,17 @@ ghost use Rattle.crs_living.specs.Done.{is_whole};
 
 use crate::found::Born;
 use crate::moment::Arrival;
-use crate::places::{note, sort_places};
 use crate::scanning::agreeing::{agree, takes};
-use crate::waiting::befores::is_held_back;
-use crate::waiting::hooks::{
-    Hook, Symbols, argument_in, is_lone, key_of_first, key_of_symbols, part, parts,
-    symbols_of_entry,
-};
 use crs_base::{Entry, Steps};
 use crs_focus::{is_awaited, level_of};
 use crs_index::{Index, Key};
 use crs_instance::Instance;
 use crs_living::{Scan, Slots, decide};
 use crs_model::{Binding, Mark, Plan, Recognition};
+use crs_waiting::{
+    Hook, Symbols, argument_in, is_held_back, is_lone, key_of_first, key_of_symbols, note_place,
+    part_of_symbols, parts_of_symbols, sort_places, symbols_of_entry,
+};
 use std::alloc::AllocError;
 use std::sync::ledger::Ledger;
 
@@ -171,7 +170,7 @@ fn note_able(
         return Ok(());
     }
     if agree(instance.binding(), &wanted.symbols, wanted.variables) {
-        note(places, place)
+        note_place(places, place)
     } else {
         Ok(())
     }
@@ -219,8 +218,8 @@ fn note_parts(
     ensures standing { KeepsStanding slots.now waiting.old waiting.new }
     ensures noted { OnOk result (AreCandidatesOf slots.now waiting.old symbols wanted.now.event wanted.now.date wanted.now.symbols places.new.items) }
 {
-    for number in 0..parts(symbols) {
-        let key = key_of_symbols(wanted.event as u32, part(symbols, number));
+    for number in 0..parts_of_symbols(symbols) {
+        let key = key_of_symbols(wanted.event as u32, part_of_symbols(symbols, number));
         note_able_bucket(waiting, slots, key, wanted, places)?;
     }
     Ok(())
@@ -299,7 +298,7 @@ fn note_all(slots: &Slots, places: &mut Vec<u32>) -> Result<(), AllocError>
         let Ok(place) = u32::try_from(place) else {
             return Err(AllocError);
         };
-        note(places, place)?;
+        note_place(places, place)?;
     }
     Ok(())
 }

@@ -7,7 +7,7 @@ use Rattle.crs_base.specs.Words.{IsIn}
 use Rattle.crs_instance.specs.Instances.{IsOf}
 use Rattle.crs_model.specs.declared.plan.Plan.{Plan}
 use Rattle.crs_living.specs.PlaceWalks.{Walks}
-use Rattle.crs_store.specs.Links.{HasTouched}
+use Rattle.crs_store.specs.Waiters.{HasTouched}
 use Rattle.crs_store.proofs.Renewing.{fresh_place}
 use Rattle.crs_store.proofs.Noting.{touched_within}
 use Rattle.crs_store.proofs.Touching.{untouched}

@@ -1,8 +1,8 @@
 use Rattle.std.proofs.Common.{rules, ◌≡◌, ℕ, subst}
 use Rattle.std.specs.Prelude.{Some, None}
 use Rattle.crs_agenda.specs.declared.timed.Handle.{Handle}
-use Rattle.crs_store.specs.Links.{IsLinkedAnew, IsArmedAnew}
-use Rattle.crs_store.specs.Dues.{AreDue}
+use Rattle.crs_waiting.specs.Links.{IsLinkedAnew, IsArmedAnew}
+use Rattle.crs_waiting.specs.Dues.{AreDue}
 use Rattle.crs_living.specs.Slots.{slot_at, handle_at}
 use Rattle.crs_store.proofs.Registering.{registered}
 use Rattle.crs_store.proofs.holding.register.Goals as goal

@@ -2,7 +2,7 @@ use Rattle.std.proofs.Common.{rules, ◌≡◌, ◌∙◌, sym, subst}
 use Rattle.std.specs.Prelude.{true, false, Some}
 use Rattle.crs_agenda.specs.declared.timed.Handle.{Handle}
 use Rattle.crs_model.specs.declared.plan.Plan.{Plan}
-use Rattle.crs_store.specs.Links.{linked_by, IsLinkedAnew, IsArmedAnew}
+use Rattle.crs_waiting.specs.Links.{linked_by, IsLinkedAnew, IsArmedAnew}
 use Rattle.crs_living.specs.Slots.{slot_at}
 use Rattle.crs_living.specs.Done.{IsDone}
 use Rattle.crs_store.proofs.Settling.{stands_at, settled_renewed, settled_none, settled_done, settled_found}

@@ -1,6 +1,6 @@
 use Rattle.std.proofs.Common.{List, ℕ, refl, subst}
-use Rattle.crs_store.specs.Dues.{KeepsFreshPairs}
-use Rattle.crs_store.specs.Hooks.{KeepsFresh}
+use Rattle.crs_waiting.specs.Dues.{KeepsFreshPairs}
+use Rattle.crs_waiting.specs.Hooks.{KeepsFresh}
 use Rattle.crs_store.proofs.Held.{swept_tidy}
 use Rattle.crs_store.proofs.holding.sweep.Goals as goal
 

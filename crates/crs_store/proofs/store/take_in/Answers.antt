@@ -6,14 +6,14 @@ use Rattle.crs_living.specs.Ahead.{MayGo}
 use Rattle.crs_store.specs.Forkings.{AreForksOfAll}
 use Rattle.crs_store.specs.Found.{founds, held_in}
 use Rattle.crs_store.specs.Joins.{Renews}
-use Rattle.crs_store.specs.Orders.{IsOvertaken}
+use Rattle.crs_waiting.specs.Orders.{IsOvertaken}
 use Rattle.crs_living.specs.Slots.{members}
 use Rattle.crs_store.specs.Tidy.{IsTidy}
 use Rattle.crs_living.specs.Windows.{IsAble, IsFollowed, IsPassed}
 use Rattle.crs_store.proofs.Assembled.{tidy_all, tidy_standing, tidy_linked, few_ticks}
 use Rattle.crs_store.proofs.Births.{born_found, born_open, born_part}
 use Rattle.crs_store.proofs.Born.{forks_more, founds_all, founds_followed, founds_passed, founds_whole}
-use Rattle.crs_store.proofs.Linked.{within_linked}
+use Rattle.crs_waiting.proofs.Linked.{within_linked}
 use Rattle.crs_store.proofs.Joined.{joins_both, part_of}
 use Rattle.crs_store.proofs.Taken.{taken_anew}
 use Rattle.crs_store.proofs.Overtaken.{free_stays}

@@ -4,7 +4,7 @@ use Rattle.crs_instance.specs.Instances.{IsOf}
 use Rattle.crs_living.specs.Ahead.{MayGo}
 use Rattle.crs_base.proofs.Alls.{all_append}
 use Rattle.crs_store.specs.Found.{founds, held_in}
-use Rattle.crs_store.specs.Orders.{IsOvertaken}
+use Rattle.crs_waiting.specs.Orders.{IsOvertaken}
 use Rattle.crs_living.specs.Slots.{members}
 use Rattle.crs_living.specs.Windows.{IsAble}
 use Rattle.crs_store.proofs.Assembled.{flat_ticks, tidy_all, tidy_able, tidy_standing}

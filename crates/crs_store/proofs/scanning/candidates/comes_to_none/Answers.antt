@@ -3,7 +3,7 @@ use Rattle.std.proofs.lemmas.Bool.{not-true}
 use Rattle.crs_base.specs.Seen.{entry_of}
 use Rattle.crs_base.specs.declared.entry.Entry.{Entry as CodeEntry}
 use Rattle.crs_store.specs.Forkings.{NoneWait}
-use Rattle.crs_store.specs.Hooks.{picked_arguments}
+use Rattle.crs_waiting.specs.Hooks.{picked_arguments}
 use Rattle.crs_store.proofs.Parting.{none_there}
 use Rattle.crs_store.proofs.scanning.candidates.comes_to_none.Goals.{else-not-arrival-via-else-not-arrival, else-not-arrival-via-then-not-arrival+else-is_some}
 use Rattle.crs_store.proofs.scanning.candidates.comes_to_none.Goals as goal

@@ -3,12 +3,12 @@ use Rattle.std.proofs.Math.Nat.{mul-le-mul_right}
 use Rattle.crs_base.specs.Seen.{entry_of}
 use Rattle.crs_base.specs.declared.entry.Entry.{Entry as CodeEntry}
 use Rattle.crs_model.specs.Bindings.{look_of}
-use Rattle.crs_store.specs.declared.waiting.hooks.Hook.{Hook}
-use Rattle.crs_store.specs.Forkings.{IsHookAt, AreLinkedAt}
-use Rattle.crs_store.specs.Hooks.{key_of}
-use Rattle.crs_store.specs.Links.{hook_at}
-use Rattle.crs_store.specs.Named.{IsFirst}
-use Rattle.crs_store.specs.Orders.{IsOvertaken}
+use Rattle.crs_waiting.specs.declared.hooks.Hook.{Hook}
+use Rattle.crs_waiting.specs.Hooks.{IsHookAt, key_of}
+use Rattle.crs_store.specs.Forkings.{AreLinkedAt}
+use Rattle.crs_waiting.specs.Links.{hook_at}
+use Rattle.crs_waiting.specs.Named.{IsFirst}
+use Rattle.crs_waiting.specs.Orders.{IsOvertaken}
 use Rattle.crs_living.specs.Slots.{members}
 use Rattle.crs_store.proofs.Births.{brings_gathered_none, brings_gathered_more, brings_gathered_all}
 use Rattle.crs_store.proofs.Gathered.{hook_there, hooks_long, events_cost}

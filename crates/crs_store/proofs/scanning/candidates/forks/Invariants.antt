@@ -1,9 +1,9 @@
 use Rattle.std.proofs.Common.{length, ◌≡◌, ◌<◌, ◌≤◌, ◌+◌, ◌-◌, ◌*◌, false}
 use Rattle.crs_base.specs.Seen.{entry_of}
 use Rattle.crs_store.specs.Forkings.{KeepsStanding}
-use Rattle.crs_store.specs.Hooks.{KeepsFresh}
-use Rattle.crs_store.specs.Links.{hook_at}
-use Rattle.crs_store.specs.Orders.{IsOvertaken}
+use Rattle.crs_waiting.specs.Hooks.{KeepsFresh}
+use Rattle.crs_waiting.specs.Links.{hook_at}
+use Rattle.crs_waiting.specs.Orders.{IsOvertaken}
 use Rattle.crs_living.specs.Slots.{members}
 use Rattle.crs_store.proofs.Births.{BringsGathered}
 use Rattle.crs_store.proofs.scanning.candidates.forks.Given as goal

@@ -4,7 +4,7 @@ use Rattle.std.proofs.lemmas.List.{drop_more, drop_all}
 use Rattle.crs_base.proofs.Words.{in_from_each}
 use Rattle.crs_base.specs.Seen.{entry_of}
 use Rattle.crs_instance.specs.Instances.{IsOf}
-use Rattle.crs_store.specs.Orders.{IsOvertaken}
+use Rattle.crs_waiting.specs.Orders.{IsOvertaken}
 use Rattle.crs_living.specs.Slots.{members, slot_at}
 use Rattle.crs_store.proofs.Births.{brings_swept_none, brings_swept_more, brings_swept_whole}
 use Rattle.crs_store.proofs.Gathered.{ascends_from, swept_skip, swept_next, swept_within}

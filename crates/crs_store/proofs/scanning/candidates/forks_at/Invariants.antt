@@ -1,6 +1,6 @@
 use Rattle.std.proofs.Common.{drop}
 use Rattle.crs_base.specs.Seen.{entry_of}
-use Rattle.crs_store.specs.Orders.{IsOvertaken}
+use Rattle.crs_waiting.specs.Orders.{IsOvertaken}
 use Rattle.crs_store.proofs.Births.{BringsSwept}
 use Rattle.crs_store.proofs.scanning.candidates.forks_at.Given as goal
 

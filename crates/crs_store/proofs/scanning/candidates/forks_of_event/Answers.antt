@@ -5,7 +5,7 @@ use Rattle.crs_base.specs.Seen.{entry_of}
 use Rattle.crs_base.specs.declared.entry.Entry.{Entry as CodeEntry}
 use Rattle.crs_base.specs.Words.{IsIn}
 use Rattle.crs_store.specs.Agreeing.{IsTaken}
-use Rattle.crs_store.specs.Orders.{IsOvertaken}
+use Rattle.crs_waiting.specs.Orders.{IsOvertaken}
 use Rattle.crs_store.specs.Forkings.{AreSought, AreForksOfPlaces, AreForksOfEvent}
 use Rattle.crs_store.proofs.Births.{brings_as, brings_none}
 use Rattle.crs_store.proofs.Gathered.{have_window, sought_kept, all_found, none_held, none_taken, none_waits}

@@ -3,8 +3,8 @@ use Rattle.std.specs.Prelude.{Option, None}
 use Rattle.crs_base.specs.declared.symbols.Sym.{Sym}
 use Rattle.crs_index.specs.Indexes.{bucket_of}
 use Rattle.crs_index.specs.declared.key.Key.{Key}
-use Rattle.crs_store.specs.declared.waiting.hooks.Pick.{Pick}
-use Rattle.crs_store.specs.Hooks.{key_with, picked_argument, picked_arguments}
+use Rattle.crs_waiting.specs.declared.hooks.Pick.{Pick}
+use Rattle.crs_waiting.specs.Hooks.{key_with, picked_argument, picked_arguments}
 use Rattle.crs_store.proofs.Parting.{none_there, none_under}
 use Rattle.crs_store.proofs.scanning.candidates.may_wait.Goals as goal
 

@@ -3,9 +3,9 @@ use Rattle.std.specs.Prelude.{Option, None}
 use Rattle.std.proofs.lemmas.Result.{on_ok_weaker}
 use Rattle.crs_base.specs.declared.symbols.Sym.{Sym}
 use Rattle.crs_index.specs.declared.key.Key.{Key}
-use Rattle.crs_store.specs.declared.waiting.hooks.Pick.{Pick}
+use Rattle.crs_waiting.specs.declared.hooks.Pick.{Pick}
 use Rattle.crs_store.specs.Forkings.{AreCandidates}
-use Rattle.crs_store.specs.Hooks.{key_with, picked_argument, picked_arguments}
+use Rattle.crs_waiting.specs.Hooks.{key_with, picked_argument, picked_arguments}
 use Rattle.crs_store.proofs.Parting.{none_there, alone_tried, none_tried}
 use Rattle.crs_store.proofs.scanning.candidates.note_candidates.Goals as goal
 

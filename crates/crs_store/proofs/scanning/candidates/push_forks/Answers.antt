@@ -1,13 +1,14 @@
 use Rattle.std.proofs.Common.{◌≡◌, sym, subst, ap, ◌∙◌, true, true≢false}
 use Rattle.std.proofs.lemmas.Result.{on_ok_weaker}
 use Rattle.crs_base.specs.Seen.{entry_of}
-use Rattle.crs_store.specs.declared.waiting.hooks.Hook.{Hook}
-use Rattle.crs_store.specs.Charts.{ChartState}
+use Rattle.crs_waiting.specs.declared.hooks.Hook.{Hook}
+use Rattle.crs_waiting.specs.Charts.{ChartState}
 use Rattle.crs_store.specs.Forkings.{AreForksBut}
-use Rattle.crs_store.specs.Links.{hook_at}
-use Rattle.crs_store.specs.Orders.{IsOvertaken, IsUnboundBefore}
+use Rattle.crs_waiting.specs.Links.{hook_at}
+use Rattle.crs_waiting.specs.Orders.{IsOvertaken, IsUnboundBefore}
 use Rattle.crs_living.specs.Scannings.{AreForksAt}
-use Rattle.crs_store.proofs.Overtaken.{before_within, none_forked, all_forked}
+use Rattle.crs_waiting.proofs.Next.{before_within}
+use Rattle.crs_store.proofs.Overtaken.{none_forked, all_forked}
 use Rattle.crs_store.proofs.Births.{brings_none, brings_as}
 use Rattle.crs_store.proofs.scanning.candidates.push_forks.Goals as goal
 use Rattle.crs_store.proofs.scanning.candidates.push_forks.Goals.{else-arrival-via-then-arrival+else-is_held_back, else-arrival-via-else-arrival}

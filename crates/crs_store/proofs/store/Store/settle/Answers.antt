@@ -3,8 +3,8 @@ use Rattle.crs_base.specs.declared.entry.Entry.{Entry as CodeEntry}
 use Rattle.crs_base.specs.Seen.{entry_of}
 use Rattle.crs_model.specs.declared.plan.Plan.{Plan}
 use Rattle.crs_store.specs.Found.{held_in}
-use Rattle.crs_store.specs.Hooks.{AreHooks}
-use Rattle.crs_store.specs.Orders.{AreOrdered}
+use Rattle.crs_waiting.specs.Hooks.{AreHooks}
+use Rattle.crs_waiting.specs.Orders.{AreOrdered}
 use Rattle.crs_store.specs.Joins.{Renews}
 use Rattle.crs_living.specs.Slots.{members}
 use Rattle.crs_store.specs.Stores.{StoreState, IsStore, KeepsPlaces}

@@ -2,7 +2,7 @@ use Rattle.std.proofs.Common.{◌≡◌, ◌≤◌, ◌+◌, ◌*◌, false, len
 use Rattle.crs_base.specs.Seen.{entry_of}
 use Rattle.crs_model.specs.declared.plan.Plan.{Plan}
 use Rattle.crs_store.specs.Found.{founds, held_in}
-use Rattle.crs_store.specs.Orders.{IsOvertaken}
+use Rattle.crs_waiting.specs.Orders.{IsOvertaken}
 use Rattle.crs_living.specs.Slots.{members}
 use Rattle.crs_living.specs.Parts.{AllOf}
 use Rattle.crs_store.specs.Stores.{StoreState, KeepsPlaces}

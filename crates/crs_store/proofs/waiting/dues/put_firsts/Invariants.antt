@@ -1,5 +1,0 @@
-use Rattle.crs_store.proofs.DuePairs.{AreFirstsTo}
-use Rattle.crs_store.proofs.waiting.dues.put_firsts.Given as goal
-
-abbrev pub invariant-loop-event : goal.invariant-loop-event
-invariant-loop-event l = AreFirstsTo l.chart.plan l.chart.focus l.instance l.handle l.since l.event l.fn.calendar l.calendar

@@ -1,9 +1,0 @@
-use Rattle.std.proofs.Common.{◌≡◌, length}
-use Rattle.crs_store.specs.Named.{AreFirsts}
-use Rattle.crs_store.proofs.waiting.hooks.firsts_of.Given as goal
-
-abbrev pub invariant-loop-number : goal.invariant-loop-number
-invariant-loop-number l = record {
-  len : length l.firsts.items ≡ l.number;
-  are : AreFirsts l.events l.firsts.items;
-}

@@ -1,5 +1,0 @@
-use Rattle.crs_store.proofs.Linked.{AreArmedTo}
-use Rattle.crs_store.proofs.waiting.linking.arm_windows.Given as goal
-
-abbrev pub invariant-loop-k : goal.invariant-loop-k
-invariant-loop-k l = AreArmedTo l.chart.plan l.chart.hooks.windows.items l.handle l.since l.h l.instance l.k l.fn.waiting l.waiting
