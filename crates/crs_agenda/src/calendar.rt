@@ -1,4 +1,4 @@
-ghost use Rattle.std.specs.Prelude.{◌≡◌, ◌≤◌, ◌<◌, ◌^◌, List, [], ◌∷◌, OnOk, OnErr, IfSome, IfNone, All, length};
+ghost use Rattle.std.specs.Prelude.{◌≡◌, ◌≤◌, ◌<◌, ◌^◌, List, [], ◌∷◌, OnOk, OnErr, IfSome, IfNone, All, length, false};
 ghost use Rattle.std.specs.List.{filter};
 ghost use Rattle.crs_agenda.specs.Freshness.{is_fresh_pair};
 ghost use Rattle.std.specs.List.Sorted.{IsPermutation};
@@ -87,6 +87,15 @@ impl Calendar {
         self.size += 1;
         self.wait = self.wait.min(date);
         Ok(())
+    }
+
+    /// Whether a pair may be dated before h. It costs a comparison: true may be said where none is, and
+    /// `due` then tells.
+    #[inline(always)]
+    pub fn may_be_due(&self, h: u64) -> bool
+        ensures { result ≡ false → All (λ t. h ≤ t.date) self.now.pairs }
+    {
+        self.wait < h
     }
 
     /// Takes out a pair of the least date, where that is before h. Mostly nothing is due: that is seen
