@@ -2,8 +2,6 @@
 use Rattle.std.proofs.Common.{arith, Bool, ◌≡◌, ℕ, ◌≤◌, ◌^◌, List, [], length, refl, sym, ap, subst, ◌∙◌, inl, append-nil}
 use Rattle.std.specs.Prelude.{All}
 use Rattle.std.proofs.lemmas.List.Sorted.{IsPermutation-refl}
-use Rattle.std.proofs.lemmas.List.Elements.{All-from_recursion}
-use Rattle.crs_agenda.specs.declared.timed.Timed.{Timed}
 use Rattle.crs_history.specs.Histories.{HistoryState}
 use Rattle.crs_instance.specs.Instances.{InstanceState}
 use Rattle.crs_model.specs.declared.plan.Plan.{Plan}
@@ -20,10 +18,6 @@ use Rattle.crs_store.specs.Tidy.{IsTidyHolding}
 use Rattle.crs_living.specs.Windows.{Gains, IsAble, IsPassed, IsSameInstance}
 use Rattle.crs_store.proofs.Held.{all_renew, all_tidy, settles_none, stays_passed, undue_there, walks_none}
 use Rattle.crs_store.proofs.Ripened.{AreAmongRipe, all_found, all_left, left_sifts, taken_none}
-
--- where nothing waits for a date
-pub none_due : (h : ℕ) (pairs : List Timed) → pairs ≡ [] → All (λ t. h ≤ t.date) pairs
-none_due h pairs e = subst (All (λ (t : Timed). h ≤ t.date)) (sym e) (All-from_recursion (λ (t : Timed). h ≤ t.date) [] tt)
 
 module _ (plan : Plan) (focus : Bool) (proper : IsProper plan) (hooks : Hooks) (d h : ℕ) (later : d ≤ h) (small : h ≤ 2 ^ 42) (held : Holding) (len : length held.slots.serials ≡ length held.slots.slots) (tidy : IsTidyHolding plan focus hooks held d) (undue : All (λ t. h ≤ t.date) held.dues.pairs) where
   stands : held.dues.date ≤ h

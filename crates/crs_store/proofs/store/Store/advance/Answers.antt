@@ -8,7 +8,7 @@ use Rattle.crs_living.specs.Parts.{AllOf}
 use Rattle.crs_store.specs.Tidy.{IsTidyHolding}
 use Rattle.crs_store.proofs.Assembled.{all_placed, founds_of, tidy_at_mark}
 use Rattle.crs_store.proofs.Advancing.{advanced_from}
-use Rattle.crs_store.proofs.Quiet.{none_due, quiet_moves, quiet_tidy}
+use Rattle.crs_store.proofs.Quiet.{quiet_moves, quiet_tidy}
 use Rattle.crs_store.proofs.store.Store.advance.Goals as goal
 
 pub move_on-requires-clause-kept : goal.move_on-requires-clause-kept
@@ -19,7 +19,7 @@ invariant_of-self c =
     let quiet = c.if-is_quiet.ensures {u = tt} in
     let held = c.self.inside.holding in
     tidy_at_mark c.self.inside.plan.value c.self.inside.hooks c.self.inside.number c.self.inside.focus c.self.inside.stopped (held_in c.self.inside.plan.value held.slots c.self.inside.born.found.items) (length (members held.slots.slots)) c.self.inside.date c.self.invariant.0 c.self.invariant.1 c.self.invariant.2 held c.self.inside.born.found.items c.args.h c.requires
-    (quiet_tidy c.self.inside.plan.value c.self.inside.focus c.self.invariant.0.proper c.self.inside.hooks c.self.inside.date c.args.h c.if-h-self.false c.requires held quiet.len (c.self.invariant.3 c.if-self.false) (none_due c.args.h held.dues.pairs (quiet.due refl)))
+    (quiet_tidy c.self.inside.plan.value c.self.inside.focus c.self.invariant.0.proper c.self.inside.hooks c.self.inside.date c.args.h c.if-h-self.false c.requires held quiet.len (c.self.invariant.3 c.if-self.false) (quiet.due refl))
     (founds_of c.self.inside.plan.value held.slots c.self.inside.born.found.items c.self.invariant.0.instances)
 
 pub returns-then-is_quiet-clause-advanced : goal.returns-then-is_quiet-clause-advanced
@@ -28,7 +28,7 @@ returns-then-is_quiet-clause-advanced c =
     let held = c.self.inside.holding in
     let plan = c.self.inside.plan.value in
     let rs = c.self.inside.born.found.items in
-    let moves = quiet_moves plan c.self.inside.focus c.self.invariant.0.proper c.self.inside.hooks c.self.inside.date c.args.h c.if-h-self.false c.requires held quiet.len (c.self.invariant.3 c.if-self.false) (none_due c.args.h held.dues.pairs (quiet.due refl)) c.args.history.now c.self.inside.number c.args.mark (quiet.ripe refl) rs (quiet.found refl) in
+    let moves = quiet_moves plan c.self.inside.focus c.self.invariant.0.proper c.self.inside.hooks c.self.inside.date c.args.h c.if-h-self.false c.requires held quiet.len (c.self.invariant.3 c.if-self.false) (quiet.due refl) c.args.history.now c.self.inside.number c.args.mark (quiet.ripe refl) rs (quiet.found refl) in
     advanced_from (record { plan = plan; number = c.self.inside.number; focus = c.self.inside.focus; ranks = c.self.inside.hooks.ranks.value.items; held = held_in plan held.slots rs; placed = length (members held.slots.slots); date = c.self.inside.date; stopped = c.self.inside.stopped }) c.args.self.now
     (record { plan = plan; number = c.self.inside.number; focus = c.self.inside.focus; ranks = c.self.inside.hooks.ranks.value.items; held = held_in plan held.slots rs; placed = length (members held.slots.slots); date = c.args.h; stopped = c.self.inside.stopped }) c.args.history.now plan c.args.mark c.new-then-is_quiet.result c.args.h
     c.self.view_is c.self.invariant.0 refl (record { plan = refl; number = refl; focus = refl; ranks = refl }) refl
