@@ -1,8 +1,12 @@
 -- The chronicle of the tests.
-use Rattle.std.specs.Prelude.{◌≡◌, ◌≤◌, ℕ, pos, neg_ℤ, List, [], ◌∷◌, Some, None}
+use Rattle.std.specs.Prelude.{◌≡◌, ◌<◌, ◌≤◌, ℕ, pos, neg_ℤ, List, [], ◌∷◌, length, Some, None}
 use Rattle.crs_stn.specs.declared.bound.Bound.{Bound}
 use Rattle.crs_model.specs.declared.chronicle.Chronicle.{Chronicle}
 use Rattle.crs_model.specs.declared.chronicle.EventDef.{EventDef as CodeEvent}
+use Rattle.crs_model.specs.declared.plan.Plan.{Plan}
+use Rattle.crs_model.specs.Plans.{IsProper}
+use Rattle.crs_model.specs.Partial.{at}
+use Rattle.crs_instance.specs.Instances.{InstanceState, IsOf}
 
 -- without arguments and change, of a level from 0 to 7
 pub record IsPlain (e : CodeEvent) : Type 0 where
@@ -28,3 +32,10 @@ pub record IsFixture (least : ℕ) (c : Chronicle) : Type 0 where
   pub differs : c.differs ≡ []
   pub windows : c.windows ≡ []
   pub emits : c.emits ≡ []
+
+-- an instance of the plan, which is proper and has an event 0, to which no entry is bound
+pub record IsRootOf (plan : Plan) (i : InstanceState) : Type 0 where
+  pub proper : IsProper plan
+  pub of : IsOf plan i
+  pub event : 0 < length plan.chronicle.events
+  pub unbound : at i.partial 0 ≡ None

@@ -1,5 +1,5 @@
 //! A plan of two events, and entries without arguments.
-ghost use Rattle.std.specs.Prelude.{◌≡◌, ◌<◌, ◌≤◌, ◌^◌, Some, IfOk, pos};
+ghost use Rattle.std.specs.Prelude.{◌≡◌, ◌≤◌, Some, IfOk, pos};
 ghost use Rattle.crs_model.specs.Plans.{IsProper};
 ghost use Rattle.crs_core_tests.specs.Fixtures.{IsPlain, IsFixture, spaced};
 

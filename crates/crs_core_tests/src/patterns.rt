@@ -1,6 +1,6 @@
 //! Patterns: what they match, the symbols that they bind, and the bindings that a chronicle allows.
-ghost use Rattle.std.specs.Prelude.{◌≡◌, ◌<◌, ◌≤◌, length, IfOk, IfSome};
-ghost use Rattle.crs_model.specs.Bindings.{PatternIsBelow};
+ghost use Rattle.std.specs.Prelude.{◌≡◌, ◌<◌, ◌≤◌, length, IsSome, IfOk, IfSome};
+ghost use Rattle.crs_model.specs.Bindings.{PatternIsBelow, look_of};
 ghost use Rattle.crs_model.specs.SeenModels.{pattern_of};
 
 use crs_base::{Entry, List, Steps, Sym, SymList, Text};
@@ -10,6 +10,13 @@ use std::marker::Brand;
 use std::sync::ledger::{Blank, Ledger};
 use std::test::Fail;
 
+const FIVE: Sym = Sym(5);
+
+const SIX: Sym = Sym(6);
+
+const SEVEN: Sym = Sym(7);
+
+/// An entry of this name, with these arguments and this change.
 fn entry(
     alloc: Global,
     name: u32,
@@ -28,6 +35,7 @@ fn entry(
     })
 }
 
+/// A pattern of name 0, with these terms and this change.
 fn pattern(
     alloc: Global,
     terms: &[Term],
@@ -69,27 +77,33 @@ fn bound_by<L: Ledger>(
     Some(next)
 }
 
+/// The symbols of the two variables where the pattern `(?0, ?0, *)` of name 0 is to equal this entry,
+/// if it can.
+fn bound_to(
+    alloc: Global,
+    name: u32,
+    args: &[Sym],
+    change: Option<(Sym, Sym)>,
+) -> Result<Option<(Option<Sym>, Option<Sym>)>, AllocError>
+    requires { length args.now ≤ 8 }
+{
+    let pattern = pattern(alloc, &[Term::Var(0), Term::Var(0), Term::Any], None)?;
+    let entry = entry(alloc, name, args, change)?;
+    match bound_by::<Brand>(Blank::new(1), &pattern, &Binding::new(2), &entry) {
+        None => Ok(None),
+        Some(bound) => Ok(Some((bound.get(0), bound.get(1)))),
+    }
+}
+
 #[test]
 fn patterns_bind_variables_to_symbols(rt: HostRuntime) -> Result<(), Fail> {
     let alloc = rt.alloc();
-    let pattern = pattern(alloc, &[Term::Var(0), Term::Var(0), Term::Any], None)?;
-    let unbound = Binding::new(2);
-    let (five, six) = (Sym(5), Sym(6));
-    let rows = [
-        (entry(alloc, 0, &[five, five, six], None)?, Some(five)),
-        (entry(alloc, 0, &[five, six, six], None)?, None),
-        (entry(alloc, 0, &[five, five], None)?, None),
-        (entry(alloc, 1, &[five, five, six], None)?, None),
-        (
-            entry(alloc, 0, &[five, five, six], Some((five, six)))?,
-            None,
-        ),
-    ];
-    for (entry, symbol) in &rows {
-        let bound = bound_by::<Brand>(Blank::new(1), &pattern, &unbound, entry);
-        assert!(rt; bound.as_ref().and_then(|b| b.get(0)) == *symbol);
-        assert!(rt; !bound.is_some_and(|b| b.get(1).is_some()));
-    }
+    let bound = bound_to(alloc, 0, &[FIVE, FIVE, SIX], None)?;
+    assert!(rt; bound == Some((Some(FIVE), None)));
+    assert!(rt; bound_to(alloc, 0, &[FIVE, SIX, SIX], None)?.is_none());
+    assert!(rt; bound_to(alloc, 0, &[FIVE, FIVE], None)?.is_none());
+    assert!(rt; bound_to(alloc, 1, &[FIVE, FIVE, SIX], None)?.is_none());
+    assert!(rt; bound_to(alloc, 0, &[FIVE, FIVE, SIX], Some((FIVE, SIX)))?.is_none());
     Ok(())
 }
 
@@ -104,33 +118,42 @@ fn with(alloc: Global, binding: &Binding, i: u8, symbol: Sym) -> Result<Binding,
     Ok(bound.ok_or("it has another symbol")?)
 }
 
+/// Whether the pattern `(?0, 6)` of name 0, whose change ends in ?0, equals this entry at a binding.
+fn equals(
+    alloc: Global,
+    binding: &Binding,
+    name: u32,
+    args: &[Sym],
+    change: Option<(Sym, Sym)>,
+) -> Result<bool, AllocError>
+    requires bound { IsSome (look_of binding.now 0) }
+    requires short { length args.now ≤ 8 }
+{
+    let terms = &[Term::Var(0), Term::Value(SIX)];
+    let pattern = pattern(alloc, terms, Some((Term::Any, Term::Var(0))))?;
+    let entry = entry(alloc, name, args, change)?;
+    Ok(accepts(&pattern, binding, &entry))
+}
+
 #[test]
 fn patterns_equal_entries_of_the_same_change(rt: HostRuntime) -> Result<(), Fail> {
     let alloc = rt.alloc();
-    let (five, six) = (Sym(5), Sym(6));
-    let change = (Term::Any, Term::Var(0));
-    let pattern = pattern(alloc, &[Term::Var(0), Term::Value(six)], Some(change))?;
-    let binding = with(alloc, &Binding::new(1), 0, five)?;
-    assert!(rt; binding.get(0) == Some(five));
-    let rows = [
-        (entry(alloc, 0, &[five, six], Some((six, five)))?, true),
-        (entry(alloc, 0, &[six, six], Some((six, five)))?, false),
-        (entry(alloc, 0, &[five, five], Some((six, five)))?, false),
-        (entry(alloc, 0, &[five, six], Some((five, six)))?, false),
-        (entry(alloc, 0, &[five, six], None)?, false),
-        (entry(alloc, 1, &[five, six], Some((six, five)))?, false),
-    ];
-    for (entry, equal) in &rows {
-        assert!(rt; accepts(&pattern, &binding, entry) == *equal);
-    }
+    let binding = &with(alloc, &Binding::new(1), 0, FIVE)?;
+    assert!(rt; binding.get(0) == Some(FIVE));
+    assert!(rt; equals(alloc, binding, 0, &[FIVE, SIX], Some((SIX, FIVE)))?);
+    assert!(rt; !equals(alloc, binding, 0, &[SIX, SIX], Some((SIX, FIVE)))?);
+    assert!(rt; !equals(alloc, binding, 0, &[FIVE, FIVE], Some((SIX, FIVE)))?);
+    assert!(rt; !equals(alloc, binding, 0, &[FIVE, SIX], Some((FIVE, SIX)))?);
+    assert!(rt; !equals(alloc, binding, 0, &[FIVE, SIX], None)?);
+    assert!(rt; !equals(alloc, binding, 1, &[FIVE, SIX], Some((SIX, FIVE)))?);
     Ok(())
 }
 
 /// The first variable is one of two symbols, and differs from the second.
 fn chronicle(alloc: Global) -> Result<Chronicle, AllocError> {
     let mut values = List::new(alloc);
-    values.push(Sym(5))?;
-    values.push(Sym(6))?;
+    values.push(FIVE)?;
+    values.push(SIX)?;
     let mut sets = List::new(alloc);
     sets.push(VarSet {
         variable: 0,
@@ -165,21 +188,25 @@ fn binding_of(alloc: Global, first: Option<Sym>, second: Option<Sym>) -> Result<
     Ok(binding)
 }
 
+/// Whether the chronicle allows the binding.
+fn allows(alloc: Global, binding: &Binding) -> Result<bool, AllocError> {
+    let chronicle = chronicle(alloc)?;
+    Ok(allowed(&chronicle, binding))
+}
+
 #[test]
 fn bindings_keep_to_the_sets_and_differences(rt: HostRuntime) -> Result<(), Fail> {
-    let alloc = rt.alloc();
-    let chronicle = chronicle(alloc)?;
-    for (first, second, is_allowed) in [
+    for (first, second, is_allowed) in &[
         (None, None, true),
-        (Some(Sym(5)), None, true),
-        (Some(Sym(5)), Some(Sym(7)), true),
-        (Some(Sym(5)), Some(Sym(5)), false),
-        (Some(Sym(7)), None, false),
+        (Some(FIVE), None, true),
+        (Some(FIVE), Some(SEVEN), true),
+        (Some(FIVE), Some(FIVE), false),
+        (Some(SEVEN), None, false),
     ] {
-        let binding = binding_of(alloc, first, second)?;
-        assert!(rt; binding.get(0) == first && binding.get(1) == second);
+        let binding = binding_of(rt.alloc(), *first, *second)?;
+        assert!(rt; binding.get(0) == *first && binding.get(1) == *second);
         assert!(rt; binding.get(2).is_none());
-        assert!(rt; allowed(&chronicle, &binding) == is_allowed);
+        assert!(rt; allows(rt.alloc(), &binding)? == *is_allowed);
     }
     Ok(())
 }

@@ -1,41 +1,84 @@
 //! Stores, by the numbers of what they hold and answer.
-ghost use Rattle.std.specs.Prelude.{◌≡◌, ◌<◌, ◌^◌};
-ghost use Rattle.crs_model.specs.Plans.{IsProper};
+ghost use Rattle.std.specs.Prelude.{◌≡◌, ◌<◌, ◌≤◌, ◌^◌, []};
+ghost use Rattle.crs_history.specs.Histories.{lowest};
 
 use crate::fixtures::{plan, shared};
 use crs_base::{Entry, List, Steps};
 use crs_history::History;
-use crs_model::{Mark, Plan, Recognition};
-use crs_store::{Coming, Store, StoreRefused};
+use crs_model::{Mark, Recognition};
+use crs_store::{Coming, Store};
 use std::alloc::{AllocError, Global};
 use std::marker::Brand;
 use std::rc::Rc;
 use std::sync::ledger::{Blank, Ledger};
 use std::test::Fail;
 
-/// Offers an entry as the only one of a history, with a counter of its own.
-fn offer_apart<L: Ledger>(
-    blank: Blank,
-    alloc: Global,
-    store: &mut Store,
-    entry: &Rc<Entry>,
-) -> Result<Result<(), StoreRefused>, AllocError>
-    requires name { blank.name ≡ L.name }
-    requires parts { blank.parts ≡ L.parts }
-    requires some { 0 < L.parts }
-    requires date { entry.now.value.date < 2 ^ 40 }
-{
-    let mut history = History::new(alloc);
-    history.push(entry.clone()?)?;
-    Ok(store.offer(&history, entry, &mut Steps::<L>::new(blank)))
-}
-
-/// The date and the name of an event that is offered, or the date of a mark, how many recognitions
-/// are new at it, and how many instances are held behind it.
+/// What a store is given or asked, and what it is to answer. It is told of each entry and of each mark
+/// with a history of that entry alone, or of none.
 #[derive(Clone, Copy)]
 enum Step {
+    /// An event of this date and name is offered.
     Event(u32, u32),
+    /// The same, where the store is told what comes next: an event of the same date and of this name,
+    /// if any, and then those from a date on.
+    Until(u32, u32, Option<u32>, u32),
+    /// A mark of this date: how many recognitions are new at it, and how many instances are held then.
     Mark(u32, usize, usize),
+    /// How many instances are held.
+    Held(usize),
+    /// Whether the instance at this place is lent.
+    Lent(usize, bool),
+}
+
+/// Offers the entry.
+fn offer<L: Ledger>(
+    history: &mut History,
+    store: &mut Store,
+    counter: &mut Steps<L>,
+    entry: &Rc<Entry>,
+) -> Result<bool, AllocError>
+    requires new { history.old ≡ record { entries = []; floor = lowest } }
+    requires date { entry.now.value.date < 2 ^ 40 }
+{
+    history.push(entry.clone()?)?;
+    Ok(store.offer(history, entry, counter).is_ok())
+}
+
+/// Offers the entry, where these come next, and others from a date on.
+fn offer_until<L: Ledger>(
+    history: &mut History,
+    store: &mut Store,
+    counter: &mut Steps<L>,
+    entry: &Rc<Entry>,
+    ahead: &[Rc<Entry>],
+    beyond: u64,
+) -> Result<bool, AllocError>
+    requires new { history.old ≡ record { entries = []; floor = lowest } }
+    requires date { entry.now.value.date < 2 ^ 40 }
+    requires beyond { beyond ≤ 2 ^ 42 }
+{
+    history.push(entry.clone()?)?;
+    let coming = Coming {
+        until: entry.date,
+        ahead,
+        beyond,
+        behind: false,
+    };
+    Ok(store.offer_until(history, entry, &coming, counter).is_ok())
+}
+
+/// An entry of this date and name, if a name is given.
+fn ahead_of(
+    alloc: Global,
+    arrival: u32,
+    date: u32,
+    name: Option<u32>,
+) -> Result<Vec<Rc<Entry>>, AllocError> {
+    let mut ahead = Vec::new(alloc);
+    if let Some(name) = name {
+        ahead.push(shared(alloc, arrival, date as u64, name)?)?;
+    }
+    Ok(ahead)
 }
 
 /// Whether the first recognition, if there is one, is of chronicle 3 and of this mark.
@@ -46,53 +89,103 @@ fn begins_well(answer: &List<Recognition>, mark: Mark) -> bool {
     }
 }
 
-/// Takes one step, and says whether the numbers of a mark were met.
-fn take_step(
-    alloc: Global,
-    store: &mut Store,
-    arrival: u32,
-    step: &Step,
-) -> Result<Result<bool, StoreRefused>, AllocError> {
-    match *step {
-        Step::Event(date, name) => {
-            let entry = shared(alloc, arrival, date as u64, name)?;
-            match offer_apart::<Brand>(Blank::new(1), alloc, store, &entry)? {
-                Ok(()) => Ok(Ok(true)),
-                Err(refused) => Ok(Err(refused)),
-            }
-        }
-        Step::Mark(date, new, held) => {
-            let history = History::new(alloc);
-            let mark = Mark::Clock(date as u64);
-            match store.advance(&history, date as u64, mark) {
-                Ok(answer) => Ok(Ok(
-                    begins_well(&answer, mark) && answer.len() == new && store.held() == held,
-                )),
-                Err(refused) => Ok(Err(refused)),
-            }
-        }
+/// How many recognitions are new at this date, with the store's number and the mark.
+fn new_at(history: &History, store: &mut Store, date: u32) -> Option<usize> {
+    let mark = Mark::Clock(date as u64);
+    match store.advance(history, date as u64, mark) {
+        Ok(answer) if begins_well(&answer, mark) => Some(answer.len()),
+        _ => None,
     }
 }
 
-/// Whether a new store meets the numbers of all marks.
-fn meets(alloc: Global, plan: Rc<Plan>, steps: &[Step]) -> Result<bool, Fail>
-    requires { IsProper plan.value }
+/// Takes one step, and says whether the store answers as it is to.
+fn meets<L: Ledger>(
+    alloc: Global,
+    history: &mut History,
+    store: &mut Store,
+    counter: &mut Steps<L>,
+    arrival: u32,
+    step: &Step,
+) -> Result<bool, AllocError>
+    requires { history.old ≡ record { entries = []; floor = lowest } }
 {
-    let mut store = Store::new(alloc, plan, 3, false)?;
-    let mut arrival = 0;
-    for step in steps {
-        if !take_step(alloc, &mut store, arrival, step)?? {
-            return Ok(false);
+    match *step {
+        Step::Event(date, name) => {
+            let entry = shared(alloc, arrival, date as u64, name)?;
+            offer(history, store, counter, &entry)
         }
-        arrival = arrival.wrapping_add(1);
+        Step::Until(date, name, next, beyond) => {
+            let entry = shared(alloc, arrival, date as u64, name)?;
+            let ahead = ahead_of(alloc, arrival.wrapping_add(1), date, next)?;
+            offer_until(history, store, counter, &entry, &ahead, beyond as u64)
+        }
+        Step::Mark(date, new, held) => {
+            Ok(new_at(history, store, date) == Some(new) && store.held() == held)
+        }
+        Step::Held(held) => Ok(store.held() == held),
+        Step::Lent(place, lent) => Ok(store.instance(place).is_some() == lent),
     }
-    Ok(true)
+}
+
+/// The same over a new history.
+fn meets_alone<L: Ledger>(
+    alloc: Global,
+    store: &mut Store,
+    counter: &mut Steps<L>,
+    arrival: u32,
+    step: &Step,
+) -> Result<bool, AllocError> {
+    let mut history = History::new(alloc);
+    meets(alloc, &mut history, store, counter, arrival, step)
+}
+
+/// The place of the first step at which the store answers otherwise.
+fn first_unmet_by<L: Ledger>(
+    alloc: Global,
+    store: &mut Store,
+    counter: &mut Steps<L>,
+    steps: &[Step],
+) -> Result<Option<u32>, AllocError> {
+    let mut place = 0;
+    for step in steps {
+        if !meets_alone(alloc, store, counter, place, step)? {
+            return Ok(Some(place));
+        }
+        place = place.wrapping_add(1);
+    }
+    Ok(None)
+}
+
+/// The same of a store and a counter of its own.
+fn first_unmet_apart<L: Ledger>(
+    blank: Blank,
+    alloc: Global,
+    mut store: Store,
+    steps: &[Step],
+) -> Result<Option<u32>, AllocError>
+    requires name { blank.name ≡ L.name }
+    requires parts { blank.parts ≡ L.parts }
+    requires some { 0 < L.parts }
+{
+    first_unmet_by(alloc, &mut store, &mut Steps::<L>::new(blank), steps)
+}
+
+/// The same of a new store of chronicle 3, whose plan has two events of these names, the other from
+/// `least` to 5 ticks later.
+fn first_unmet(
+    alloc: Global,
+    one: u32,
+    other: u32,
+    least: u8,
+    steps: &[Step],
+) -> Result<Option<u32>, AllocError> {
+    let store = Store::new(alloc, plan(alloc, one, other, least)?, 3, false)?;
+    first_unmet_apart::<Brand>(Blank::new(1), alloc, store, steps)
 }
 
 #[test]
 fn holds_what_can_still_be_recognised(rt: HostRuntime) -> Result<(), Fail> {
-    let alloc = rt.alloc();
-    let steps = [
+    let steps = &[
         Step::Mark(0, 0, 1),
         Step::Event(1, 0),
         Step::Event(2, 0),
@@ -102,27 +195,25 @@ fn holds_what_can_still_be_recognised(rt: HostRuntime) -> Result<(), Fail> {
         Step::Mark(7, 2, 2),
         Step::Mark(7, 0, 2),
     ];
-    assert!(rt; meets(alloc, plan(alloc, 0, 1, 1)?, &steps)?);
+    assert_eq!(rt; first_unmet(rt.alloc(), 0, 1, 1, steps)?, None);
     Ok(())
 }
 
 #[test]
 fn gives_no_entry_to_two_events(rt: HostRuntime) -> Result<(), Fail> {
-    let alloc = rt.alloc();
-    let steps = [
+    let steps = &[
         Step::Event(1, 0),
         Step::Mark(2, 0, 2),
         Step::Event(2, 0),
         Step::Mark(3, 1, 3),
     ];
-    assert!(rt; meets(alloc, plan(alloc, 0, 0, 0)?, &steps)?);
+    assert_eq!(rt; first_unmet(rt.alloc(), 0, 0, 0, steps)?, None);
     Ok(())
 }
 
 #[test]
 fn takes_the_place_of_one_that_is_over(rt: HostRuntime) -> Result<(), Fail> {
-    let alloc = rt.alloc();
-    let steps = [
+    let steps = &[
         Step::Event(1, 0),
         Step::Mark(2, 0, 2),
         Step::Event(3, 7),
@@ -133,132 +224,38 @@ fn takes_the_place_of_one_that_is_over(rt: HostRuntime) -> Result<(), Fail> {
         Step::Mark(10, 1, 2),
         Step::Mark(14, 0, 1),
     ];
-    assert!(rt; meets(alloc, plan(alloc, 0, 1, 1)?, &steps)?);
+    assert_eq!(rt; first_unmet(rt.alloc(), 0, 1, 1, steps)?, None);
     Ok(())
-}
-
-/// How many instances a new store holds after an event of name 1 at date 10, where the one entry ahead
-/// has this name and the same date, and all others are dated 12 or later.
-fn held_before<L: Ledger>(
-    blank: Blank,
-    alloc: Global,
-    plan: Rc<Plan>,
-    name: u32,
-) -> Result<Result<usize, StoreRefused>, AllocError>
-    requires proper { IsProper plan.value }
-    requires name { blank.name ≡ L.name }
-    requires parts { blank.parts ≡ L.parts }
-    requires some { 0 < L.parts }
-{
-    let mut store = Store::new(alloc, plan, 3, false)?;
-    let mut ahead = Vec::new(alloc);
-    ahead.push(shared(alloc, 1, 10, name)?)?;
-    let offered = shared(alloc, 0, 10, 1)?;
-    let mut history = History::new(alloc);
-    history.push(offered.clone()?)?;
-    let mut steps = Steps::<L>::new(blank);
-    let coming = Coming {
-        until: 10,
-        ahead: ahead.as_slice(),
-        beyond: 12,
-        behind: false,
-    };
-    match store.offer_until(&history, &offered, &coming, &mut steps) {
-        Ok(()) => Ok(Ok(store.held())),
-        Err(refused) => Ok(Err(refused)),
-    }
-}
-
-/// The same with a plan of its own, whose second event comes up to 5 ticks after the first.
-fn held_before_one(alloc: Global, name: u32) -> Result<Result<usize, StoreRefused>, AllocError> {
-    let plan = plan(alloc, 0, 1, 0)?;
-    held_before::<Brand>(Blank::new(1), alloc, plan, name)
 }
 
 #[test]
 fn holds_no_fork_that_the_next_entries_leave_no_hope(rt: HostRuntime) -> Result<(), Fail> {
-    let alloc = rt.alloc();
-    let awaited = held_before_one(alloc, 0)??;
-    let another = held_before_one(alloc, 1)??;
-    assert!(rt; awaited == 2 && another == 1);
+    let awaited = &[Step::Until(10, 1, Some(0), 12), Step::Held(2)];
+    assert_eq!(rt; first_unmet(rt.alloc(), 0, 1, 0, awaited)?, None);
+    let another = &[Step::Until(10, 1, Some(1), 12), Step::Held(1)];
+    assert_eq!(rt; first_unmet(rt.alloc(), 0, 1, 0, another)?, None);
     Ok(())
-}
-
-/// Offers an entry as `offer_apart` does, where the store is told of none that comes next.
-fn offer_until_apart<L: Ledger>(
-    blank: Blank,
-    alloc: Global,
-    store: &mut Store,
-    entry: &Rc<Entry>,
-) -> Result<Result<(), StoreRefused>, AllocError>
-    requires name { blank.name ≡ L.name }
-    requires parts { blank.parts ≡ L.parts }
-    requires some { 0 < L.parts }
-    requires date { entry.now.value.date < 2 ^ 40 }
-{
-    let mut history = History::new(alloc);
-    history.push(entry.clone()?)?;
-    let coming = Coming {
-        until: entry.date,
-        ahead: &[],
-        beyond: entry.date,
-        behind: false,
-    };
-    Ok(store.offer_until(&history, entry, &coming, &mut Steps::<L>::new(blank)))
-}
-
-/// Offers an entry in one way or the other.
-fn offer_either(
-    alloc: Global,
-    store: &mut Store,
-    entry: &Rc<Entry>,
-    until: bool,
-) -> Result<Result<(), StoreRefused>, AllocError>
-    requires { entry.now.value.date < 2 ^ 40 }
-{
-    if until {
-        offer_until_apart::<Brand>(Blank::new(1), alloc, store, entry)
-    } else {
-        offer_apart::<Brand>(Blank::new(1), alloc, store, entry)
-    }
-}
-
-/// A store to which an event of name 0 at 1 and one of name 1 at 3 were offered, the latter in this way.
-fn offered(alloc: Global, until: bool) -> Result<Store, Fail> {
-    let mut store = Store::new(alloc, plan(alloc, 0, 1, 1)?, 3, false)?;
-    let first = shared(alloc, 0, 1, 0)?;
-    offer_either(alloc, &mut store, &first, false)??;
-    let second = shared(alloc, 1, 3, 1)?;
-    offer_either(alloc, &mut store, &second, until)??;
-    Ok(store)
-}
-
-/// How many recognitions are new at this date, with the store's number and this mark.
-fn new_at(alloc: Global, store: &mut Store, date: u32) -> Result<usize, StoreRefused> {
-    let mark = Mark::Clock(date as u64);
-    let answer = store.advance(&History::new(alloc), date as u64, mark)?;
-    if begins_well(&answer, mark) {
-        Ok(answer.len())
-    } else {
-        Ok(0)
-    }
-}
-
-/// Whether an instance that such a store made whole is counted, is lent or isn't, and is answered once.
-fn answers_once(alloc: Global, until: bool) -> Result<bool, Fail> {
-    let mut store = offered(alloc, until)?;
-    if store.held() != 3 || store.instance(2).is_some() == until {
-        return Ok(false);
-    }
-    let new = new_at(alloc, &mut store, 5)?;
-    let again = new_at(alloc, &mut store, 6)?;
-    Ok(new == 1 && again == 0 && store.held() == 2)
 }
 
 #[test]
 fn answers_once_what_has_no_place(rt: HostRuntime) -> Result<(), Fail> {
-    let placed = answers_once(rt.alloc(), false)?;
-    let kept = answers_once(rt.alloc(), true)?;
-    assert!(rt; placed && kept);
+    let placed = &[
+        Step::Event(1, 0),
+        Step::Event(3, 1),
+        Step::Held(3),
+        Step::Lent(2, true),
+        Step::Mark(5, 1, 2),
+        Step::Mark(6, 0, 2),
+    ];
+    assert_eq!(rt; first_unmet(rt.alloc(), 0, 1, 1, placed)?, None);
+    let kept = &[
+        Step::Event(1, 0),
+        Step::Until(3, 1, None, 3),
+        Step::Held(3),
+        Step::Lent(2, false),
+        Step::Mark(5, 1, 2),
+        Step::Mark(6, 0, 2),
+    ];
+    assert_eq!(rt; first_unmet(rt.alloc(), 0, 1, 1, kept)?, None);
     Ok(())
 }
