@@ -1,5 +1,5 @@
 //! Two feeds over one chronicle, and the lines that they give.
-ghost use Rattle.std.specs.Prelude.{◌≡◌, ◌<◌, ◌^◌, false, get_or, length, OnOk, IfOk};
+ghost use Rattle.std.specs.Prelude.{◌≡◌, ◌<◌, false, get_or, length, OnOk, IfOk};
 ghost use Rattle.crs_feeds.specs.Merged.{new_feed};
 
 use crs_base::{Entry, Steps, Sym, SymList, Symbols, Text};
@@ -39,14 +39,14 @@ pub(crate) const A: Sym = Sym(0);
 pub(crate) const B: Sym = Sym(1);
 
 /// Which of the two feeds gives a line.
-#[derive(Clone, Copy, Debug)]
+#[derive(Clone, Copy)]
 pub(crate) enum From {
     First,
     Second,
 }
 
 impl From {
-    pub(crate) fn number(self) -> u8
+    fn number(self) -> u8
         ensures { result < 2 }
     {
         match self {
@@ -57,7 +57,7 @@ impl From {
 }
 
 /// What a line says.
-#[derive(Clone, Copy, Debug)]
+#[derive(Clone, Copy)]
 pub(crate) enum Says {
     Delay(u32),
     Event(u32, Sym),
@@ -65,57 +65,39 @@ pub(crate) enum Says {
     End,
 }
 
-/// What came of a line: a refused event, or a rise with the dates of its first recognition.
-#[derive(Clone, Copy, Debug, PartialEq, Eq)]
+/// What comes of a line: a refusal, or a rise with the dates of its first recognition.
+#[derive(Clone, Copy, PartialEq, Eq)]
 pub(crate) enum Came {
+    Nothing,
     Refused(Refused),
     Rose(Mark, Option<(u64, u64)>),
 }
 
+/// What the feeds are given or asked, and what they are to answer.
+#[derive(Clone, Copy)]
+pub(crate) enum Step {
+    /// What comes of a line of a feed that hasn't ended.
+    Line(From, Says, Came),
+    /// The common horizon.
+    Horizon(u64),
+    /// How many entries were accepted.
+    Accepted(u32),
+    /// Whether as many entries were accepted as may be.
+    Full(bool),
+    /// Whether a feed has ended.
+    Ended(From, bool),
+    /// How many plans there are.
+    Plans(usize),
+}
+
 /// Two feeds over the chronicle of a text, that accept at most `limit` entries.
-pub(crate) fn two_feeds(alloc: Global, text: &[u8], limit: u32) -> Result<Feeds, Fail>
+fn two_feeds(alloc: Global, text: &[u8], limit: u32) -> Result<Feeds, Fail>
     ensures { IfOk result (λ f. length f.feeds ≡ 2) }
 {
     let mut symbols = Symbols::new(alloc, 9)?;
     let models = read_models(alloc, text, &mut symbols)?;
     let plans = compile(alloc, models)?;
     Ok(Feeds::new(alloc, plans, false, limit, 2)?)
-}
-
-/// Moves the clock of a feed on, with a counter of its own.
-pub(crate) fn clock_apart<L: Ledger>(
-    blank: Blank,
-    feeds: &mut Feeds,
-    feed: u8,
-    t: u64,
-) -> Result<Option<Rise>, Refused>
-    requires name { blank.name ≡ L.name }
-    requires parts { blank.parts ≡ L.parts }
-    requires some { 0 < L.parts }
-    requires two { length feeds.old.feeds ≡ 2 }
-    requires number { feed < 2 }
-    requires open { (get_or feeds.old.feeds feed new_feed).ended ≡ false }
-    requires date { t < 2 ^ 40 }
-    ensures { OnOk result (length feeds.new.feeds ≡ 2) }
-{
-    feeds.clock(feed, t, &mut Steps::<L>::new(blank))
-}
-
-/// Ends a feed, with a counter of its own.
-fn finish_apart<L: Ledger>(
-    blank: Blank,
-    feeds: &mut Feeds,
-    feed: u8,
-) -> Result<Option<Rise>, Refused>
-    requires name { blank.name ≡ L.name }
-    requires parts { blank.parts ≡ L.parts }
-    requires some { 0 < L.parts }
-    requires two { length feeds.old.feeds ≡ 2 }
-    requires number { feed < 2 }
-    requires open { (get_or feeds.old.feeds feed new_feed).ended ≡ false }
-    ensures { OnOk result (length feeds.new.feeds ≡ 2) }
-{
-    feeds.finish(feed, &mut Steps::<L>::new(blank))
 }
 
 /// Takes in an event, as the next entry.
@@ -125,7 +107,7 @@ fn accept(
     feed: u8,
     date: u32,
     name: Sym,
-) -> Result<Result<(), Refused>, AllocError>
+) -> Result<Came, AllocError>
     requires two { length feeds.old.feeds ≡ 2 }
     requires number { feed < 2 }
     requires open { (get_or feeds.old.feeds feed new_feed).ended ≡ false }
@@ -139,7 +121,10 @@ fn accept(
         change: None,
         text: Text::new(alloc, b"")?,
     };
-    Ok(feeds.accept(feed, entry))
+    match feeds.accept(feed, entry) {
+        Ok(()) => Ok(Came::Nothing),
+        Err(refused) => Ok(Came::Refused(refused)),
+    }
 }
 
 /// The dates of the first recognition of a rise.
@@ -150,57 +135,110 @@ fn told(rise: &Rise) -> Option<(u64, u64)> {
     Some((from.date, to.date))
 }
 
-/// What came of a rise, where there is one.
-fn rose(rise: Option<Rise>) -> Option<Came> {
+/// What comes of a rise, where there is one.
+fn rose(rise: Option<Rise>) -> Came {
     match rise {
-        None => None,
-        Some(rise) => Some(Came::Rose(rise.mark, told(&rise))),
+        None => Came::Nothing,
+        Some(rise) => Came::Rose(rise.mark, told(&rise)),
     }
 }
 
-/// Takes a line. A feed that has ended gives none.
-fn take(alloc: Global, feeds: &mut Feeds, from: From, says: Says) -> Result<Option<Came>, Fail>
-    requires { length feeds.old.feeds ≡ 2 }
+/// Takes a line, and tells what comes of it.
+fn take<L: Ledger>(
+    alloc: Global,
+    feeds: &mut Feeds,
+    counter: &mut Steps<L>,
+    feed: u8,
+    says: Says,
+) -> Result<Came, AllocError>
+    requires two { length feeds.old.feeds ≡ 2 }
+    requires number { feed < 2 }
+    requires open { (get_or feeds.old.feeds feed new_feed).ended ≡ false }
     ensures { OnOk result (length feeds.new.feeds ≡ 2) }
 {
-    let feed = from.number();
-    if feeds.ended(feed) {
-        return Err(Fail::new("a line behind an end"));
-    }
     match says {
         Says::Delay(d) => {
             feeds.set_delay(feed, d as u64);
-            Ok(None)
+            Ok(Came::Nothing)
         }
-        Says::Event(date, name) => match accept(alloc, feeds, feed, date, name)? {
-            Ok(()) => Ok(None),
-            Err(refused) => Ok(Some(Came::Refused(refused))),
+        Says::Event(date, name) => accept(alloc, feeds, feed, date, name),
+        Says::Clock(t) => match feeds.clock(feed, t as u64, counter) {
+            Ok(rise) => Ok(rose(rise)),
+            Err(Refused::Back { t, last }) => Ok(Came::Refused(Refused::Back { t, last })),
+            Err(_) => Err(AllocError),
         },
-        Says::Clock(t) => {
-            let rise = clock_apart::<Brand>(Blank::new(1), feeds, feed, t as u64)?;
-            Ok(rose(rise))
-        }
-        Says::End => {
-            let rise = finish_apart::<Brand>(Blank::new(1), feeds, feed)?;
-            Ok(rose(rise))
-        }
+        Says::End => match feeds.finish(feed, counter) {
+            Ok(rise) => Ok(rose(rise)),
+            Err(_) => Err(AllocError),
+        },
     }
 }
 
-/// Takes lines, and tells what came of them, in order.
-pub(crate) fn take_all(
+/// Takes one step, and says whether the feeds answer as they are to.
+fn meets<L: Ledger>(
     alloc: Global,
     feeds: &mut Feeds,
-    lines: &[(From, Says)],
-) -> Result<Vec<Came>, Fail>
+    counter: &mut Steps<L>,
+    step: &Step,
+) -> Result<bool, AllocError>
     requires { length feeds.old.feeds ≡ 2 }
     ensures { OnOk result (length feeds.new.feeds ≡ 2) }
 {
-    let mut out = Vec::new(alloc);
-    for line in lines {
-        if let Some(came) = take(alloc, feeds, line.0, line.1)? {
-            out.push(came)?;
+    match *step {
+        Step::Line(from, says, came) => {
+            let feed = from.number();
+            if feeds.ended(feed) {
+                return Ok(false);
+            }
+            Ok(take(alloc, feeds, counter, feed, says)? == came)
+        }
+        Step::Horizon(date) => Ok(feeds.horizon() == date),
+        Step::Accepted(count) => Ok(feeds.accepted() == count),
+        Step::Full(full) => Ok(feeds.is_full() == full),
+        Step::Ended(from, ended) => Ok(feeds.ended(from.number()) == ended),
+        Step::Plans(count) => Ok(feeds.plans().plans.len() == count),
+    }
+}
+
+/// The place of the first step at which the feeds answer otherwise.
+fn first_unmet_by<L: Ledger>(
+    alloc: Global,
+    feeds: &mut Feeds,
+    counter: &mut Steps<L>,
+    steps: &[Step],
+) -> Result<Option<usize>, AllocError>
+    requires { length feeds.old.feeds ≡ 2 }
+{
+    for (place, step) in steps.iter().enumerate() {
+        if !meets(alloc, feeds, counter, step)? {
+            return Ok(Some(place));
         }
     }
-    Ok(out)
+    Ok(None)
+}
+
+/// The same of feeds and a counter of its own.
+fn first_unmet_apart<L: Ledger>(
+    blank: Blank,
+    alloc: Global,
+    mut feeds: Feeds,
+    steps: &[Step],
+) -> Result<Option<usize>, AllocError>
+    requires name { blank.name ≡ L.name }
+    requires parts { blank.parts ≡ L.parts }
+    requires some { 0 < L.parts }
+    requires two { length feeds.feeds ≡ 2 }
+{
+    first_unmet_by(alloc, &mut feeds, &mut Steps::<L>::new(blank), steps)
+}
+
+/// The same of two new feeds over the chronicle of a text, that accept at most `limit` entries.
+pub(crate) fn first_unmet(
+    alloc: Global,
+    text: &[u8],
+    limit: u32,
+    steps: &[Step],
+) -> Result<Option<usize>, Fail> {
+    let feeds = two_feeds(alloc, text, limit)?;
+    Ok(first_unmet_apart::<Brand>(Blank::new(1), alloc, feeds, steps)?)
 }
