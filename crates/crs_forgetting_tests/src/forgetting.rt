@@ -70,30 +70,69 @@ fn feed_valve(engine: &mut Engine, alloc: Global, symbols: &mut Symbols) -> Resu
     feed(engine, alloc, 15, burn, s1, None)
 }
 
-/// Moves the clock on, with a counter of its own: how much is new, and how many entries are kept.
-fn clock_apart<L: Ledger>(
-    blank: Blank,
+/// A date of the clock, how many recognitions are new there, and how many entries the history then has.
+#[derive(Clone, Copy)]
+struct Marked(u32, usize, usize);
+
+/// Moves the clock on, and says whether the engine answers as it is to.
+fn meets<L: Ledger>(
     engine: &mut Engine,
-    t: u64,
-) -> Result<(usize, usize), Refused>
+    counter: &mut Steps<L>,
+    mark: &Marked,
+) -> Result<bool, Refused> {
+    let Marked(date, new, entries) = *mark;
+    let answer = engine.clock(date as u64, counter)?;
+    Ok(answer.len() == new && engine.history().len() == entries)
+}
+
+/// The place of the first mark at which an engine of the valve answers otherwise.
+fn first_unmet_by<L: Ledger>(
+    alloc: Global,
+    engine: &mut Engine,
+    counter: &mut Steps<L>,
+    symbols: &mut Symbols,
+    marks: &[Marked],
+) -> Result<Option<usize>, Fail> {
+    feed_valve(engine, alloc, symbols)?;
+    for (place, mark) in marks.iter().enumerate() {
+        if !meets(engine, counter, mark)? {
+            return Ok(Some(place));
+        }
+    }
+    Ok(None)
+}
+
+/// The same of an engine and a counter of its own.
+fn first_unmet_apart<L: Ledger>(
+    blank: Blank,
+    alloc: Global,
+    mut engine: Engine,
+    symbols: &mut Symbols,
+    marks: &[Marked],
+) -> Result<Option<usize>, Fail>
     requires name { blank.name ≡ L.name }
     requires parts { blank.parts ≡ L.parts }
     requires some { 0 < L.parts }
-    requires date { t < 2 ^ 40 }
 {
-    let answer = engine.clock(t, &mut Steps::<L>::new(blank))?;
-    Ok((answer.len(), engine.history().len()))
+    let counter = &mut Steps::<L>::new(blank);
+    first_unmet_by(alloc, &mut engine, counter, symbols, marks)
+}
+
+/// The same of a new engine of the valve.
+fn first_unmet(alloc: Global, marks: &[Marked]) -> Result<Option<usize>, Fail> {
+    let mut symbols = Symbols::new(alloc, 20)?;
+    let engine = engine_of(alloc, VALVE, &mut symbols)?;
+    first_unmet_apart::<Brand>(Blank::new(1), alloc, engine, &mut symbols, marks)
 }
 
 #[test]
 fn the_last_change_before_the_floor_is_kept(rt: HostRuntime) -> Result<(), Fail> {
-    let alloc = rt.alloc();
-    let mut symbols = Symbols::new(alloc, 20)?;
-    let mut engine = engine_of(alloc, VALVE, &mut symbols)?;
-    feed_valve(&mut engine, alloc, &mut symbols)?;
-    // the floor is 11: the change at 8 still tells the value, and the entry at 10 goes
-    assert!(rt; clock_apart::<Brand>(Blank::new(1), &mut engine, 16)? == (1, 2));
-    // the floor is 25
-    assert!(rt; clock_apart::<Brand>(Blank::new(1), &mut engine, 30)? == (0, 1));
+    let marks = &[
+        // the floor is 11: the change at 8 still tells the value, and the entry at 10 goes
+        Marked(16, 1, 2),
+        // the floor is 25
+        Marked(30, 0, 1),
+    ];
+    assert_eq!(rt; first_unmet(rt.alloc(), marks)?, None);
     Ok(())
 }
