@@ -53,8 +53,10 @@ fn fork_apart<L: Ledger>(
     requires root { IsRootOf plan.now instance.now }
     requires date { entry.now.value.date < 2 ^ 40 }
 {
-    let fork = instance.fork(plan, 0, entry, &mut Steps::<L>::new(blank))?;
-    Ok(fork)
+    let Some(fork) = instance.fork(plan, 0, entry, &mut Steps::<L>::new(blank)) else {
+        return Ok(None);
+    };
+    Ok(Some(fork.make(instance.all_progress())?))
 }
 
 /// Binds event 0 to an entry of this name at 10.

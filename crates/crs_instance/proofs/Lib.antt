@@ -13,3 +13,4 @@ pub mod Stretches
 pub mod Waits
 pub mod Kept
 pub mod Completing
+pub mod Forks

@@ -4,7 +4,7 @@ pub mod Spans
 pub mod Stored
 pub mod Deadlines
 pub mod Narrowed
-pub mod Extended
+pub mod Forks
 pub mod Followed
 pub mod CurrentLevel
 pub mod Waits

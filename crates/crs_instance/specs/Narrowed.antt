@@ -1,5 +1,6 @@
 -- Date windows when one more date is given.
-use Rattle.std.specs.Prelude.{◌≡◌, ◌<◌, ℕ, ℤ, pos, ◌≤ℤ◌, List, length, Option, Some, IfSome}
+use Rattle.std.specs.Prelude.{◌≡◌, ◌<◌, ℕ, ℤ, pos, ◌≤ℤ◌, List, length, map, Option, Some, IfSome}
+use Rattle.std.specs.List.{range_with_len}
 use Rattle.crs_model.specs.declared.date_window.DateWindow.{DateWindow}
 use Rattle.crs_stn.specs.Cycle.{lesser}
 use Rattle.crs_stn.specs.DateWindow.{after, greater_of, before}
@@ -10,6 +11,11 @@ pub record IsNarrowed (n : ℕ) (most : ℕ → ℕ → Option ℤ) (e : ℕ) (d
   pub len : length new ≡ n
   pub most_at : (r : ℕ) → r < n → (window_at new r).most ≡ lesser (window_at old r).most (after (Some d) (most e r))
   pub least_at : (r : ℕ) → r < n → (window_at new r).least ≡ greater_of (window_at old r).least (before (Some d) (most r e))
+
+-- these are they
+abbrev pub narrowed_windows : ℕ → (ℕ → ℕ → Option ℤ) → ℕ → ℤ → List DateWindow → List DateWindow
+narrowed_windows n most e d old =
+    map (λ r. record { least = greater_of (window_at old r).least (before (Some d) (most r e)); most = lesser (window_at old r).most (after (Some d) (most e r)) }) (range_with_len 0 n)
 
 -- the greatest date that a window and a bound from the date d leave
 abbrev pub most_with : DateWindow → Option ℤ → ℕ → Option ℤ

@@ -12,22 +12,22 @@ ghost use Rattle.crs_model.specs.Bindings.{PatternIsBelow};
 ghost use Rattle.crs_model.specs.Steps.{flat};
 ghost use Rattle.crs_model.specs.Levels.{level_in};
 ghost use Rattle.crs_model.specs.declared.plan.Plan.{Plan};
-ghost use Rattle.crs_instance.specs.Followed.{IsStretchAt};
 ghost use Rattle.crs_instance.specs.Instances.{no_progress as none_yet, progress_at, seen_entry, IsBoundBy, IsOf, IsInside, IsAnswered, IsForked, IsDeadline, AreAllEntries, window_at};
 ghost use Rattle.crs_instance.specs.Spans.{no_span, windows_of};
 ghost use Rattle.crs_instance.specs.Waits.{OthersCanCome, AnotherIsLate};
 
 use crate::bits::{are_all_set, with_bit};
-use crate::bound::body_is_bound;
+use crate::dated::Dated;
 use crate::fit::Fit;
+use crate::fork::Fork;
 use crate::links::{Known, Links, date_of, entry_at, gives, known_of, linked, listed, listed_with};
-use crate::narrowing::{is_inside, is_not_before, narrowed};
+use crate::narrowing::{is_inside, is_not_before};
 use crate::span::{NO_LEAST, NO_MOST, Span, most_at};
 use crate::waiting::{deadline_of_level, earliest_deadline, others_can_be_from};
 use crs_base::{Entry, List, Steps};
 use crs_model::{
-    Anchor, Binding, Chronicle, DateWindow, Pattern, Plan, Progress, Stretch, allowed,
-    bind_if_fits, is_set_at,
+    Anchor, Binding, Chronicle, DateWindow, Pattern, Plan, Progress, allowed, bind_if_fits,
+    is_set_at,
 };
 use std::alloc::{AllocError, Global};
 use std::marker::Model;
@@ -130,9 +130,33 @@ fn copied(alloc: Global, progress: &[Progress]) -> Result<Vec<Progress>, AllocEr
     Vec::from_slice(alloc, progress)
 }
 
+/// The progress of the window of this number, where there is one.
+pub fn progress_in(all: &[Progress], window: u8) -> Progress
+    ensures { result ≡ progress_at all.now window }
+{
+    match all.get(window as usize) {
+        None => Progress {
+            count: 0,
+            broken: false,
+        },
+        Some(progress) => *progress,
+    }
+}
+
+impl Dated for Instance {
+    ghost seen = { λ i. i };
+
+    fn binding(&self) -> &Binding {
+        &self.known().binding
+    }
+
+    fn date_from(&self, anchor: Anchor) -> Option<i64> {
+        date_of(&self.links, anchor)
+    }
+}
+
 impl Instance {
     ghost use Rattle.crs_instance.specs.Completing.{IsCompleted, IsTakenBy};
-    ghost use Rattle.crs_instance.specs.Extended.{IsExtended};
 
     /// Nothing is bound.
     pub fn root(alloc: Global, plan: &Plan) -> Result<Instance, AllocError>
@@ -157,7 +181,7 @@ impl Instance {
     }
 
     /// What the bound events' entries tell.
-    fn known(&self) -> &Known
+    pub(crate) fn known(&self) -> &Known
         ensures binding { result.now.binding ≡ self.now.binding }
         ensures windows { windows_of result.now.spans.items ≡ self.now.windows }
     {
@@ -197,35 +221,26 @@ impl Instance {
         matched(&plan.chronicle, pattern, binding, entry, steps)
     }
 
-    /// The binding and the windows, where the event is bound to the entry too.
-    fn extended<L: Ledger>(
+    /// The instance with the event bound to the entry too, with the progress that its windows have.
+    fn forked<L: Ledger>(
         &self,
         plan: &Plan,
         event: u8,
-        entry: &Entry,
+        entry: &Rc<Entry>,
         steps: &mut Steps<L>,
-    ) -> Result<Option<Known>, AllocError>
+    ) -> Result<Option<Instance>, AllocError>
         requires proper { IsProper plan.now }
         requires of { IsOf plan.now self.now }
         requires event { event < length plan.now.chronicle.events }
         requires unbound { at self.now.partial event ≡ None }
-        requires date { entry.now.date < 2 ^ 40 }
-        ensures extended { IfOk result (IsExtended plan.now self.now event (entry_of entry.now)) }
+        requires date { entry.now.value.date < 2 ^ 40 }
+        ensures fork { IfOk result (IsForked plan.now self.now event (entry_of entry.now.value)) }
         ensures step { steps.new ≡ steps.old + 1 }
     {
-        let known = self.known();
-        let mut binding = known.binding.copy();
-        if !self.takes(plan, event, entry, &mut binding, steps) {
+        let Some(fork) = self.fork(plan, event, entry, steps) else {
             return Ok(None);
-        }
-        let spans = narrowed(
-            self.alloc,
-            known.spans.as_slice(),
-            &plan.network,
-            event,
-            entry.date,
-        )?;
-        Ok(Some(Known { binding, spans }))
+        };
+        Ok(Some(fork.make(self.progress.as_slice())?))
     }
 
     /// Binds the event to the entry, where the bound events can still be part of an assignment that
@@ -246,52 +261,72 @@ impl Instance {
         ensures err { OnErr result (self.new ≡ self.old) }
         ensures step { steps.new ≡ steps.old + 1 }
     {
-        match self.extended(plan, event, &entry, steps)? {
+        match self.forked(plan, event, &entry, steps)? {
             None => Ok(Fit::No),
-            Some(known) => {
-                let bound = with_bit(self.bound, event);
-                let last = earliest_deadline(bound, self.count, known.spans.as_slice());
-                self.links = linked(self.alloc, &self.links, event, entry, known)?;
-                self.bound = bound;
-                self.last = last;
+            Some(next) => {
+                *self = next;
                 Ok(Fit::Yes)
             }
         }
     }
 
-    /// The instance with the event bound to the entry too. None exactly where the bound events could
-    /// then be part of no assignment that meets the bounds. It takes one step, and no memory before
-    /// it is known that there is such an instance.
-    pub fn fork<L: Ledger>(
-        &self,
-        plan: &Plan,
+    /// What the instance becomes where the event is bound to the entry too. None exactly where the
+    /// bound events could then be part of no assignment that meets the bounds. It takes one step, and
+    /// no memory.
+    pub fn fork<'a, L: Ledger>(
+        &'a self,
+        plan: &'a Plan,
         event: u8,
-        entry: &Rc<Entry>,
+        entry: &'a Rc<Entry>,
         steps: &mut Steps<L>,
-    ) -> Result<Option<Instance>, AllocError>
+    ) -> Option<Fork<'a>>
         requires proper { IsProper plan.now }
         requires of { IsOf plan.now self.now }
         requires event { event < length plan.now.chronicle.events }
         requires unbound { at self.now.partial event ≡ None }
         requires date { entry.now.value.date < 2 ^ 40 }
-        ensures fork { IfOk result (IsForked plan.now self.now event (entry_of entry.now.value)) }
+        ensures fork { IsForked plan.now self.now event (entry_of entry.now.value) result }
         ensures step { steps.new ≡ steps.old + 1 }
     {
-        let Some(known) = self.extended(plan, event, entry, steps)? else {
-            return Ok(None);
-        };
+        let mut binding = self.binding().copy();
+        if !self.takes(plan, event, entry, &mut binding, steps) {
+            return None;
+        }
+        Some(Fork::new(plan, self, event, entry, binding))
+    }
+
+    /// The instance with the event bound to the entry too, of which so much is known, and with this
+    /// progress of its windows.
+    pub(crate) fn grown(
+        &self,
+        event: u8,
+        entry: Rc<Entry>,
+        known: Known,
+        progress: &[Progress],
+    ) -> Result<Instance, AllocError>
+        requires event { event < length self.now.partial }
+        requires unbound { at self.now.partial event ≡ None }
+        requires date { entry.value.date < 2 ^ 40 }
+        requires spans { length self.now.partial ≤ length known.spans.items }
+        ensures { IfOk result (λ i. i ≡ record { partial = put self.now.partial event (entry_of entry.value); binding = known.binding; windows = windows_of known.spans.items; progress = progress.now }) }
+    {
         let bound = with_bit(self.bound, event);
         let last = earliest_deadline(bound, self.count, known.spans.as_slice());
-        let links = linked(self.alloc, &self.links, event, entry.clone()?, known)?;
-        let progress = copied(self.alloc, self.progress.as_slice())?;
-        Ok(Some(Instance {
+        let links = linked(self.alloc, &self.links, event, entry, known)?;
+        let progress = copied(self.alloc, progress)?;
+        Ok(Instance {
             links,
             progress,
             bound,
             count: self.count,
             last,
             alloc: self.alloc,
-        }))
+        })
+    }
+
+    /// Where its vectors and links take memory.
+    pub(crate) fn alloc(&self) -> Global {
+        self.alloc
     }
 
     /// Whether no other event than this one is unbound.
@@ -419,24 +454,18 @@ impl Instance {
         is_set_at(self.bound, event)
     }
 
-    /// The symbols of the variables of the bound events.
-    pub fn binding(&self) -> &Binding
-        ensures { result.now ≡ self.now.binding }
-    {
-        &self.known().binding
-    }
-
     /// What is known of the window of this number, where there is one.
     pub fn progress(&self, window: u8) -> Progress
         ensures { result ≡ progress_at self.now.progress window }
     {
-        match self.progress.as_slice().get(window as usize) {
-            None => Progress {
-                count: 0,
-                broken: false,
-            },
-            Some(progress) => *progress,
-        }
+        progress_in(self.progress.as_slice(), window)
+    }
+
+    /// What is known of each window.
+    pub fn all_progress(&self) -> &[Progress]
+        ensures { result.now ≡ self.now.progress }
+    {
+        self.progress.as_slice()
     }
 
     /// Writes down what is known of the window of this number.
@@ -445,36 +474,6 @@ impl Instance {
         ensures { self.new ≡ record self.old { progress = slice_set self.old.progress window progress } }
     {
         self.progress[window as usize] = progress;
-    }
-
-    /// The date that is the offset after the date of the event. None where the event is unbound.
-    fn date_from(&self, anchor: Anchor) -> Option<i64>
-        requires not_large { anchor.offset ≤ℤ pos (2 ^ 40) }
-        requires not_small { pos 0 ≤ℤ (anchor.offset +ℤ pos (2 ^ 40)) }
-        ensures { result ≡ option_map (λ x. pos x.date +ℤ anchor.offset) (at self.now.partial anchor.event) }
-    {
-        date_of(&self.links, anchor)
-    }
-
-    /// The dates of the window of this number. None exactly where one of its anchors or variables is
-    /// unbound.
-    #[inline(always)]
-    pub fn stretch(&self, plan: &Plan, window: u8) -> Option<Stretch>
-        requires proper { IsProper plan.now }
-        requires window { window < length plan.now.chronicle.windows }
-        ensures { IsStretchAt plan.now self.now window result }
-    {
-        let window = &plan.chronicle.windows.as_slice()[window as usize];
-        if !body_is_bound(&window.body, &self.known().binding) {
-            return None;
-        }
-        let Some(from) = self.date_from(window.from) else {
-            return None;
-        };
-        let Some(to) = self.date_from(window.to) else {
-            return None;
-        };
-        Some(Stretch { from, to })
     }
 
     /// The number whose bit e, from the least, is set exactly where event e is bound.

@@ -6,5 +6,6 @@ pub mod Kept
 pub mod Members
 pub mod Counted
 pub mod Choosing
+pub mod Carried
 pub mod Scanned
 pub mod Walked

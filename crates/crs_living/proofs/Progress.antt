@@ -32,7 +32,7 @@ use Rattle.crs_model.proofs.Progressing.{progress_up}
 use Rattle.crs_instance.specs.Instances.{InstanceState, IsOf, progress_at}
 use Rattle.crs_instance.specs.Followed.{IsStretchAt}
 use Rattle.crs_living.specs.Windows.{HasAt, Settles, Passes, Begins, IsSameInstance, IsFollowed, IsPassed, IsBegun}
-use Rattle.crs_living.specs.JudgedWindows.{AreStepped, IsJudged, IsNotLostAt}
+use Rattle.crs_living.specs.JudgedWindows.{AreStepped, IsJudged, IsNotLostWith}
 
 count_most : {A : Type 0} (P : A → Type 0) (xs : List A) (n : ℕ) → Count P xs n → n ≤ length xs
 count_most P [] n h = omega (arith, h)
@@ -85,7 +85,7 @@ module _ (plan : Plan) (k : ℕ) (w : Window Sym) (is : slice_get (chronicle pla
     bound_of s o e h b q = subst (λ (t : List (Option Sym)). BodyIsBound (look_of t) w.body) (sym q) (stretch_of s o e h).1
 
   -- the window has begun: it settles, or passes, as its body's progress does
-  module _ (i : InstanceState) (s : Stretch) (o : Option Stretch) (e : o ≡ Some s) (h : IsStretchAt plan i k o) (b : List (Option Sym)) (sb : b ≡ i.binding) (p q : Progress) (sp : p ≡ progress_at i.progress k) where
+  module _ (i : InstanceState) (s : Stretch) (o : Option Stretch) (e : o ≡ Some s) (h : IsStretchAt plan i k o) (b : List (Option Sym)) (sb : b ≡ i.binding) (p q : Progress) where
     module _ (x : Entry Sym) where
       settled_seen : ((settled : List (Entry Sym)) (d : ℕ) → p.count < 2 ^ 32 - 1 → d ≤ x.date → IsProgress settled (look_of b) w.body s.from s.to (pos d) p.count p.broken → IsProgress (settled ++ x ∷ []) (look_of b) w.body s.from s.to (pos d) q.count q.broken)
           → p.count ≤ q.count → Settles plan x i.partial b k p q
@@ -100,8 +100,8 @@ module _ (plan : Plan) (k : ℕ) (w : Window Sym) (is : slice_get (chronicle pla
       )
 
       pub settled_by : ((settled : List (Entry Sym)) (d : ℕ) → p.count < 2 ^ 32 - 1 → d ≤ x.date → IsProgress settled (look_of b) w.body s.from s.to (pos d) p.count p.broken → IsProgress (settled ++ x ∷ []) (look_of b) w.body s.from s.to (pos d) q.count q.broken)
-          → p.count ≤ q.count → Settles plan x i.partial i.binding k (progress_at i.progress k) q
-      settled_by f more = subst (λ (t : Progress). Settles plan x i.partial i.binding k t q) sp (subst (λ (t : List (Option Sym)). Settles plan x i.partial t k p q) sb (settled_seen f more))
+          → p ≡ progress_at i.progress k → p.count ≤ q.count → Settles plan x i.partial i.binding k (progress_at i.progress k) q
+      settled_by f sp more = subst (λ (t : Progress). Settles plan x i.partial i.binding k t q) sp (subst (λ (t : List (Option Sym)). Settles plan x i.partial t k p q) sb (settled_seen f more))
 
     module _ (history : HistoryState) (since n : ℕ) where
       passed_seen : ((settled : List (Entry Sym)) → (pos since ≤ℤ s.from → history.floor ≤ℤ s.from) → since ≤ n → StandsFor settled history → IsProgress settled (look_of b) w.body s.from s.to (pos since) p.count p.broken → IsProgress settled (look_of b) w.body s.from s.to (pos n) q.count q.broken)
@@ -115,8 +115,8 @@ module _ (plan : Plan) (k : ℕ) (w : Window Sym) (is : slice_get (chronicle pla
       )
 
       pub passed_by : ((settled : List (Entry Sym)) → (pos since ≤ℤ s.from → history.floor ≤ℤ s.from) → since ≤ n → StandsFor settled history → IsProgress settled (look_of b) w.body s.from s.to (pos since) p.count p.broken → IsProgress settled (look_of b) w.body s.from s.to (pos n) q.count q.broken)
-          → p.count ≤ q.count → Passes plan history since n i.partial i.binding k (progress_at i.progress k) q
-      passed_by f more = subst (λ (t : Progress). Passes plan history since n i.partial i.binding k t q) sp (subst (λ (t : List (Option Sym)). Passes plan history since n i.partial t k p q) sb (passed_seen f more))
+          → p.count ≤ q.count → Passes plan history since n i.partial i.binding k p q
+      passed_by f more = subst (λ (t : List (Option Sym)). Passes plan history since n i.partial t k p q) sb (passed_seen f more)
 
   -- the window begins
   pub begins_by : (parent fork : InstanceState) (s : Stretch) (o : Option Stretch) → o ≡ Some s → IsStretchAt plan fork k o → (b : List (Option Sym)) → b ≡ fork.binding → (q : Progress) (history : HistoryState) (n : ℕ)
@@ -228,14 +228,14 @@ begun_all n plan history h parent old new s e = record {
 
 -- ---- verdicts
 
-pub judged_waits : (plan : Plan) (h : ℕ) (i : InstanceState) (k : ℕ) (o : Option Stretch) → k < length plan.chronicle.windows → o ≡ None → IsStretchAt plan i k o → IsJudged plan h i k Waiting
-judged_waits plan h i k o l e st =
+pub judged_waits : (plan : Plan) (h : ℕ) (i : InstanceState) (k : ℕ) (p : Progress) (o : Option Stretch) → k < length plan.chronicle.windows → o ≡ None → IsStretchAt plan i k o → IsJudged plan h i k p Waiting
+judged_waits plan h i k p o l e st =
     let w = any_window plan k l in
     let none = of_some (slice_get (chronicle plan).windows k) w.0 _ w.1 (subst (IsStretchAt plan i k) e st) in
     record {
       met = (λ f. absurd (not_met f), λ m. let n = of_some (slice_get (chronicle plan).windows k) w.0 _ w.1 m in absurd (none n.0 n.1 n.2 n.3));
       kept = (
-        λ f. at_place plan k w.0 w.1 (λ w. (from to : ℤ) → IsStretch i.partial w from to → BodyIsBound (look_of i.binding) w.body → IsLostBy w.body to (pos h) (progress_at i.progress k).count (progress_at i.progress k).broken → ⊥) (λ from to s b lost. none from to s b),
+        λ f. at_place plan k w.0 w.1 (λ w. (from to : ℤ) → IsStretch i.partial w from to → BodyIsBound (look_of i.binding) w.body → IsLostBy w.body to (pos h) p.count p.broken → ⊥) (λ from to s b lost. none from to s b),
         λ f e. not_lost e,
       );
     }
@@ -246,39 +246,36 @@ judged_waits plan h i k o l e st =
     not_lost : Waiting ≡ Lost → ⊥
     not_lost f = cc
 
-pub judged_by : (plan : Plan) (h : ℕ) (i : InstanceState) (k : ℕ) (w : Window Sym) → slice_get (chronicle plan).windows k ≡ Some w → (s : Stretch) (o : Option Stretch) → o ≡ Some s → IsStretchAt plan i k o → (p : Progress) → p ≡ progress_at i.progress k → (v : Verdict)
-    → IsToldBy v w.body s.to (pos h) p.count p.broken → IsJudged plan h i k v
-judged_by plan h i k w is s o e st p sp v told =
+pub judged_by : (plan : Plan) (h : ℕ) (i : InstanceState) (k : ℕ) (w : Window Sym) → slice_get (chronicle plan).windows k ≡ Some w → (s : Stretch) (o : Option Stretch) → o ≡ Some s → IsStretchAt plan i k o → (p : Progress) (v : Verdict)
+    → IsToldBy v w.body s.to (pos h) p.count p.broken → IsJudged plan h i k p v
+judged_by plan h i k w is s o e st p v told =
     let at = stretch_of plan k w is i s o e st in
-    let q = progress_at i.progress k in
-    let told_of : IsToldBy v w.body s.to (pos h) q.count q.broken = subst (λ (t : Progress). IsToldBy v w.body s.to (pos h) t.count t.broken) sp told in
     record {
       met = (
-        λ f. at_place plan k w is (λ w. (from : ℤ) × (to : ℤ) × IsStretch i.partial w from to × BodyIsBound (look_of i.binding) w.body × IsMetBy w.body to (pos h) q.count q.broken) (s.from, s.to, at.0, at.1, told_of.met.0 f),
+        λ f. at_place plan k w is (λ w. (from : ℤ) × (to : ℤ) × IsStretch i.partial w from to × BodyIsBound (look_of i.binding) w.body × IsMetBy w.body to (pos h) p.count p.broken) (s.from, s.to, at.0, at.1, told.met.0 f),
         λ m.
             let n = of_some (slice_get (chronicle plan).windows k) w _ is m in
             let same = same_stretch i.partial i.partial w s.from s.to n.0 n.1 (λ f x j. j) at.0 n.2 in
-            told_of.met.1 (subst (λ (z : ℤ). IsMetBy w.body z (pos h) q.count q.broken) (sym same.1) n.4),
+            told.met.1 (subst (λ (z : ℤ). IsMetBy w.body z (pos h) p.count p.broken) (sym same.1) n.4),
       );
       kept = (
-        λ f. at_place plan k w is (λ w. (from to : ℤ) → IsStretch i.partial w from to → BodyIsBound (look_of i.binding) w.body → IsLostBy w.body to (pos h) q.count q.broken → ⊥) (λ from to t b lost.
+        λ f. at_place plan k w is (λ w. (from to : ℤ) → IsStretch i.partial w from to → BodyIsBound (look_of i.binding) w.body → IsLostBy w.body to (pos h) p.count p.broken → ⊥) (λ from to t b lost.
             let same = same_stretch i.partial i.partial w s.from s.to from to (λ f x j. j) at.0 t in
-            f (told_of.lost.1 (subst (λ (z : ℤ). IsLostBy w.body z (pos h) q.count q.broken) (sym same.1) lost))),
-        λ none f. of_some (slice_get (chronicle plan).windows k) w _ is none s.from s.to at.0 at.1 (told_of.lost.0 f),
+            f (told.lost.1 (subst (λ (z : ℤ). IsLostBy w.body z (pos h) p.count p.broken) (sym same.1) lost))),
+        λ none f. of_some (slice_get (chronicle plan).windows k) w _ is none s.from s.to at.0 at.1 (told.lost.0 f),
       );
     }
 
 -- a window that is safe as its progress tells isn't lost
-pub not_lost_safely : (plan : Plan) (h : ℕ) (i : InstanceState) (k : ℕ) (w : Window Sym) → slice_get (chronicle plan).windows k ≡ Some w → (p : Progress) → p ≡ progress_at i.progress k → ((to g : ℤ) → IsLostBy w.body to g p.count p.broken → ⊥) → IsNotLostAt plan h i k
-not_lost_safely plan h i k w is p same safe =
-    subst (λ (o : Option (Window Sym)). IfSome o (λ v. (from to : ℤ) → IsStretch i.partial v from to → BodyIsBound (look_of i.binding) v.body → IsLostBy v.body to (pos h) (progress_at i.progress k).count (progress_at i.progress k).broken → ⊥)) (sym is)
-    (λ from to stretch bound lost. safe to (pos h) (subst (λ (q : Progress). IsLostBy w.body to (pos h) q.count q.broken) (sym same) lost))
+pub not_lost_safely : (plan : Plan) (h : ℕ) (i : InstanceState) (k : ℕ) (w : Window Sym) → slice_get (chronicle plan).windows k ≡ Some w → (p : Progress) → ((to g : ℤ) → IsLostBy w.body to g p.count p.broken → ⊥) → IsNotLostWith plan h i k p
+not_lost_safely plan h i k w is p safe =
+    subst (λ (o : Option (Window Sym)). IfSome o (λ v. (from to : ℤ) → IsStretch i.partial v from to → BodyIsBound (look_of i.binding) v.body → IsLostBy v.body to (pos h) p.count p.broken → ⊥)) (sym is)
+    (λ from to stretch bound lost. safe to (pos h) lost)
 
 -- dates pass, and nothing of what is known of the window hangs on them
-pub passed_dateless : (plan : Plan) (k : ℕ) (w : Window Sym) → slice_get (chronicle plan).windows k ≡ Some w → HangsOnNoDate w.body → (i : InstanceState) (q : Progress) → q ≡ progress_at i.progress k → (history : HistoryState) (since h : ℕ) → Passes plan history since h i.partial i.binding k (progress_at i.progress k) q
-passed_dateless plan k w is dateless i q same history since h = (
+pub passed_dateless : (plan : Plan) (k : ℕ) (w : Window Sym) → slice_get (chronicle plan).windows k ≡ Some w → HangsOnNoDate w.body → (i : InstanceState) (q : Progress) (history : HistoryState) (since h : ℕ) → Passes plan history since h i.partial i.binding k q q
+passed_dateless plan k w is dateless i q history since h = (
   λ entries up kept low has. subst (λ (o : Option (Window Sym)). IfSome o (λ v. (from to : ℤ) → IsStretch i.partial v from to → BodyIsBound (look_of i.binding) v.body → IsProgress entries (look_of i.binding) v.body from to (pos h) q.count q.broken)) (sym is)
-      (λ from to stretch bound. subst (λ (r : Progress). IsProgress entries (look_of i.binding) w.body from to (pos h) r.count r.broken) (sym same)
-      (dateless entries (look_of i.binding) from to (pos since) (pos h) (progress_at i.progress k).count (progress_at i.progress k).broken (of_some (slice_get (chronicle plan).windows k) w _ is has from to stretch bound))),
-  same_count (progress_at i.progress k) q same,
+      (λ from to stretch bound. dateless entries (look_of i.binding) from to (pos since) (pos h) q.count q.broken (of_some (slice_get (chronicle plan).windows k) w _ is has from to stretch bound)),
+  same_count q q refl,
 )

@@ -429,6 +429,19 @@ pub none_above : (plan : Plan) (focus : Bool) (a : Partial Sym) (l m : ℕ) → 
 none_above plan true a l m above flat = cc
 none_above plan false a l m above flat = let c = above.current in let s = c.2 in let u = above.above in omega (arith, s)
 
+some_unbound : (a : Partial Sym) → ((f : ℕ) × (f < length a) × (at a f ≡ None)) ⊎ ((f : ℕ) → f < length a → at a f ≡ None → ⊥)
+some_unbound [] = inr (λ f l n. absurd (omega (arith, l)))
+some_unbound (None ∷ a) = inl (0, omega arith, refl)
+some_unbound (Some x ∷ a) = elim (some_unbound a) [ inl u ↦ inl (suc u.0, omega (arith, u.1), u.2) | inr none ↦ inr (λ f l n. not_here none f l n) ]
+  where
+    not_here : ((f : ℕ) → f < length a → at a f ≡ None → ⊥) → (f : ℕ) → f < suc (length a) → at (Some x ∷ a) f ≡ None → ⊥
+    not_here none ℕ.zero l n = cc
+    not_here none (suc f) l n = none f (omega (arith, l)) n
+
+pub flat_ends : (plan : Plan) (focus : Bool) (a : Partial Sym) (l : ℕ) → focus ≡ false → IsNoLevelAbove (levels_in plan focus) a l
+flat_ends plan true a l flat = cc
+flat_ends plan false a l flat = elim (some_unbound a) [ inl u ↦ inl (u.0, record { within = u.1; unbound = u.2; least = λ g m n. omega arith }, omega arith) | inr none ↦ inr none ]
+
 -- ---- where it starts
 
 module _ (plan : Plan) (focus : Bool) (history : HistoryState) (x : Entry Sym) (since until : ℕ) (i : InstanceState) (e : ℕ) where

@@ -2,6 +2,7 @@ pub mod Ahead
 pub mod Parts
 pub mod Windows
 pub mod JudgedWindows
+pub mod Carried
 pub mod Done
 pub mod Judgings
 pub mod Slots

@@ -81,10 +81,14 @@ pub record IsBegun (plan : Plan) (history : HistoryState) (h : ℕ) (parent old 
 abbrev pub IsAble : Plan → Bool → ℕ → InstanceState → Type 0
 IsAble plan focus h i = CanGoOn (chronicle plan) (levels_in plan focus) i.partial h × NoneLostBy (chronicle plan) (look_of i.binding) i.partial h (λ k. (progress_at i.progress k).count) (λ k. (progress_at i.progress k).broken)
 
--- the window has begun, and is met at h as its progress tells
+-- the window has begun, and is met at h as this progress tells
+abbrev pub IsMetWith : Plan → ℕ → InstanceState → ℕ → Progress → Type 0
+IsMetWith plan h i k p =
+    IfSome (slice_get (chronicle plan).windows k) (λ w. (from : ℤ) × (to : ℤ) × IsStretch i.partial w from to × BodyIsBound (look_of i.binding) w.body × IsMetBy w.body to (pos h) p.count p.broken)
+
+-- as its own tells
 abbrev pub IsMetAt : Plan → ℕ → InstanceState → ℕ → Type 0
-IsMetAt plan h i k =
-    IfSome (slice_get (chronicle plan).windows k) (λ w. (from : ℤ) × (to : ℤ) × IsStretch i.partial w from to × BodyIsBound (look_of i.binding) w.body × IsMetBy w.body to (pos h) (progress_at i.progress k).count (progress_at i.progress k).broken)
+IsMetAt plan h i k = IsMetWith plan h i k (progress_at i.progress k)
 
 -- its entries are of the pool, it is level-closed, and it has the progress of its windows at n over the entries
 pub record IsOver (plan : Plan) (focus : Bool) (pool entries : List (Entry Sym)) (n : ℕ) (i : InstanceState) : Type 0 where

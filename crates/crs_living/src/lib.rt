@@ -9,7 +9,7 @@ mod slots;
 mod walking;
 mod windows;
 
-pub use deciding::{Scan, decide};
+pub use deciding::{Scan, decide, keep_fork};
 pub use hope::is_hopeful;
 pub use judging::{Judging, Passing};
 pub use slots::Slots;

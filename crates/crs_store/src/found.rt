@@ -5,17 +5,18 @@ ghost use Rattle.crs_store.specs.Found.{FindsOne, numbered};
 ghost use Rattle.crs_living.specs.Done.{is_whole};
 
 use crate::moment::Horizon;
-use crs_instance::Instance;
-use crs_model::{Mark, Recognition};
+use crs_instance::{Dated, Instance};
+use crs_model::{Mark, Progress, Recognition};
 use std::alloc::AllocError;
 use std::mem;
 
 /// What comes of instances by an entry: those that stay open, and, behind what was found since the last
-/// mark, the recognitions of those that are done.
+/// mark, the recognitions of those that are done. The list of progress is lent to what judges windows.
 #[derive(Drop)]
 pub(crate) struct Born {
     pub(crate) instances: Vec<Instance>,
     pub(crate) found: Vec<Recognition>,
+    pub(crate) progress: Vec<Progress>,
 }
 
 /// Adds the recognition of a whole instance. It gets its number and its mark when it is answered. Kept

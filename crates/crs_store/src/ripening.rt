@@ -6,7 +6,7 @@ ghost use Rattle.crs_store.specs.Answers.{IsRecognitionIfDone, AreFound};
 ghost use Rattle.crs_living.specs.Slots.{slot_at, members};
 ghost use Rattle.crs_store.specs.Ripenings.{AreLeft, IsRecognitionAt, TakesAt};
 
-use crs_instance::Instance;
+use crs_instance::{Dated, Instance};
 use crs_living::{Judging, Slots, is_done};
 use crs_model::{Mark, Recognition};
 use std::alloc::{AllocError, Global};

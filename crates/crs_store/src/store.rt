@@ -382,7 +382,11 @@ impl Store {
             date: 0,
             stopped: false,
             places: Vec::new(alloc),
-            born: Born { instances, found },
+            born: Born {
+                instances,
+                found,
+                progress: Vec::new(alloc),
+            },
             alloc,
         })
     }

@@ -8,7 +8,7 @@ use crate::chart::Chart;
 use crate::places::note_place;
 use crs_agenda::{Calendar, Handle};
 use crs_focus::{is_awaited, last_date};
-use crs_instance::Instance;
+use crs_instance::{Instance, stretch_of};
 use crs_model::{Body, Stretch};
 use std::alloc::AllocError;
 
@@ -126,7 +126,7 @@ fn put_window_dues(
     ensures stood { calendar.new.date ≡ calendar.old.date }
 {
     let plan = chart.plan();
-    let Some(stretch) = instance.stretch(plan, k) else {
+    let Some(stretch) = stretch_of(instance, plan, k) else {
         return Ok(last);
     };
     let window = &plan.chronicle.windows.as_slice()[k as usize];

@@ -13,7 +13,7 @@ use crate::hooks::key_of_binding;
 use crs_agenda::Handle;
 use crs_focus::is_awaited;
 use crs_index::{Index, Key};
-use crs_instance::Instance;
+use crs_instance::{Dated, Instance, stretch_of};
 use crs_model::{Body, DateWindow};
 use std::alloc::AllocError;
 
@@ -152,7 +152,7 @@ fn arm_window(
     ensures armed { OnOk result (IsArmedAt chart.now.plan (hook_at chart.now.hooks.windows.items k) waiting.new handle since h instance.now k) }
 {
     let plan = chart.plan();
-    let Some(stretch) = instance.stretch(plan, k) else {
+    let Some(stretch) = stretch_of(instance, plan, k) else {
         return Ok(());
     };
     if is_by(stretch.to, h) {

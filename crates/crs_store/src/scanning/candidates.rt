@@ -1,12 +1,13 @@
 //! The forks of the instances that may come of an entry.
-ghost use Rattle.std.specs.Prelude.{◌≡◌, ◌⊎◌, ◌+◌, ◌*◌, ◌<◌, ◌≤◌, ◌^◌, [], length, None, true, false, OnOk};
+ghost use Rattle.std.specs.Prelude.{◌≡◌, ◌⊎◌, ◌+◌, ◌*◌, ◌<◌, ◌≤◌, ◌^◌, [], length, None, Some, true, false, OnOk};
 ghost use Rattle.std.specs.List.Sorted.{IsStrictlySortedBy};
 ghost use Rattle.std.specs.Ordering.{nat_cmp};
 ghost use Rattle.crs_base.specs.Seen.{entry_of};
 ghost use Rattle.crs_base.specs.Words.{IsIn};
 ghost use Rattle.crs_index.specs.Indexes.{bucket_of};
-ghost use Rattle.crs_instance.specs.Instances.{IsOf};
-ghost use Rattle.crs_model.specs.Partial.{at, put};
+ghost use Rattle.crs_instance.specs.Instances.{IsOf, IsForked};
+ghost use Rattle.crs_focus.specs.PlanLevels.{levels_in};
+ghost use Rattle.crs_model.specs.Partial.{at, put, IsAwaited};
 ghost use Rattle.crs_model.specs.Plans.{IsProper};
 ghost use Rattle.crs_store.specs.Births.{Brings, FindsFork};
 ghost use Rattle.crs_store.specs.Forkings.{HaveWindow, NoneWait, IsNoted, AreCandidates, AreCandidatesOf, KeepsStanding, AreLinkedAt, HasAll, AreSought, AreForksBut, AreForksOfPlaces, AreForksOfEvent, AreForksOfAll};
@@ -26,8 +27,8 @@ use crate::scanning::agreeing::{agree, takes};
 use crs_base::{Entry, Steps};
 use crs_focus::{is_awaited, level_of};
 use crs_index::{Index, Key};
-use crs_instance::Instance;
-use crs_living::{Scan, Slots, decide};
+use crs_instance::{Dated, Fork, Instance};
+use crs_living::{Scan, Slots, decide, keep_fork};
 use crs_model::{Binding, Mark, Plan, Recognition};
 use crs_waiting::{
     Hook, Symbols, argument_in, is_held_back, is_lone, key_of_first, key_of_symbols, note_place,
@@ -90,10 +91,47 @@ fn push_done<L: Ledger>(
     Ok(())
 }
 
+/// Adds what comes of what the instance becomes: itself, or, where levels are read and the entry completes
+/// one, what is made of it by the entries that are there.
+fn push_fork<L: Ledger>(
+    arrival: &Arrival<'_>,
+    instance: &Instance,
+    fork: Fork<'_>,
+    event: u8,
+    steps: &mut Steps<L>,
+    out: &mut Born,
+) -> Result<(), AllocError>
+    requires arrival { IsArrival arrival.now }
+    requires of { IsOf arrival.now.plan.now instance.now }
+    requires event { event < length arrival.now.plan.now.chronicle.events }
+    requires awaited { IsAwaited (levels_in arrival.now.plan.now arrival.now.focus) instance.now.partial event }
+    requires forked { IsForked arrival.now.plan.now instance.now event (entry_of arrival.now.entry.now.value) (Some fork) }
+    ensures forks { OnOk result (Brings arrival.now.plan.now arrival.now.focus arrival.now.finds arrival.now.until (AreForksAt arrival.now.plan.now arrival.now.focus arrival.now.history.now (entry_of arrival.now.entry.now.value) arrival.now.since arrival.now.until instance.now event) out.old.instances.items out.new.instances.items out.old.found.items out.new.found.items) }
+    ensures cost { arrival.now.focus ≡ false → steps.new ≡ steps.old }
+{
+    let scan = Scan {
+        alloc: arrival.alloc,
+        plan: arrival.plan,
+        focus: arrival.focus,
+        parent: instance,
+        history: arrival.history,
+        entry: arrival.entry,
+        since: arrival.since,
+        until: arrival.until,
+    };
+    if !arrival.focus {
+        return keep_fork(&scan, fork, &mut out.progress, &mut out.instances);
+    }
+    let next = fork.make(instance.all_progress())?;
+    let level = level_of(arrival.plan, event, arrival.focus);
+    let todo = Vec::new(arrival.alloc);
+    decide(&scan, next, level, todo, steps, &mut out.instances)
+}
+
 /// Adds what comes of the instance where the event is bound to the entry: a copy with the event bound
 /// too, or, where that completes a level, what is made of it by the entries that are there. Each of
 /// them can be and can go on at the date `until`, and no window of theirs is lost then.
-/// It takes memory only where the event's pattern fits the entry.
+/// It takes memory only for what is added, and where levels are read where the pattern fits the entry.
 fn push_open_forks<L: Ledger>(
     arrival: &Arrival<'_>,
     instance: &Instance,
@@ -122,22 +160,10 @@ fn push_open_forks<L: Ledger>(
     ) {
         return Ok(());
     }
-    let Some(next) = instance.fork(arrival.plan, event, arrival.entry, steps)? else {
-        return Ok(());
-    };
-    let level = level_of(arrival.plan, event, arrival.focus);
-    let todo = Vec::new(arrival.alloc);
-    let scan = Scan {
-        alloc: arrival.alloc,
-        plan: arrival.plan,
-        focus: arrival.focus,
-        parent: instance,
-        history: arrival.history,
-        entry: arrival.entry,
-        since: arrival.since,
-        until: arrival.until,
-    };
-    decide(&scan, next, level, todo, steps, &mut out.instances)
+    match instance.fork(arrival.plan, event, arrival.entry, steps) {
+        None => Ok(()),
+        Some(fork) => push_fork(arrival, instance, fork, event, steps, out),
+    }
 }
 
 /// An event, and what an instance has to leave to it that is to have an entry: its date, and the symbols

@@ -16,6 +16,7 @@ use Rattle.crs_history.specs.Histories.{IsKept}
 use Rattle.crs_instance.specs.Instances.{InstanceState, IsForked}
 use Rattle.crs_focus.specs.PlanLevels.{levels_in, AreToDecide, AreAwaited, IsLevelAbove, IsNoLevelAbove}
 use Rattle.crs_living.specs.Scannings.{Adds, IsKeptIfAble, IsDecided, IsDecidedAt, AreDecidedWith}
+use Rattle.crs_instance.proofs.Forks.{made_of}
 use Rattle.crs_living.proofs.Scanned.{adds_none, adds_as, adds_both, none_above, last_awaited, rest_to_decide, bound_to_decide, unbound_with, bound_with, none_with, more_with, enough_at, decided_both, never_decided, ended, gone_up, to_decide, fresh_next, told_as}
 use Rattle.crs_living.proofs.deciding.+deciding.Goals as goal
 
@@ -194,8 +195,8 @@ decide_with-fork-requires-clause-unbound g t c = (last_awaited (levels_in c.args
 
 pub decide_with-returns-in_default : goal.decide_with-returns-in_default
 decide_with-returns-in_default g t c =
-    let is : c.in_ok-fork.field-0 ≡ None = search rules in
-    let none : IsForked c.args.scan.now.plan.now c.args.next.now c.args.choice.now.event (entry_of c.args.candidate.now.value) None = subst (λ (o : Option InstanceState). IsForked c.args.scan.now.plan.now c.args.next.now c.args.choice.now.event (entry_of c.args.candidate.now.value) o) is ((c.in_ok-fork.ensures {u = tt}).fork) in
+    let is : c.fork.result ≡ None = search rules in
+    let none : IsForked c.args.scan.now.plan.now c.args.next.now c.args.choice.now.event (entry_of c.args.candidate.now.value) None = subst (λ (o : Option InstanceState). IsForked c.args.scan.now.plan.now c.args.next.now c.args.choice.now.event (entry_of c.args.candidate.now.value) o) is (c.fork.ensures.fork) in
     record {
       decided = adds_none c.args.scan.now.plan.now c.args.scan.now.focus c.args.scan.now.until (AreDecidedWith c.args.scan.now.plan.now c.args.scan.now.focus c.args.scan.now.history.now (entry_of c.args.scan.now.entry.now) c.args.scan.now.since c.args.scan.now.until c.args.scan.now.parent.now c.args.next.now c.args.choice.now.level c.args.choice.now.rest.now.items c.args.choice.now.event (entry_of c.args.candidate.now.value ∷ [])) c.args.out.now.items
           (unbound_with c.args.scan.now.plan.now c.args.scan.now.focus c.requires.scan.proper c.args.scan.now.history.now (entry_of c.args.scan.now.entry.now) c.args.scan.now.since c.args.scan.now.until c.args.scan.now.parent.now c.args.next.now c.args.choice.now.level c.args.choice.now.rest.now.items c.args.choice.now.event c.requires.next c.requires.todo (entry_of c.args.candidate.now.value) none);
@@ -203,23 +204,27 @@ decide_with-returns-in_default g t c =
 
 pub decide_with-decide-requires : goal.decide_with-decide-requires
 decide_with-decide-requires g t c = λ κs le.
-    let is : c.in_ok-fork.field-0 ≡ Some c.in-Some.fork = search rules in
-    let some : IsForked c.args.scan.now.plan.now c.args.next.now c.args.choice.now.event (entry_of c.args.candidate.now.value) (Some c.in-Some.fork) = subst (λ (o : Option InstanceState). IsForked c.args.scan.now.plan.now c.args.next.now c.args.choice.now.event (entry_of c.args.candidate.now.value) o) is ((c.in_ok-fork.ensures {u = tt}).fork) in
+    let is : c.fork.result ≡ Some c.in-Some.fork = search rules in
+    let some : IsForked c.args.scan.now.plan.now c.args.next.now c.args.choice.now.event (entry_of c.args.candidate.now.value) (Some c.in-Some.fork) = subst (λ (o : Option InstanceState). IsForked c.args.scan.now.plan.now c.args.next.now c.args.choice.now.event (entry_of c.args.candidate.now.value) o) is (c.fork.ensures.fork) in
+    let progress : c.in_ok-bound.bound ≡ record c.in-Some.fork { progress = c.all_progress.result.now } = c.in_ok-bound.ensures {u = tt} in
+    let made : IsForked c.args.scan.now.plan.now c.args.next.now c.args.choice.now.event (entry_of c.args.candidate.now.value) (Some c.in_ok-bound.bound) = made_of c.args.scan.now.plan.now c.args.next.now c.args.choice.now.event (entry_of c.args.candidate.now.value) c.in-Some.fork c.in_ok-bound.bound c.all_progress.result.now progress c.all_progress.ensures some in
     let items : c.in_ok-todo.todo.items ≡ c.args.choice.now.rest.now.items = search rules in
-    let todo : AreToDecide (levels_in c.args.scan.now.plan.now c.args.scan.now.focus) c.in-Some.fork.partial c.args.choice.now.level c.in_ok-todo.todo.items = subst (AreToDecide (levels_in c.args.scan.now.plan.now c.args.scan.now.focus) c.in-Some.fork.partial c.args.choice.now.level) (sym items) (bound_to_decide (levels_in c.args.scan.now.plan.now c.args.scan.now.focus) c.args.next.now.partial c.args.choice.now.level c.args.choice.now.rest.now.items c.args.choice.now.event c.requires.todo c.in-Some.fork.partial (entry_of c.args.candidate.now.value) some.1) in
+    let todo : AreToDecide (levels_in c.args.scan.now.plan.now c.args.scan.now.focus) c.in_ok-bound.bound.partial c.args.choice.now.level c.in_ok-todo.todo.items = subst (AreToDecide (levels_in c.args.scan.now.plan.now c.args.scan.now.focus) c.in_ok-bound.bound.partial c.args.choice.now.level) (sym items) (bound_to_decide (levels_in c.args.scan.now.plan.now c.args.scan.now.focus) c.args.next.now.partial c.args.choice.now.level c.args.choice.now.rest.now.items c.args.choice.now.event c.requires.todo c.in_ok-bound.bound.partial (entry_of c.args.candidate.now.value) made.1) in
     let fewer : 4 * ((256 - c.args.choice.now.level) * 17 + length c.in_ok-todo.todo.items) + 1 < t = omega (arith, c.decreases, ap length items) in
-    (fewer, (le, (c.requires.scan, (some.0, (todo, λ flat. absurd (no_both c.args.scan.now.focus c.requires.read flat))))))
+    (fewer, (le, (c.requires.scan, (made.0, (todo, λ flat. absurd (no_both c.args.scan.now.focus c.requires.read flat))))))
 
 pub decide_with-returns : goal.decide_with-returns
 decide_with-returns g t c =
-    let is : c.in_ok-fork.field-0 ≡ Some c.in-Some.fork = search rules in
-    let some : IsForked c.args.scan.now.plan.now c.args.next.now c.args.choice.now.event (entry_of c.args.candidate.now.value) (Some c.in-Some.fork) = subst (λ (o : Option InstanceState). IsForked c.args.scan.now.plan.now c.args.next.now c.args.choice.now.event (entry_of c.args.candidate.now.value) o) is ((c.in_ok-fork.ensures {u = tt}).fork) in
+    let is : c.fork.result ≡ Some c.in-Some.fork = search rules in
+    let some : IsForked c.args.scan.now.plan.now c.args.next.now c.args.choice.now.event (entry_of c.args.candidate.now.value) (Some c.in-Some.fork) = subst (λ (o : Option InstanceState). IsForked c.args.scan.now.plan.now c.args.next.now c.args.choice.now.event (entry_of c.args.candidate.now.value) o) is (c.fork.ensures.fork) in
+    let progress : c.in_ok-bound.bound ≡ record c.in-Some.fork { progress = c.all_progress.result.now } = c.in_ok-bound.ensures {u = tt} in
+    let made : IsForked c.args.scan.now.plan.now c.args.next.now c.args.choice.now.event (entry_of c.args.candidate.now.value) (Some c.in_ok-bound.bound) = made_of c.args.scan.now.plan.now c.args.next.now c.args.choice.now.event (entry_of c.args.candidate.now.value) c.in-Some.fork c.in_ok-bound.bound c.all_progress.result.now progress c.all_progress.ensures some in
     let items : c.in_ok-todo.todo.items ≡ c.args.choice.now.rest.now.items = search rules in
     record {
       decided = on_ok_weaker c.decide.result
-          (adds_as c.args.scan.now.plan.now c.args.scan.now.focus c.args.scan.now.until (IsDecided c.args.scan.now.plan.now c.args.scan.now.focus c.args.scan.now.history.now (entry_of c.args.scan.now.entry.now) c.args.scan.now.since c.args.scan.now.until c.args.scan.now.parent.now c.in-Some.fork c.args.choice.now.level c.in_ok-todo.todo.items) (AreDecidedWith c.args.scan.now.plan.now c.args.scan.now.focus c.args.scan.now.history.now (entry_of c.args.scan.now.entry.now) c.args.scan.now.since c.args.scan.now.until c.args.scan.now.parent.now c.args.next.now c.args.choice.now.level c.args.choice.now.rest.now.items c.args.choice.now.event (entry_of c.args.candidate.now.value ∷ [])) c.args.out.now.items c.decide.new.out.items
-          (λ more decided. bound_with c.args.scan.now.plan.now c.args.scan.now.focus c.requires.scan.proper c.args.scan.now.history.now (entry_of c.args.scan.now.entry.now) c.args.scan.now.since c.args.scan.now.until c.args.scan.now.parent.now c.args.next.now c.args.choice.now.level c.args.choice.now.rest.now.items c.args.choice.now.event c.requires.next c.requires.todo (entry_of c.args.candidate.now.value) c.in-Some.fork more
-          (λ pool entries now. now.inside (entry_of c.args.candidate.now.value) ((sifted_in (IsKept entries c.args.scan.now.history.now.floor) entries c.args.scan.now.history.now.entries (entry_of c.args.candidate.now.value) now.read.kept c.requires.held).0)) some.1
-          (subst (λ (ts : List ℕ). IsDecided c.args.scan.now.plan.now c.args.scan.now.focus c.args.scan.now.history.now (entry_of c.args.scan.now.entry.now) c.args.scan.now.since c.args.scan.now.until c.args.scan.now.parent.now c.in-Some.fork c.args.choice.now.level ts more) items decided)))
+          (adds_as c.args.scan.now.plan.now c.args.scan.now.focus c.args.scan.now.until (IsDecided c.args.scan.now.plan.now c.args.scan.now.focus c.args.scan.now.history.now (entry_of c.args.scan.now.entry.now) c.args.scan.now.since c.args.scan.now.until c.args.scan.now.parent.now c.in_ok-bound.bound c.args.choice.now.level c.in_ok-todo.todo.items) (AreDecidedWith c.args.scan.now.plan.now c.args.scan.now.focus c.args.scan.now.history.now (entry_of c.args.scan.now.entry.now) c.args.scan.now.since c.args.scan.now.until c.args.scan.now.parent.now c.args.next.now c.args.choice.now.level c.args.choice.now.rest.now.items c.args.choice.now.event (entry_of c.args.candidate.now.value ∷ [])) c.args.out.now.items c.decide.new.out.items
+          (λ more decided. bound_with c.args.scan.now.plan.now c.args.scan.now.focus c.requires.scan.proper c.args.scan.now.history.now (entry_of c.args.scan.now.entry.now) c.args.scan.now.since c.args.scan.now.until c.args.scan.now.parent.now c.args.next.now c.args.choice.now.level c.args.choice.now.rest.now.items c.args.choice.now.event c.requires.next c.requires.todo (entry_of c.args.candidate.now.value) c.in_ok-bound.bound more
+          (λ pool entries now. now.inside (entry_of c.args.candidate.now.value) ((sifted_in (IsKept entries c.args.scan.now.history.now.floor) entries c.args.scan.now.history.now.entries (entry_of c.args.candidate.now.value) now.read.kept c.requires.held).0)) made.1
+          (subst (λ (ts : List ℕ). IsDecided c.args.scan.now.plan.now c.args.scan.now.focus c.args.scan.now.history.now (entry_of c.args.scan.now.entry.now) c.args.scan.now.since c.args.scan.now.until c.args.scan.now.parent.now c.in_ok-bound.bound c.args.choice.now.level ts more) items decided)))
           c.decide.ensures.decided;
     }

@@ -1,40 +1,22 @@
-use Rattle.std.proofs.Common.{rules, ◌≡◌, ◌<◌, subst, arith}
+use Rattle.std.proofs.Common.{rules, refl, ◌≡◌, ◌<◌, subst, arith}
 use Rattle.std.specs.Prelude.{ℤ, ◌≤ℤ◌, Some, slice_get}
 use Rattle.std.proofs.lemmas.Int.{to_z_pos}
 use mir.Syntax.{w64}
 use Rattle.crs_model.specs.Plans.{chronicle}
 use Rattle.crs_model.specs.SeenModels.{window_of}
+use Rattle.crs_instance.specs.Followed.{IsStretchAt}
 use Rattle.crs_instance.proofs.Stretches.{window_as}
 use Rattle.crs_living.proofs.Progress.{holds_one, bound_of, passed_by, passed_dateless, same_count, unbegun}
 use Rattle.crs_living.proofs.windows.passed.Goals as goal
 
 pub returns-then-not-hangs_on_dates : goal.returns-then-not-hangs_on_dates
-returns-then-not-hangs_on_dates c =
+returns-then-not-hangs_on_dates g c =
     let d = c.index-as_slice-k.result in
     let is : slice_get (chronicle c.args.passing.now.judging.plan.now).windows c.args.k ≡ Some (window_of d) = window_as c.as_slice.result.now c.args.passing.now.judging.plan.now.chronicle.windows c.args.k d c.as_slice.ensures c.requires.window c.index-as_slice-k.is in
-    passed_dateless c.args.passing.now.judging.plan.now c.args.k (window_of d) is (c.hangs_on_dates.ensures c.if-not-hangs_on_dates.true) c.args.instance.now c.progress.result c.progress.ensures c.args.passing.now.history.now c.args.passing.now.since c.args.passing.now.judging.h
+    passed_dateless c.args.passing.now.judging.plan.now c.args.k (window_of d) is (c.hangs_on_dates.ensures c.if-not-hangs_on_dates.true) (g.D.Dated.seen c.args.dated.now) c.args.progress c.args.passing.now.history.now c.args.passing.now.since c.args.passing.now.judging.h
 
-pub returns-in_default : goal.returns-in_default
-returns-in_default c = (λ entries up kept low has. unbegun c.args.passing.now.judging.plan.now c.args.k c.args.instance.now c.stretch.result (search rules) c.stretch.ensures _ c.args.passing.now.judging.h c.progress-in_default.result, same_count _ c.progress-in_default.result c.progress-in_default.ensures)
+pub returns-in-None : goal.returns-in-None
+returns-in-None g c = (λ entries up kept low has. unbegun c.args.passing.now.judging.plan.now c.args.k (g.D.Dated.seen c.args.dated.now) c.stretch_of.result c.in-None.is c.stretch_of.ensures _ c.args.passing.now.judging.h c.args.progress, same_count c.args.progress c.args.progress refl)
 
-pub pass-requires-clause-bound : goal.pass-requires-clause-bound
-pass-requires-clause-bound c =
-    let d = c.index-as_slice-k.result in
-    let is : slice_get (chronicle c.args.passing.now.judging.plan.now).windows c.args.k ≡ Some (window_of d) = window_as c.as_slice.result.now c.args.passing.now.judging.plan.now.chronicle.windows c.args.k d c.as_slice.ensures c.requires.window c.index-as_slice-k.is in
-    bound_of c.args.passing.now.judging.plan.now c.args.k (window_of d) is c.args.instance.now c.in-Some.stretch c.stretch.result c.in-Some.is c.stretch.ensures c.binding.result.now c.binding.ensures
-
-pub pass-requires-clause-one : goal.pass-requires-clause-one
-pass-requires-clause-one c =
-    let d = c.index-as_slice-k.result in
-    let is : slice_get (chronicle c.args.passing.now.judging.plan.now).windows c.args.k ≡ Some (window_of d) = window_as c.as_slice.result.now c.args.passing.now.judging.plan.now.chronicle.windows c.args.k d c.as_slice.ensures c.requires.window c.index-as_slice-k.is in
-    holds_one c.args.passing.now.judging.plan.now c.args.k (window_of d) is c.requires.passing.judging.proper
-
-pub returns : goal.returns
-returns c =
-    let d = c.index-as_slice-k.result in
-    let is : slice_get (chronicle c.args.passing.now.judging.plan.now).windows c.args.k ≡ Some (window_of d) = window_as c.as_slice.result.now c.args.passing.now.judging.plan.now.chronicle.windows c.args.k d c.as_slice.ensures c.requires.window c.index-as_slice-k.is in
-    let small : c.args.passing.now.judging.h < 9223372036854775808 = let l = c.requires.passing.judging.small in omega arith in
-    let small_since : c.args.passing.now.since < 9223372036854775808 = let l = c.requires.passing.since in omega arith in
-    passed_by c.args.passing.now.judging.plan.now c.args.k (window_of d) is c.args.instance.now c.in-Some.stretch c.stretch.result c.in-Some.is c.stretch.ensures c.binding.result.now c.binding.ensures c.progress-2.result c.pass.result c.progress-2.ensures c.args.passing.now.history.now c.args.passing.now.since c.args.passing.now.judging.h
-    (λ settled low up kept p.
-    c.pass.ensures.progress (λ l. low (subst (λ (z : ℤ). z ≤ℤ c.in-Some.stretch.from) (to_z_pos w64 c.args.passing.now.since small_since) l)) settled c.args.passing.now.since c.args.passing.now.judging.h (to_z_pos w64 c.args.passing.now.since small_since) (to_z_pos w64 c.args.passing.now.judging.h small) up kept p) (let e = c.pass.ensures.same in omega arith)
+pub passed_in-requires-clause-stretch : goal.passed_in-requires-clause-stretch
+passed_in-requires-clause-stretch g c = subst (IsStretchAt c.args.passing.now.judging.plan.now (g.D.Dated.seen c.args.dated.now) c.args.k) c.in-Some.is c.stretch_of.ensures

@@ -9,7 +9,7 @@ use Rattle.crs_waiting.proofs.DuePairs.{around, unbegun_undue, window_put}
 use Rattle.crs_waiting.proofs.dues.put_window_dues.Goals as goal
 
 pub returns-in_default-clause-put : goal.returns-in_default-clause-put
-returns-in_default-clause-put c = λ t due l m. absurd (unbegun_undue c.args.chart.now.plan c.args.instance.now c.args.k c.stretch.result (search rules) (subst (λ (p : Plan). IsStretchAt p c.args.instance.now c.args.k c.stretch.result) c.plan-plan.ensures.same c.stretch.ensures) t due)
+returns-in_default-clause-put c = λ t due l m. absurd (unbegun_undue c.args.chart.now.plan c.args.instance.now c.args.k c.stretch_of.result (search rules) (subst (λ (p : Plan). IsStretchAt p c.args.instance.now c.args.k c.stretch_of.result) c.plan-plan.ensures.same c.stretch_of.ensures) t due)
 
 pub put_end-requires-clause-last : goal.put_end-requires-clause-last
 put_end-requires-clause-last c = λ t e l m. c.put_start.ensures.kept _ (c.put_near.ensures.kept _ (c.requires.last.last t e l m))
@@ -21,7 +21,7 @@ pub returns-clause-put : goal.returns-clause-put
 returns-clause-put c =
     let d = c.index-as_slice-k.result in
     let is : slice_get (chronicle c.args.chart.now.plan).windows c.args.k ≡ Some (window_of d) = window_as c.as_slice.result.now c.args.chart.now.plan.chronicle.windows c.args.k d (c.as_slice.ensures ∙ ap (λ (p : Plan). p.chronicle.windows) c.plan-plan.ensures.same) c.requires.window c.index-as_slice-k.is in
-    window_put c.args.chart.now.plan c.args.instance.now c.args.handle c.args.since c.args.k (window_of d) is c.in-Some.stretch c.stretch.result c.in-Some.is (subst (λ (p : Plan). IsStretchAt p c.args.instance.now c.args.k c.stretch.result) c.plan-plan.ensures.same c.stretch.ensures) c.put_end.new.calendar.pairs (returns-clause-last c) (λ t s l m. c.put_end.ensures.kept _ ((c.in_ok-put_start.ensures {u = tt}).put t s l m))
+    window_put c.args.chart.now.plan c.args.instance.now c.args.handle c.args.since c.args.k (window_of d) is c.in-Some.stretch c.stretch_of.result c.in-Some.is (subst (λ (p : Plan). IsStretchAt p c.args.instance.now c.args.k c.stretch_of.result) c.plan-plan.ensures.same c.stretch_of.ensures) c.put_end.new.calendar.pairs (returns-clause-last c) (λ t s l m. c.put_end.ensures.kept _ ((c.in_ok-put_start.ensures {u = tt}).put t s l m))
 
 pub returns-clause-kept : goal.returns-clause-kept
 returns-clause-kept c = λ t i. c.put_end.ensures.kept t (c.put_start.ensures.kept t (c.put_near.ensures.kept t i))

@@ -13,8 +13,8 @@ use Rattle.crs_waiting.proofs.Linked.{unbegun_armed}
 use Rattle.crs_waiting.proofs.linking.arm_window.Goals as goal
 
 pub returns-in_default-clause-armed : goal.returns-in_default-clause-armed
-returns-in_default-clause-armed c = unbegun_armed c.args.chart.now.plan c.args.instance.now c.args.k (hook_at c.args.chart.now.hooks.windows.items c.args.k) c.args.waiting.now c.args.handle c.args.since c.args.h c.stretch.result (search rules)
-    (subst (λ (p : Plan). IsStretchAt p c.args.instance.now c.args.k c.stretch.result) c.plan-plan.ensures.same c.stretch.ensures)
+returns-in_default-clause-armed c = unbegun_armed c.args.chart.now.plan c.args.instance.now c.args.k (hook_at c.args.chart.now.hooks.windows.items c.args.k) c.args.waiting.now c.args.handle c.args.since c.args.h c.stretch_of.result (search rules)
+    (subst (λ (p : Plan). IsStretchAt p c.args.instance.now c.args.k c.stretch_of.result) c.plan-plan.ensures.same c.stretch_of.ensures)
 
 pub returns-clause-armed : goal.returns-clause-armed
 returns-clause-armed c =

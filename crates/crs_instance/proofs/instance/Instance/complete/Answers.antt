@@ -6,7 +6,8 @@ use Rattle.crs_model.specs.Partial.{put}
 use Rattle.crs_instance.specs.Completing.{IsTakenBy}
 use Rattle.crs_instance.specs.Instances.{InstanceState}
 use Rattle.crs_instance.proofs.BindAnswers.{the_state}
-use Rattle.crs_instance.proofs.Completing.{are_narrowed, narrowed_windows}
+use Rattle.crs_instance.specs.Narrowed.{narrowed_windows}
+use Rattle.crs_instance.proofs.Completing.{are_narrowed}
 use Rattle.crs_instance.proofs.instance.Instance.complete.Goals as goal
 
 pub returns-then-not-takes-clause-completed : goal.returns-then-not-takes-clause-completed

@@ -31,34 +31,19 @@ returns-then-not-can_wait_with-clause-forks g c =
     brings_none plan c.args.arrival.now.focus c.args.arrival.now.finds c.args.arrival.now.until (AreForksAt plan c.args.arrival.now.focus c.args.arrival.now.history.now x c.args.arrival.now.since c.args.arrival.now.until c.args.instance.now c.args.event) c.args.out.now.instances.items c.args.out.now.found.items
     (too_late plan c.args.arrival.now.focus c.args.arrival.now.history.now x c.args.arrival.now.since c.args.arrival.now.until c.args.instance.now c.args.event awaited late)
 
-pub returns-in_default-clause-forks : goal.returns-in_default-clause-forks
-returns-in_default-clause-forks g c =
+pub returns-in-None-clause-forks : goal.returns-in-None-clause-forks
+returns-in-None-clause-forks g c =
     let plan = c.args.arrival.now.plan.now in
     let x = entry_of c.args.arrival.now.entry.now.value in
     brings_none plan c.args.arrival.now.focus c.args.arrival.now.finds c.args.arrival.now.until (AreForksAt plan c.args.arrival.now.focus c.args.arrival.now.history.now x c.args.arrival.now.since c.args.arrival.now.until c.args.instance.now c.args.event) c.args.out.now.instances.items c.args.out.now.found.items
     (unforked plan c.args.arrival.now.focus c.args.arrival.now.history.now x c.args.arrival.now.since c.args.arrival.now.until c.args.instance.now c.args.event
-    (subst (λ (t : Option InstanceState). IsForked plan c.args.instance.now c.args.event x t) c.in_default.is ((c.in_ok-next.ensures {u = tt}).fork)))
+    (subst (λ (t : Option InstanceState). IsForked plan c.args.instance.now c.args.event x t) c.in-None.is (c.fork.ensures.fork)))
 
-pub returns-clause-forks : goal.returns-clause-forks
-returns-clause-forks g c =
-    let plan = c.args.arrival.now.plan.now in
-    let history = c.args.arrival.now.history.now in
-    let x = entry_of c.args.arrival.now.entry.now.value in
-    let focus = c.args.arrival.now.focus in
-    let since = c.args.arrival.now.since in
-    let until = c.args.arrival.now.until in
-    let instance = c.args.instance.now in
-    let event = c.args.event in
-    let awaited = (c.if-not-is_awaited.ensures {u = tt}).0 refl in
-    let forked = subst (λ (t : Option InstanceState). IsForked plan instance event x t) c.in-Some.is ((c.in_ok-next.ensures {u = tt}).fork) in
-    on_ok_weaker c.decide.result
-    (λ decided. brings_open plan focus c.args.arrival.now.finds until (AreForksAt plan focus history x since until instance event) c.args.out.now.instances.items c.decide.new.out.items c.args.out.now.found.items
-    (adds_as plan focus until (IsDecided plan focus history (entry_of c.deref-2.result.now) since until instance c.in-Some.next c.level_of-level.result c.new-todo.result.items) (AreForksAt plan focus history x since until instance event) c.args.out.now.instances.items c.decide.new.out.items
-    (λ more d. started plan focus history x since until instance event awaited c.in-Some.next forked.1 more
-    (subst (λ (l : ℕ). IsDecided plan focus history x since until instance c.in-Some.next l [] more) c.level_of-level.ensures
-    (subst (λ (todo : List ℕ). IsDecided plan focus history x since until instance c.in-Some.next c.level_of-level.result todo more) c.new-todo.ensures.items
-    (subst (λ (e : CodeEntry). IsDecided plan focus history (entry_of e) since until instance c.in-Some.next c.level_of-level.result c.new-todo.result.items more) c.deref-2.ensures d)))) decided))
-    c.decide.ensures.decided
+pub push_fork-requires-clause-awaited : goal.push_fork-requires-clause-awaited
+push_fork-requires-clause-awaited g c = (c.if-not-is_awaited.ensures {u = tt}).0 refl
+
+pub push_fork-requires-clause-forked : goal.push_fork-requires-clause-forked
+push_fork-requires-clause-forked g c = subst (λ (t : Option InstanceState). IsForked c.args.arrival.now.plan.now c.args.instance.now c.args.event (entry_of c.args.arrival.now.entry.now.value) t) c.in-Some.is (c.fork.ensures.fork)
 
 pub push_done-requires-clause-unbound : goal.push_done-requires-clause-unbound
 push_done-requires-clause-unbound g c = ((c.if-not-is_awaited.ensures {u = tt}).0 refl).unbound
