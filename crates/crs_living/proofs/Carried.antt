@@ -1,5 +1,5 @@
 -- The progress of the windows of what an instance becomes.
-use Rattle.std.proofs.Common.{◌≡◌, ◌∙◌, ℕ, zero, suc, ◌+◌, ◌<◌, ◌≤◌, List, [], ◌∷◌, ◌++◌, length, get_or, refl, sym, ap, subst, inl, inr, arith, length-append}
+use Rattle.std.proofs.Common.{◌≡◌, ◌∙◌, ℕ, zero, suc, ◌+◌, ◌<◌, ◌≤◌, List, [], ◌∷◌, ◌++◌, length, refl, sym, subst, inl, inr, arith, length-append}
 use Rattle.std.proofs.lemmas.Bool.{cases_lt}
 use Rattle.crs_base.specs.declared.symbols.Sym.{Sym}
 use Rattle.crs_base.specs.Entry.{Entry}
@@ -10,8 +10,8 @@ use Rattle.crs_focus.specs.PlanLevels.{levels_in}
 use Rattle.crs_instance.specs.Instances.{InstanceState, IsOf, progress_at, no_progress}
 use Rattle.crs_living.specs.Carried.{IsCarried, AreCarried}
 use Rattle.crs_living.specs.declared.judging.Passing.{Passing}
-use Rattle.crs_living.specs.Windows.{Begins, Passes, IsBegun, IsPassed, IsSameInstance}
-use Rattle.crs_living.specs.JudgedWindows.{AreStepped, IsLostNowhere}
+use Rattle.crs_living.specs.Windows.{Begins, Passes, IsBegun, IsPassed}
+use Rattle.crs_living.specs.JudgedWindows.{IsLostNowhere}
 use Rattle.crs_living.specs.Judgings.{IsAbleBy}
 use Rattle.crs_living.specs.Scannings.{IsKeptIfAble}
 use Rattle.crs_living.proofs.Progress.{begun_all, each_window, passed_all, still_of}

@@ -10,7 +10,7 @@ use Rattle.crs_living.specs.JudgedWindows.{IsLostNowhere}
 use Rattle.crs_living.specs.Judgings.{IsAbleBy}
 use Rattle.crs_living.specs.Scannings.{IsKeptIfAble}
 use Rattle.crs_living.specs.Windows.{IsAble}
-use Rattle.crs_living.proofs.Carried.{able_kept, able_one, late_none, lost_none, passed_of, passed_one}
+use Rattle.crs_living.proofs.Carried.{able_kept, able_one, late_none, lost_none, passed_of}
 use Rattle.crs_living.proofs.Scanned.{adds_none, adds_one}
 use Rattle.crs_living.proofs.deciding.keep_fork.Goals as goal
 

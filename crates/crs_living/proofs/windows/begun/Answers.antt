@@ -1,4 +1,4 @@
-use Rattle.std.proofs.Common.{rules, subst}
+use Rattle.std.proofs.Common.{subst}
 use Rattle.crs_instance.specs.Followed.{IsStretchAt}
 use Rattle.crs_living.proofs.Progress.{unbegun}
 use Rattle.crs_living.proofs.windows.begun.Goals as goal

@@ -1,4 +1,4 @@
-use Rattle.std.proofs.Common.{rules, refl, ◌≡◌, ◌<◌, subst, arith}
+use Rattle.std.proofs.Common.{refl, ◌≡◌, ◌<◌, subst, arith}
 use Rattle.std.specs.Prelude.{ℤ, Some, slice_get}
 use Rattle.std.proofs.lemmas.Int.{to_z_pos}
 use mir.Syntax.{w64}
@@ -7,7 +7,7 @@ use Rattle.crs_model.specs.HasProgress.{IsProgress}
 use Rattle.crs_model.specs.Plans.{chronicle}
 use Rattle.crs_model.specs.SeenModels.{window_of, body_of}
 use Rattle.crs_instance.proofs.Stretches.{window_as}
-use Rattle.crs_living.proofs.Progress.{holds_one, bound_of, begins_by, keeps_by, unbegun, any_window, some_of}
+use Rattle.crs_living.proofs.Progress.{holds_one, bound_of, begins_by, keeps_by, any_window, some_of}
 use Rattle.crs_living.proofs.windows.begun_in.Goals as goal
 
 pub returns-then-is_some : goal.returns-then-is_some

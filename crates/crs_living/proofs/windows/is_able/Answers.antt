@@ -1,4 +1,4 @@
-use Rattle.std.proofs.Common.{rules, ◌≡◌, Bool, true, false, List, length, refl, sym, subst}
+use Rattle.std.proofs.Common.{◌≡◌, Bool, true, false, List, length, refl, sym, subst}
 use Rattle.std.specs.Prelude.{IsTrue, not}
 use Rattle.crs_model.specs.declared.progress.Progress.{Progress}
 use Rattle.crs_living.specs.JudgedWindows.{IsLostNowhere}

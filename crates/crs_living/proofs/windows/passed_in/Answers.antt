@@ -1,11 +1,11 @@
-use Rattle.std.proofs.Common.{rules, refl, ◌≡◌, ◌<◌, subst, arith}
+use Rattle.std.proofs.Common.{refl, ◌≡◌, ◌<◌, subst, arith}
 use Rattle.std.specs.Prelude.{ℤ, ◌≤ℤ◌, Some, slice_get}
 use Rattle.std.proofs.lemmas.Int.{to_z_pos}
 use mir.Syntax.{w64}
 use Rattle.crs_model.specs.Plans.{chronicle}
 use Rattle.crs_model.specs.SeenModels.{window_of}
 use Rattle.crs_instance.proofs.Stretches.{window_as}
-use Rattle.crs_living.proofs.Progress.{holds_one, bound_of, passed_by, passed_dateless, same_count, unbegun}
+use Rattle.crs_living.proofs.Progress.{holds_one, bound_of, passed_by}
 use Rattle.crs_living.proofs.windows.passed_in.Goals as goal
 
 pub pass-requires-clause-bound : goal.pass-requires-clause-bound

@@ -1,5 +1,5 @@
-use Rattle.std.proofs.Common.{rules, refl, subst, sym, ◌≡◌}
-use Rattle.std.specs.Prelude.{Some, Option, pos}
+use Rattle.std.proofs.Common.{rules, refl, subst, sym}
+use Rattle.std.specs.Prelude.{Some, pos}
 use Rattle.crs_base.specs.Seen.{entry_of}
 use Rattle.crs_stn.specs.Table.{most_of}
 use Rattle.crs_instance.specs.Completing.{IsTakenBy}

@@ -5,8 +5,6 @@ use mir.Val.{SFits}
 use mir.Syntax.{w64}
 use Rattle.crs_base.specs.Seen.{entry_of}
 use Rattle.crs_model.specs.Partial.{put}
-use Rattle.crs_model.specs.declared.progress.Progress.{Progress}
-use Rattle.crs_instance.specs.declared.links.Known.{Known}
 use Rattle.crs_instance.specs.declared.span.Span.{Span}
 use Rattle.crs_instance.specs.Instances.{InstanceState}
 use Rattle.crs_instance.specs.EntryLinks.{partial_of, known_in}

@@ -1,4 +1,4 @@
-use Rattle.std.proofs.Common.{◌≡◌, subst, [], List, ℕ}
+use Rattle.std.proofs.Common.{subst, [], List, ℕ}
 use Rattle.std.proofs.lemmas.Result.{on_ok_weaker}
 use Rattle.crs_base.specs.Seen.{entry_of}
 use Rattle.crs_base.specs.declared.entry.Entry.{Entry as CodeEntry}

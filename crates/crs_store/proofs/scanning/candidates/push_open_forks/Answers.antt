@@ -1,13 +1,13 @@
-use Rattle.std.proofs.Common.{◌≡◌, ◌∙◌, refl, sym, subst, [], List, ℕ, false, true, true≢false, Option}
+use Rattle.std.proofs.Common.{◌≡◌, ◌∙◌, refl, sym, subst, false, true, true≢false, Option}
 use Rattle.std.proofs.lemmas.Result.{on_ok_weaker}
 use Rattle.crs_base.specs.Seen.{entry_of}
 use Rattle.crs_base.specs.declared.entry.Entry.{Entry as CodeEntry}
 use Rattle.crs_instance.specs.Instances.{InstanceState, IsForked}
 use Rattle.crs_instance.specs.Waits.{AnotherIsLate}
 use Rattle.crs_focus.specs.PlanLevels.{levels_in}
-use Rattle.crs_living.specs.Scannings.{AreForksAt, IsDecided}
-use Rattle.crs_store.proofs.Births.{brings_none, brings_open, brings_found}
-use Rattle.crs_living.proofs.Scanned.{adds_as, unawaited, too_late, unforked, started}
+use Rattle.crs_living.specs.Scannings.{AreForksAt}
+use Rattle.crs_store.proofs.Births.{brings_none, brings_found}
+use Rattle.crs_living.proofs.Scanned.{unawaited, too_late, unforked}
 use Rattle.crs_store.proofs.scanning.candidates.push_open_forks.Goals as goal
 
 never : false ≡ true → ⊥
