@@ -64,10 +64,14 @@ impl ToldNumbers {
         }
     }
 
+    /// Attributes that a log names in turn were mostly numbered in turn, and so are the lists that they begin with:
+    /// where these lead on by one symbol, their places lie side by side. With a product of both, each look was at
+    /// another place of three megabytes: 640,000 attributes of two arguments took a fifth more time, of which a
+    /// third was spent there.
     #[inline(always)]
     fn place_of(&self, from: usize, symbol: Sym) -> usize {
-        let mixed = (((symbol.0 as u64) << 32) ^ from as u64).wrapping_mul(MIX);
-        (mixed >> 40) as usize & self.mask
+        let spread = (symbol.0 as u64).wrapping_mul(MIX) >> 40;
+        from.wrapping_add(spread as usize) & self.mask
     }
 
     /// The number that the two lead to, where it is told.

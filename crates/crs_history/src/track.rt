@@ -62,6 +62,17 @@ fn repeats_after(last: &Change, entry: &Entry) -> usize
     }
 }
 
+/// Makes room for a first change, and for that alone, since many attributes have one change that is kept: where a
+/// log names 640,000 of them, each takes 256 bytes in place of 304.
+fn reserve_first(changes: &mut VecDeque<Change>) -> Result<(), AllocError>
+    ensures { changes.new.items ≡ changes.old.items }
+{
+    if changes.is_empty() {
+        changes.reserve_exact(1)?;
+    }
+    Ok(())
+}
+
 impl Track {
     /// No changes, which take no memory.
     pub fn new(alloc: Global) -> Track
@@ -89,6 +100,7 @@ impl Track {
             Some(last) => repeats_after(last, &entry),
             None => 0,
         };
+        reserve_first(&mut self.changes)?;
         self.changes.push_back(Change { entry, repeats })?;
         Ok(())
     }

@@ -11,7 +11,8 @@ invariant_of-self-2 c =
     let items = c.self.inside.changes.items in
     let e = c.args.entry in
     let long : c.self.inside.changes.len ≡ length items = c.self.inside.changes.ok.0 in
-    subst (λ (w : List Change). AreRuns w) (sym c.in_ok-push_back.ensures.items) (elim c.match-back.branch [
+    subst (λ (w : List Change). AreRuns w) (sym c.in_ok-push_back.ensures.items) (
+    subst (λ (w : List Change). AreRuns (w ++ record { entry = c.args.entry; repeats = c.match-back.repeats } ∷ [])) (sym c.reserve_first.ensures) (elim c.match-back.branch [
       | in-Some w ↦ (
           let n : Change = record { entry = e; repeats = w.repeats_after-repeats.result } in
           let some : 0 < c.self.inside.changes.len = w.in-Some.ensures.variant.0 refl in
@@ -25,4 +26,4 @@ invariant_of-self-2 c =
           let p : AreRuns (items ++ n ∷ []) = runs_begin items n (λ h. true≢false (sym (w.in-None.ensures.variant.1 (omega (arith, h))))) in
           subst (λ k. AreRuns (c.match-back.self-inside.changes.items ++ record { entry = e; repeats = k } ∷ [])) (sym w.repeats-is)
           (subst (λ k. AreRuns (k.changes.items ++ n ∷ [])) (sym w.self-inside-is) p))
-    ])
+    ]))
